@@ -1,0 +1,145 @@
+-- 01, "The text" and "When a call is declined": what is at fault at a token of a tree, refusals 6 to 12.
+-- Each token of a tree has a note: the lowest refusal that applies there, and whether the token is a part.
+-- Assumes nothing: these are definitions.
+use mathlib.Core.Path.{_≡_}
+use mathlib.Core.Bool.{Bool, true, false, cond, _&&_, _||_}
+use mathlib.Core.List.{List, [], _∷_}
+use Prim.Native.Nat.{ℕ, zero, suc, _-_}
+use lib.Dec.{leb, eqb}
+use lib.IntN.{ℤ}
+use lib.Signed.{ltZ}
+use Rattle.language.specs.Limits.{textParts, openMarks, openLambdas, leastNumber, mostNumber}
+use Rattle.language.specs.Names.{sameName, isLong, isData}
+use Rattle.language.specs.Members.{memberOf, isUnknown, takes}
+use Rattle.grammar.specs.Grammar.{Expression, Calls, Arguments, More, letIn, lambda, name, literal, bracket, done, call, none, first, last, next}
+
+-- the refusals that a token can meet, apart from 5, which is the grammar's
+pub data Fault : Type 0 where
+  fine outOfRange longName dataBound badCall manyLambdas reusedName tooMany : Fault
+
+unfoldable pub faultNumber : Fault → ℕ
+faultNumber fine = 0
+faultNumber outOfRange = 6
+faultNumber longName = 7
+faultNumber dataBound = 8
+faultNumber badCall = 9
+faultNumber manyLambdas = 10
+faultNumber reusedName = 11
+faultNumber tooMany = 12
+
+-- this fault where the test holds, else that one
+abbrev pub ifSo : Bool → Fault → Fault → Fault
+ifSo true f g = f
+ifSo false f g = g
+
+-- where an expression stands: how many of let, \ and ( are open, and the names bound around it
+pub data Binder : Type 0 where
+  byLet : List ℕ → Binder
+  byLambda : List ℕ → Binder
+
+pub record Around : Type 0 where
+  pub marks : ℕ
+  pub binders : List Binder
+
+abbrev pub outermost : Around
+outermost = record { marks = 0; binders = [] }
+
+unfoldable pub opened : Around → Around
+opened d = record { marks = suc (d .marks); binders = d .binders }
+
+unfoldable pub inLet : List ℕ → Around → Around
+inLet x d = record { marks = suc (d .marks); binders = byLet x ∷ d .binders }
+
+unfoldable pub inLambda : List ℕ → Around → Around
+inLambda x d = record { marks = suc (d .marks); binders = byLambda x ∷ d .binders }
+
+unfoldable pub lambdasOf : List Binder → ℕ
+lambdasOf [] = 0
+lambdasOf (byLet x ∷ bs) = lambdasOf bs
+lambdasOf (byLambda x ∷ bs) = suc (lambdasOf bs)
+
+-- the name of a lambda around, also where a let hides it
+unfoldable pub lambdaNamed : List ℕ → List Binder → Bool
+lambdaNamed x [] = false
+lambdaNamed x (byLet y ∷ bs) = lambdaNamed x bs
+lambdaNamed x (byLambda y ∷ bs) = sameName x y || lambdaNamed x bs
+
+-- the faults of single tokens; refused: an expression begins where a member takes no argument
+abbrev pub deep : Around → Fault
+deep d = ifSo (leb openMarks (d .marks)) tooMany fine
+
+unfoldable pub markFault : Bool → Around → Fault
+markFault refused d = ifSo refused badCall (deep d)
+
+unfoldable pub lambdaFault : Bool → Around → Fault
+lambdaFault refused d = ifSo refused badCall (ifSo (leb openLambdas (lambdasOf (d .binders))) manyLambdas (deep d))
+
+unfoldable pub letNameFault : List ℕ → Fault
+letNameFault x = ifSo (isLong x) longName (ifSo (isData x) dataBound fine)
+
+unfoldable pub lambdaNameFault : List ℕ → Around → Fault
+lambdaNameFault x d = ifSo (isLong x) longName (ifSo (isData x) dataBound (ifSo (lambdaNamed x (d .binders)) reusedName fine))
+
+unfoldable pub nameFault : Bool → List ℕ → Fault
+nameFault refused x = ifSo (isLong x) longName (ifSo refused badCall fine)
+
+unfoldable pub literalFault : Bool → ℤ → Fault
+literalFault refused z = ifSo (ltZ z leastNumber || ltZ mostNumber z) outOfRange (ifSo refused badCall fine)
+
+unfoldable pub callFault : Bool → Fault
+callFault wrong = ifSo wrong badCall fine
+
+-- a token's note: its fault, and whether it is a part
+pub data Note : Type 0 where
+  note : Fault → Bool → Note
+
+abbrev pub plain : Note
+plain = note fine false
+
+-- the notes of a tree's tokens, at d, and then u
+unfoldable mutual
+  pub notesE : Expression → Bool → Around → List Note → List Note
+  notesE (letIn x a b) w d u = note (markFault w d) true ∷ note (letNameFault x) false ∷ plain ∷ notesE a false (opened d) (plain ∷ notesE b false (inLet x d) u)
+  notesE (lambda x b) w d u = note (lambdaFault w d) true ∷ note (lambdaNameFault x d) false ∷ plain ∷ notesE b false (inLambda x d) u
+  notesE (name x r) w d u = note (nameFault w x) true ∷ notesC r d u
+  notesE (literal z r) w d u = note (literalFault w z) true ∷ notesC r d u
+  notesE (bracket e r) w d u = note (markFault w d) false ∷ notesE e false (opened d) (plain ∷ notesC r d u)
+
+  pub notesC : Calls → Around → List Note → List Note
+  notesC done d u = u
+  notesC (call m a) d u = note fine true ∷ note (callFault (isUnknown (memberOf m))) false ∷ note (deep d) false ∷ notesA a (takes (memberOf m)) d u
+
+  -- k arguments are still to come
+  pub notesA : Arguments → ℕ → Around → List Note → List Note
+  notesA (none r) k d u = note (callFault (leb 1 k)) false ∷ notesC r d u
+  notesA (first e x) k d u = notesE e (eqb k 0) (opened d) (notesM x (k - 1) d u)
+
+  pub notesM : More → ℕ → Around → List Note → List Note
+  notesM (last r) k d u = note (callFault (leb 1 k)) false ∷ notesC r d u
+  notesM (next e x) k d u = note (callFault (eqb k 0)) false ∷ notesE e false (opened d) (notesM x (k - 1) d u)
+
+-- the refusal at a token behind c parts, 0 for none: a 129th part is refusal 12, the highest number
+abbrev pub orMany : ℕ → Bool → ℕ
+orMany (suc n) b = suc n
+orMany zero true = 12
+orMany zero false = 0
+
+unfoldable pub fault : ℕ → Note → ℕ
+fault c (note f p) = orMany (faultNumber f) (p && leb textParts c)
+
+unfoldable pub counted : ℕ → Note → ℕ
+counted c (note f true) = suc c
+counted c (note f false) = c
+
+unfoldable pub faults : ℕ → List Note → List ℕ
+faults c [] = []
+faults c (n ∷ ns) = fault c n ∷ faults (counted c n) ns
+
+-- the refusals of a tree's tokens, in their order
+abbrev pub faultsOf : Expression → List ℕ
+faultsOf e = faults 0 (notesE e false outermost [])
+
+-- none of them is a refusal
+abbrev pub Clean : List ℕ → Type 0
+Clean [] = Unit {0}
+Clean (n ∷ ns) = (n ≡ 0) × Clean ns

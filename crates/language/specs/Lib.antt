@@ -1,0 +1,3 @@
+pub mod Limits
+pub mod Names
+pub mod Members

@@ -1,0 +1,120 @@
+-- 01, "Members", and the paper's Figure 5: what a let-free form comes to over a recording, and what it shows.
+-- A variable stands for a number while its function runs; otherwise it is delayed. That a run puts the number for the variable in the
+-- body is in EvaluationLaws. Assumes nothing: these are definitions.
+use mathlib.Core.Bool.{Bool, true, false, cond, not, _&&_, _||_}
+use mathlib.Core.List.{List, [], _∷_, _++_}
+use Prim.Native.Nat.{ℕ}
+use lib.Dec.{eqb}
+use lib.IntN.{ℤ, pos}
+use lib.ListN.{length}
+use Rattle.values.specs.declared.Value.{Value}
+use Rattle.values.specs.declared.Value.the-variants.{Number, Window, Function, Delayed, Missing}
+use Rattle.values.specs.Values.{unboundName}
+use Rattle.values.specs.Apply.{apply0, apply1, isMissing, isDelayed}
+use Rattle.meaning.specs.Forms.{Form, number, variable, unbound, readings, ask, call, function, nameOf}
+
+-- what a form comes to: a value that holds no function; or a function, with what its body comes to for a reading
+pub data Result : Type 0 where
+  plain : Value → Result
+  runs : (ℤ → Result) → Result
+
+unfoldable pub valueOf : Result → Value
+valueOf (plain v) = v
+valueOf (runs g) = Function
+
+-- what a run on a reading gives
+unfoldable pub runOf : Result → ℤ → Value
+runOf (plain v) z = Missing 2
+runOf (runs g) z = valueOf (g z)
+
+-- what the variables stand for
+pub data Environment : Type 0 where
+  nowhere : Environment
+  bind : ℕ → Value → Environment → Environment
+
+abbrev pub pickValue : Bool → Value → Value → Value
+pickValue true v w = v
+pickValue false v w = w
+
+unfoldable pub lookup : Environment → ℕ → Value
+lookup nowhere y = Delayed
+lookup (bind x v ρ) y = pickValue (eqb x y) v (lookup ρ y)
+
+-- no variable is awaited: each free one stands for a number
+unfoldable pub settled : Environment → Form → Bool
+settled ρ (number z) = true
+settled ρ (variable x) = not (isDelayed (lookup ρ x))
+settled ρ (unbound x) = true
+settled ρ readings = true
+settled ρ (ask m f) = settled ρ f
+settled ρ (call m f a) = settled ρ f && settled ρ a
+settled ρ (function x b) = settled (bind x (Number (pos 0)) ρ) b
+
+-- a function: missing where its body is, with its own variable delayed; delayed where the body awaits another variable
+abbrev pub functionOf : Value → Bool → (ℤ → Result) → Result
+functionOf (Missing r) s g = plain (Missing r)
+functionOf (Number z) s g = cond s (runs g) (plain Delayed)
+functionOf (Window i l) s g = cond s (runs g) (plain Delayed)
+functionOf Function s g = cond s (runs g) (plain Delayed)
+functionOf Delayed s g = cond s (runs g) (plain Delayed)
+
+unfoldable pub evaluate : List ℤ → Environment → Form → Result
+evaluate xs ρ (number z) = plain (Number z)
+evaluate xs ρ (variable x) = plain (lookup ρ x)
+evaluate xs ρ (unbound x) = plain (Missing unboundName)
+evaluate xs ρ readings = plain (Window 0 (length xs))
+evaluate xs ρ (ask m f) = plain (apply0 m xs (valueOf (evaluate xs ρ f)))
+evaluate xs ρ (call m f a) = plain (apply1 m xs (valueOf (evaluate xs ρ f)) (valueOf (evaluate xs ρ a)) (runOf (evaluate xs ρ a)))
+evaluate xs ρ (function x b) =
+    functionOf (valueOf (evaluate xs (bind x Delayed ρ) b)) (settled (bind x (Number (pos 0)) ρ) b)
+    (λ z. evaluate xs (bind x (Number z) ρ) b)
+
+-- the number z put for the free variable x
+unfoldable pub putFor : ℕ → ℤ → Form → Form
+putFor x z (number a) = number a
+putFor x z (variable y) = cond (eqb x y) (number z) (variable y)
+putFor x z (unbound y) = unbound y
+putFor x z readings = readings
+putFor x z (ask m f) = ask m (putFor x z f)
+putFor x z (call m f a) = call m (putFor x z f) (putFor x z a)
+putFor x z (function y b) = cond (eqb x y) (function y b) (function y (putFor x z b))
+
+-- the names awaited: the free variables by first occurrence
+unfoldable pub hasName : ℕ → List ℕ → Bool
+hasName x [] = false
+hasName x (y ∷ ys) = eqb x y || hasName x ys
+
+unfoldable pub addName : List ℕ → ℕ → List ℕ
+addName ys x = cond (hasName x ys) ys (ys ++ (x ∷ []))
+
+-- the names of a form behind those of ys; hidden: the functions around
+unfoldable pub awaitedOnto : List ℕ → Form → List ℕ → List ℕ
+awaitedOnto hidden (number z) ys = ys
+awaitedOnto hidden (variable x) ys = cond (hasName x hidden) ys (addName ys x)
+awaitedOnto hidden (unbound x) ys = ys
+awaitedOnto hidden readings ys = ys
+awaitedOnto hidden (ask m f) ys = awaitedOnto hidden f ys
+awaitedOnto hidden (call m f a) ys = awaitedOnto hidden a (awaitedOnto hidden f ys)
+awaitedOnto hidden (function x b) ys = awaitedOnto (x ∷ hidden) b ys
+
+abbrev pub awaited : Form → List ℕ
+awaited f = awaitedOnto [] f []
+
+-- what is shown for an entry
+pub data Shown : Type 0 where
+  aNumber : ℤ → Shown
+  aWindow : (start length : ℕ) → Shown
+  aFunction : (name : ℕ) → Shown
+  aDelay : (names : List ℕ) → Shown
+  aReason : ℕ → Shown
+
+abbrev pub shownAs : Form → Value → Shown
+shownAs f (Number z) = aNumber z
+shownAs f (Window s l) = aWindow s l
+shownAs f Function = aFunction (nameOf f)
+shownAs f Delayed = aDelay (awaited f)
+shownAs f (Missing r) = aReason r
+
+-- what a form shows, from the form and the recording alone
+unfoldable pub shows : List ℤ → Form → Shown
+shows xs f = shownAs f (valueOf (evaluate xs nowhere f))

@@ -1,0 +1,121 @@
+-- 01, "Binding": let-free forms, when two are equal, and what lies below one. Names are packed numbers.
+-- Assumes nothing: these are definitions. That the test is equality is in FormsLaws.
+use mathlib.Core.Bool.{Bool, true, false, not, _&&_, _||_}
+use Prim.Native.Nat.{ℕ}
+use lib.Dec.{eqb}
+use lib.IntN.{ℤ, pos}
+use Rattle.language.specs.Members.{memberNumber}
+use Rattle.language.specs.declared.members.Member.{Member}
+use Rattle.language.specs.declared.members.Member.the-variants.{Add}
+use Rattle.values.specs.Values.{sameℤ}
+
+pub data Form : Type 0 where
+  number : ℤ → Form
+  -- a lambda variable, by name
+  variable : ℕ → Form
+  unbound : ℕ → Form
+  -- the recording
+  readings : Form
+  -- a member with no argument, and one with an argument
+  ask : Member → Form → Form
+  call : Member → Form → Form → Form
+  -- a function with its name and its body
+  function : ℕ → Form → Form
+
+abbrev pub sameMember : Member → Member → Bool
+sameMember m n = eqb (memberNumber m) (memberNumber n)
+
+-- the pieces of a form: which of the seven it is, its number, its name, its member, and its dependencies, the receiver or body first
+unfoldable pub shapeOf : Form → ℕ
+shapeOf (number z) = 0
+shapeOf (variable x) = 1
+shapeOf (unbound x) = 2
+shapeOf readings = 3
+shapeOf (ask m f) = 4
+shapeOf (call m f a) = 5
+shapeOf (function x b) = 6
+
+unfoldable pub integerOf : Form → ℤ
+integerOf (number z) = z
+integerOf (variable x) = pos 0
+integerOf (unbound x) = pos 0
+integerOf readings = pos 0
+integerOf (ask m f) = pos 0
+integerOf (call m f a) = pos 0
+integerOf (function x b) = pos 0
+
+unfoldable pub nameOf : Form → ℕ
+nameOf (number z) = 0
+nameOf (variable x) = x
+nameOf (unbound x) = x
+nameOf readings = 0
+nameOf (ask m f) = 0
+nameOf (call m f a) = 0
+nameOf (function x b) = x
+
+unfoldable pub memberOf : Form → Member
+memberOf (number z) = Add
+memberOf (variable x) = Add
+memberOf (unbound x) = Add
+memberOf readings = Add
+memberOf (ask m f) = m
+memberOf (call m f a) = m
+memberOf (function x b) = Add
+
+unfoldable pub firstOf : Form → Form
+firstOf (number z) = readings
+firstOf (variable x) = readings
+firstOf (unbound x) = readings
+firstOf readings = readings
+firstOf (ask m f) = f
+firstOf (call m f a) = f
+firstOf (function x b) = b
+
+unfoldable pub secondOf : Form → Form
+secondOf (number z) = readings
+secondOf (variable x) = readings
+secondOf (unbound x) = readings
+secondOf readings = readings
+secondOf (ask m f) = readings
+secondOf (call m f a) = a
+secondOf (function x b) = readings
+
+-- equality of forms, piece by piece
+unfoldable pub same : Form → Form → Bool
+same (number z) g = eqb 0 (shapeOf g) && sameℤ z (integerOf g)
+same (variable x) g = eqb 1 (shapeOf g) && eqb x (nameOf g)
+same (unbound x) g = eqb 2 (shapeOf g) && eqb x (nameOf g)
+same readings g = eqb 3 (shapeOf g)
+same (ask m f) g = eqb 4 (shapeOf g) && (sameMember m (memberOf g) && same f (firstOf g))
+same (call m f a) g = eqb 5 (shapeOf g) && (sameMember m (memberOf g) && (same f (firstOf g) && same a (secondOf g)))
+same (function x b) g = eqb 6 (shapeOf g) && (eqb x (nameOf g) && same b (firstOf g))
+
+-- f is a dependency of the form
+unfoldable pub dependency : Form → Form → Bool
+dependency f (number z) = false
+dependency f (variable x) = false
+dependency f (unbound x) = false
+dependency f readings = false
+dependency f (ask m g) = same f g
+dependency f (call m g a) = same f g || same f a
+dependency f (function x b) = same f b
+
+-- f is the form or lies below it
+unfoldable pub within : Form → Form → Bool
+within f (number z) = same f (number z)
+within f (variable x) = same f (variable x)
+within f (unbound x) = same f (unbound x)
+within f readings = same f readings
+within f (ask m g) = same f (ask m g) || within f g
+within f (call m g a) = same f (call m g a) || (within f g || within f a)
+within f (function x b) = same f (function x b) || within f b
+
+-- members and functions are worked out; the others are from the start
+unfoldable pub works : Form → Bool
+works (number z) = false
+works (variable x) = false
+works (unbound x) = false
+works readings = false
+works (ask m f) = true
+works (call m f a) = true
+works (function x b) = true

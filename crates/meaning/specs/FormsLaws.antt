@@ -1,0 +1,219 @@
+-- The test `same` is equality of forms, and what lies within a form is the form itself or lies within a dependency. Assumes nothing.
+use mathlib.Core.Path.{_≡_, refl, sym, ap, _∙_, subst}
+use mathlib.Core.Logic.{_⊎_, inl, inr}
+use mathlib.Core.Bool.{Bool, true, false, _&&_, _||_}
+use Prim.Native.Nat.{ℕ, zero, suc}
+use native.Mathlib.Omega.{arith}
+use borrow.Author.Tests.{eqb-true, eq-eqb}
+use lib.Dec.{eqb}
+use lib.IntN.{ℤ, pos, negsuc}
+use Rattle.language.specs.Members.{memberNumber, members, foundIn}
+use Rattle.language.specs.declared.members.Found.{Found}
+use Rattle.language.specs.declared.members.Found.the-variants.{Is, Unknown}
+use Rattle.language.specs.declared.members.Member.{Member}
+use Rattle.language.specs.declared.members.Member.the-variants.{Add, Sub, Mul, Div, Gt, Eq, Skip, Take, Count, Sum, Min, Max, At, CountWhere, LongestRun, SumBy}
+use Rattle.values.specs.Values.{sameℤ}
+use Rattle.meaning.specs.Forms.{Form, number, variable, unbound, readings, ask, call, function, sameMember, shapeOf, integerOf, nameOf, memberOf, firstOf, secondOf, same, dependency, within, works}
+
+-- tests on Bool
+pub no-way : {A : Type 0} → false ≡ true → A
+no-way e = absurd (never (cc))
+  where
+    never : _≡_ {A = ℕ} 0 1 → ⊥
+    never z = omega arith
+
+pub and-left : (a b : Bool) → (a && b) ≡ true → a ≡ true
+and-left true b h = refl
+and-left false b h = h
+
+pub and-right : (a b : Bool) → (a && b) ≡ true → b ≡ true
+and-right true b h = h
+and-right false b h = no-way h
+
+-- by whichever holds
+pub either : {A : Type 0} (a b : Bool) → (a || b) ≡ true → (a ≡ true → A) → (b ≡ true → A) → A
+either true b h f g = f refl
+either false b h f g = g h
+
+pub or-right : (a b : Bool) → b ≡ true → (a || b) ≡ true
+or-right true b h = refl
+or-right false b h = h
+
+-- pieces
+sameℤ-eq : (a b : ℤ) → sameℤ a b ≡ true → a ≡ b
+sameℤ-eq (pos m) (pos n) h = ap pos (eqb-true m n h)
+sameℤ-eq (pos m) (negsuc n) h = no-way h
+sameℤ-eq (negsuc m) (pos n) h = no-way h
+sameℤ-eq (negsuc m) (negsuc n) h = ap negsuc (eqb-true m n h)
+
+sameℤ-self : (a : ℤ) → sameℤ a a ≡ true
+sameℤ-self (pos m) = eq-eqb m m refl
+sameℤ-self (negsuc m) = eq-eqb m m refl
+
+found : (m : Member) → foundIn members (memberNumber m) ≡ Is m
+found Add = refl
+found Sub = refl
+found Mul = refl
+found Div = refl
+found Gt = refl
+found Eq = refl
+found Skip = refl
+found Take = refl
+found Count = refl
+found Sum = refl
+found Min = refl
+found Max = refl
+found At = refl
+found CountWhere = refl
+found LongestRun = refl
+found SumBy = refl
+
+sameMember-eq : (m n : Member) → sameMember m n ≡ true → m ≡ n
+sameMember-eq m n h =
+    let e : Is m ≡ Is n = sym (found m) ∙ ap (foundIn members) (eqb-true (memberNumber m) (memberNumber n) h) ∙ found n in
+    cc
+
+-- a form is made of its pieces
+remake : ℕ → ℤ → ℕ → Member → Form → Form → Form
+remake zero z x m f a = number z
+remake (suc zero) z x m f a = variable x
+remake (suc (suc zero)) z x m f a = unbound x
+remake (suc (suc (suc zero))) z x m f a = readings
+remake (suc (suc (suc (suc zero)))) z x m f a = ask m f
+remake (suc (suc (suc (suc (suc zero))))) z x m f a = call m f a
+remake (suc (suc (suc (suc (suc (suc n)))))) z x m f a = function x f
+
+remade : (g : Form) → remake (shapeOf g) (integerOf g) (nameOf g) (memberOf g) (firstOf g) (secondOf g) ≡ g
+unfolding remake shapeOf integerOf nameOf memberOf firstOf secondOf
+remade (number z) = refl
+remade (variable x) = refl
+remade (unbound x) = refl
+remade readings = refl
+remade (ask m f) = refl
+remade (call m f a) = refl
+remade (function x b) = refl
+
+pub same-eq : (f g : Form) → same f g ≡ true → f ≡ g
+unfolding same remake
+same-eq (number z) g h =
+    let s = eqb-true 0 (shapeOf g) (and-left _ _ h) in
+    let i = sameℤ-eq z (integerOf g) (and-right (eqb 0 (shapeOf g)) _ h) in
+    rw (← s, ← i) at (remade g)
+same-eq (variable x) g h =
+    let s = eqb-true 1 (shapeOf g) (and-left _ _ h) in
+    let i = eqb-true x (nameOf g) (and-right (eqb 1 (shapeOf g)) _ h) in
+    rw (← s, ← i) at (remade g)
+same-eq (unbound x) g h =
+    let s = eqb-true 2 (shapeOf g) (and-left _ _ h) in
+    let i = eqb-true x (nameOf g) (and-right (eqb 2 (shapeOf g)) _ h) in
+    rw (← s, ← i) at (remade g)
+same-eq readings g h =
+    let s = eqb-true 3 (shapeOf g) h in
+    rw (← s) at (remade g)
+same-eq (ask m f) g h =
+    let s = eqb-true 4 (shapeOf g) (and-left _ _ h) in
+    let r = and-right (eqb 4 (shapeOf g)) _ h in
+    let i = sameMember-eq m (memberOf g) (and-left _ _ r) in
+    let j = same-eq f (firstOf g) (and-right (sameMember m (memberOf g)) _ r) in
+    rw (← s, ← i, ← j) at (remade g)
+same-eq (call m f a) g h =
+    let s = eqb-true 5 (shapeOf g) (and-left _ _ h) in
+    let r = and-right (eqb 5 (shapeOf g)) _ h in
+    let i = sameMember-eq m (memberOf g) (and-left _ _ r) in
+    let q = and-right (sameMember m (memberOf g)) _ r in
+    let j = same-eq f (firstOf g) (and-left _ _ q) in
+    let k = same-eq a (secondOf g) (and-right (same f (firstOf g)) _ q) in
+    rw (← s, ← i, ← j, ← k) at (remade g)
+same-eq (function x b) g h =
+    let s = eqb-true 6 (shapeOf g) (and-left _ _ h) in
+    let r = and-right (eqb 6 (shapeOf g)) _ h in
+    let i = eqb-true x (nameOf g) (and-left _ _ r) in
+    let j = same-eq b (firstOf g) (and-right (eqb x (nameOf g)) _ r) in
+    rw (← s, ← i, ← j) at (remade g)
+
+pub same-self : (f : Form) → same f f ≡ true
+unfolding same shapeOf integerOf nameOf memberOf firstOf secondOf
+same-self (number z) = sameℤ-self z
+same-self (variable x) = eq-eqb x x refl
+same-self (unbound x) = eq-eqb x x refl
+same-self readings = refl
+same-self (ask m f) = rw (eq-eqb (memberNumber m) (memberNumber m) refl, same-self f)
+same-self (call m f a) = rw (eq-eqb (memberNumber m) (memberNumber m) refl, same-self f, same-self a)
+same-self (function x b) = rw (eq-eqb x x refl, same-self b)
+
+-- within
+pub within-self : (f : Form) → within f f ≡ true
+unfolding within
+within-self (number z) = same-self (number z)
+within-self (variable x) = same-self (variable x)
+within-self (unbound x) = same-self (unbound x)
+within-self readings = same-self readings
+within-self (ask m f) = rw (same-self (ask m f))
+within-self (call m f a) = rw (same-self (call m f a))
+within-self (function x b) = rw (same-self (function x b))
+
+-- a dependency of what lies within g lies within g
+dependency-within : (d f : Form) → dependency d f ≡ true → within d f ≡ true
+unfolding dependency within
+dependency-within d (number z) h = no-way h
+dependency-within d (variable x) h = no-way h
+dependency-within d (unbound x) h = no-way h
+dependency-within d readings h = no-way h
+dependency-within d (ask m f) h = or-right (same d (ask m f)) _ (rw (same-eq d f h) (within-self f))
+dependency-within d (call m f a) h =
+    or-right (same d (call m f a)) _
+    (either (same d f) (same d a) h
+    (λ e. rw (same-eq d f e, within-self f))
+    (λ e. or-right (within d f) _ (rw (same-eq d a e) (within-self a))))
+dependency-within d (function x b) h = or-right (same d (function x b)) _ (rw (same-eq d b h) (within-self b))
+
+-- what lies within something within g lies within g
+within-trans : (d f g : Form) → within d f ≡ true → within f g ≡ true → within d g ≡ true
+unfolding within
+within-trans d f (number z) h k = rw (same-eq f (number z) k) at h
+within-trans d f (variable x) h k = rw (same-eq f (variable x) k) at h
+within-trans d f (unbound x) h k = rw (same-eq f (unbound x) k) at h
+within-trans d f readings h k = rw (same-eq f readings k) at h
+within-trans d f (ask m g) h k =
+    either (same f (ask m g)) (within f g) k
+    (λ e. rw (same-eq f (ask m g) e) at h)
+    (λ e. or-right (same d (ask m g)) _ (within-trans d f g h e))
+within-trans d f (call m g a) h k =
+    either (same f (call m g a)) (within f g || within f a) k
+    (λ e. rw (same-eq f (call m g a) e) at h)
+    (λ e.
+    or-right (same d (call m g a)) _
+    (either (within f g) (within f a) e
+    (λ i. rw (within-trans d f g h i))
+    (λ i. or-right (within d g) _ (within-trans d f a h i))))
+within-trans d f (function x b) h k =
+    either (same f (function x b)) (within f b) k
+    (λ e. rw (same-eq f (function x b) e) at h)
+    (λ e. or-right (same d (function x b)) _ (within-trans d f b h e))
+
+-- a dependency of what lies within g lies within g
+pub within-dependency : (d f g : Form) → dependency d f ≡ true → within f g ≡ true → within d g ≡ true
+within-dependency d f g h k = within-trans d f g (dependency-within d f h) k
+
+-- and nothing else does: it is the form, or within a dependency
+pub within-only : (g f : Form) → within g f ≡ true → (g ≡ f) ⊎ ((d : Form) × (dependency d f ≡ true) × (within g d ≡ true))
+unfolding within dependency
+within-only g (number z) h = inl (same-eq g (number z) h)
+within-only g (variable x) h = inl (same-eq g (variable x) h)
+within-only g (unbound x) h = inl (same-eq g (unbound x) h)
+within-only g readings h = inl (same-eq g readings h)
+within-only g (ask m f) h =
+    either (same g (ask m f)) (within g f) h
+    (λ e. inl (same-eq g (ask m f) e))
+    (λ e. inr (f, same-self f, e))
+within-only g (call m f a) h =
+    either (same g (call m f a)) (within g f || within g a) h
+    (λ e. inl (same-eq g (call m f a) e))
+    (λ e.
+    either (within g f) (within g a) e
+    (λ i. inr (f, rw (same-self f), i))
+    (λ i. inr (a, or-right (same a f) _ (same-self a), i)))
+within-only g (function x b) h =
+    either (same g (function x b)) (within g b) h
+    (λ e. inl (same-eq g (function x b) e))
+    (λ e. inr (b, same-self b, e))

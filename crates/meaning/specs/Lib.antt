@@ -1,0 +1,5 @@
+pub mod Forms
+pub mod FormsLaws
+pub mod Binding
+pub mod Evaluation
+pub mod EvaluationLaws

@@ -1,0 +1,5 @@
+pub mod Values
+pub mod Numbers
+pub mod Windows
+pub mod Runs
+pub mod Apply

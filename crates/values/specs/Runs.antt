@@ -1,0 +1,72 @@
+-- 01, "Members": the members that run a function, from the results of its runs, reading by reading: the first missing one decides, and
+-- a result that is no number is reason 2. Assumes nothing: these are definitions.
+use mathlib.Core.Bool.{Bool, true, false, not, cond}
+use mathlib.Core.List.{List, [], _∷_}
+use Prim.Native.Nat.{ℕ, zero, suc, _+_, max}
+use lib.IntN.{ℤ, pos}
+use Rattle.language.specs.declared.members.Member.{Member}
+use Rattle.language.specs.declared.members.Member.the-variants.{Add, Sub, Mul, Div, Gt, Eq, Skip, Take, Count, Sum, Min, Max, At, CountWhere, LongestRun, SumBy}
+use Rattle.values.specs.declared.Value.{Value}
+use Rattle.values.specs.declared.Value.the-variants.{Number, Window, Function, Delayed, Missing}
+use Rattle.values.specs.Values.{ranged, sameℤ, wrongKind}
+use Rattle.values.specs.Windows.{total}
+
+-- the numbers that runs gave, or the reason of the first that gave none
+pub data Results : Type 0 where
+  numbers : List ℤ → Results
+  because : ℕ → Results
+
+abbrev pub with : ℤ → Results → Results
+with z (numbers zs) = numbers (z ∷ zs)
+with z (because r) = because r
+
+unfoldable pub results : List Value → Results
+results [] = numbers []
+results (Number z ∷ vs) = with z (results vs)
+results (Window s l ∷ vs) = because wrongKind
+results (Function ∷ vs) = because wrongKind
+results (Delayed ∷ vs) = because wrongKind
+results (Missing r ∷ vs) = because r
+
+-- other than 0
+abbrev pub holds : ℤ → Bool
+holds z = not (sameℤ z (pos 0))
+
+unfoldable pub countOf : List ℤ → ℕ
+countOf [] = 0
+countOf (z ∷ zs) = cond (holds z) 1 0 + countOf zs
+
+-- the stretch at the front, and the longest stretch anywhere
+unfoldable pub stretch : List ℤ → ℕ
+stretch [] = 0
+stretch (z ∷ zs) = cond (holds z) (suc (stretch zs)) 0
+
+unfoldable pub longest : List ℤ → ℕ
+longest [] = 0
+longest (z ∷ zs) = max (stretch (z ∷ zs)) (longest zs)
+
+unfoldable pub ofNumbers : Member → List ℤ → Value
+ofNumbers CountWhere zs = Number (pos (countOf zs))
+ofNumbers LongestRun zs = Number (pos (longest zs))
+ofNumbers SumBy zs = ranged (total zs)
+ofNumbers Add zs = Missing wrongKind
+ofNumbers Sub zs = Missing wrongKind
+ofNumbers Mul zs = Missing wrongKind
+ofNumbers Div zs = Missing wrongKind
+ofNumbers Gt zs = Missing wrongKind
+ofNumbers Eq zs = Missing wrongKind
+ofNumbers Skip zs = Missing wrongKind
+ofNumbers Take zs = Missing wrongKind
+ofNumbers Count zs = Missing wrongKind
+ofNumbers Sum zs = Missing wrongKind
+ofNumbers Min zs = Missing wrongKind
+ofNumbers Max zs = Missing wrongKind
+ofNumbers At zs = Missing wrongKind
+
+abbrev pub concluded : Member → Results → Value
+concluded m (numbers zs) = ofNumbers m zs
+concluded m (because r) = Missing r
+
+-- what a member comes to from the results of the runs
+unfoldable pub ofRuns : Member → List Value → Value
+ofRuns m vs = concluded m (results vs)

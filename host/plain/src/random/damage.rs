@@ -1,0 +1,61 @@
+//! Damaged texts: formulas with a few tokens or bytes changed, and lists of tokens
+//! in any order.
+
+use super::formula::join;
+use super::rng::Rng;
+
+/// Tokens, and bytes that start none, to put into texts.
+const PIECES: [&str; 40] = [
+    "let", "in", "\\", "->", "=", ".", ",", "(", ")", "data", "a", "b", "x", "abcdefgh",
+    "heartrate", "0", "-1", "2147483647", "2147483648", "-2147483648", "-2147483649", "-", ">",
+    "#", "_", "foo", "count", "sum", "skip", "add", "div", "at", "countWhere", "sumBy",
+    "longestRun", "longestRunX", "()", ".count()", "\\a ->", "let x =",
+];
+
+/// The text of a formula with one to three changes.
+pub fn damaged(rng: &mut Rng, mut tokens: Vec<String>) -> Vec<u8> {
+    for _ in 0..rng.below(3) {
+        change_token(rng, &mut tokens);
+    }
+    let mut text = join(rng, &tokens);
+    if rng.one_in(3) {
+        change_byte(rng, &mut text);
+    }
+    text
+}
+
+/// Up to thirty pieces in any order.
+pub fn token_soup(rng: &mut Rng) -> Vec<u8> {
+    let count = rng.below(30);
+    let tokens: Vec<String> = (0..count).map(|_| rng.pick(&PIECES).to_string()).collect();
+    join(rng, &tokens)
+}
+
+fn change_token(rng: &mut Rng, tokens: &mut Vec<String>) {
+    let place = rng.below(tokens.len() as u64) as usize;
+    let piece = rng.pick(&PIECES).to_string();
+    match rng.below(5) {
+        0 if tokens.len() > 1 => {
+            tokens.remove(place);
+        }
+        1 => tokens.insert(place, piece),
+        2 => tokens.insert(place, tokens[place].clone()),
+        3 => {
+            let other = rng.below(tokens.len() as u64) as usize;
+            tokens.swap(place, other);
+        }
+        _ => tokens[place] = piece,
+    }
+}
+
+fn change_byte(rng: &mut Rng, text: &mut Vec<u8>) {
+    let place = rng.below(text.len() as u64) as usize;
+    match rng.below(4) {
+        0 => text.truncate(place),
+        1 => {
+            text.remove(place);
+        }
+        2 => text[place] = rng.next() as u8,
+        _ => text.insert(place, rng.pick(b"\0\x7f\x80\xff-\\().,=> \tal09")),
+    }
+}

@@ -1,0 +1,192 @@
+//! Random formulas. Most are grammatical, within the limits and of the right kinds,
+//! but not all.
+
+use super::rng::Rng;
+use crate::member::Member;
+use crate::rule::Rule;
+
+#[derive(Clone, Copy, PartialEq, Eq)]
+enum Kind {
+    Number,
+    Window,
+    Function,
+}
+
+const KINDS: [Kind; 3] = [Kind::Number, Kind::Window, Kind::Function];
+const NAMES: [&str; 7] = ["a", "b", "x", "y", "h", "x1", "abcdefgh"];
+const NUMBERS: [&str; 12] =
+    ["0", "1", "2", "3", "5", "-1", "-7", "007", "150", "2147483647", "-2147483648", "-0"];
+
+/// A formula as its tokens.
+pub fn formula(rng: &mut Rng) -> Vec<String> {
+    let depth = rng.pick(&[1, 2, 3, 3, 4, 4, 5]);
+    let kind = rng.pick(&[Kind::Number, Kind::Number, Kind::Window, Kind::Function]);
+    let mut writer = Writer { rng, tokens: Vec::new(), scope: Vec::new(), lambdas: Vec::new() };
+    writer.expression(kind, depth);
+    writer.tokens
+}
+
+/// A long chain of calls with numbers that are seldom used elsewhere, near 128 parts.
+/// A few of these fill the table.
+pub fn wide(rng: &mut Rng) -> Vec<u8> {
+    let calls = rng.pick(&[20, 40, 60, 62, 63, 64]);
+    let mut text = String::from(rng.pick(&["", "\\x -> ", "\\x -> \\y -> "]));
+    text += &rng.below(3000).to_string();
+    for _ in 0..calls {
+        let member = rng.pick(&["add", "sub", "gt", "eq"]);
+        text += &format!(".{member}({})", rng.below(3000));
+    }
+    text += rng.pick(&["", "", ".count()"]);
+    text.into_bytes()
+}
+
+/// Marks opened within each other, near 16 of them.
+pub fn deep(rng: &mut Rng) -> Vec<u8> {
+    let count = 13 + rng.below(6);
+    let mut text = String::new();
+    let mut ends = String::new();
+    for _ in 0..count {
+        let pairs = [("(", ")"), ("1.add(", ")"), ("let x = 1 in ", ""), ("let x = ", " in x")];
+        let (start, end) = rng.pick(&pairs);
+        text += start;
+        ends.insert_str(0, end);
+    }
+    text += rng.pick(&["1", "x", "(1)", "\\a -> a", "data.count()"]);
+    (text + &ends).into_bytes()
+}
+
+/// The text of some tokens: a blank where two would run together, and otherwise
+/// blanks here and there.
+pub fn join(rng: &mut Rng, tokens: &[String]) -> Vec<u8> {
+    let often = rng.pick(&[2, 8, 100]);
+    let mut text: Vec<u8> = Vec::new();
+    for token in tokens {
+        let runs_together = text.last().is_some_and(u8::is_ascii_alphanumeric)
+            && token.starts_with(|first: char| first.is_ascii_alphanumeric());
+        if runs_together || rng.one_in(often) {
+            text.push(rng.pick(b"    \t\r\n"));
+        }
+        text.extend(token.bytes());
+    }
+    text
+}
+
+struct Writer<'a> {
+    rng: &'a mut Rng,
+    tokens: Vec<String>,
+    /// Names in scope with the kind that they most likely have.
+    scope: Vec<(&'static str, Kind)>,
+    /// Names of the open lambdas.
+    lambdas: Vec<&'static str>,
+}
+
+impl Writer<'_> {
+    fn put(&mut self, tokens: &[&str]) {
+        self.tokens.extend(tokens.iter().map(|token| token.to_string()));
+    }
+
+    /// An expression, most likely of this kind.
+    fn expression(&mut self, kind: Kind, depth: u32) {
+        let kind = if self.rng.one_in(40) { self.rng.pick(&KINDS) } else { kind };
+        if depth > 0 && self.rng.one_in(5) {
+            self.let_expression(kind, depth - 1);
+        } else if kind == Kind::Function && !self.rng.one_in(4) {
+            self.lambda(depth);
+        } else {
+            self.chain(kind, depth);
+        }
+    }
+
+    fn let_expression(&mut self, kind: Kind, depth: u32) {
+        let name = self.rng.pick(&NAMES);
+        let value_kind = self.rng.pick(&KINDS);
+        self.put(&["let", name, "="]);
+        self.expression(value_kind, depth);
+        self.put(&["in"]);
+        self.scope.push((name, value_kind));
+        self.expression(kind, depth);
+        self.scope.pop();
+    }
+
+    /// A lambda, or a name or number where two lambdas are open already.
+    fn lambda(&mut self, depth: u32) {
+        if self.lambdas.len() == 2 && !self.rng.one_in(20) {
+            return self.name_or(Kind::Function, "0");
+        }
+        let name = self.rng.pick(&NAMES);
+        if self.lambdas.contains(&name) && !self.rng.one_in(20) {
+            return self.lambda(depth);
+        }
+        let body_kind = if self.rng.one_in(12) { self.rng.pick(&KINDS) } else { Kind::Number };
+        self.put(&["\\", name, "->"]);
+        self.lambdas.push(name);
+        self.scope.push((name, Kind::Number));
+        self.expression(body_kind, depth.saturating_sub(1));
+        self.scope.pop();
+        self.lambdas.pop();
+    }
+
+    fn chain(&mut self, kind: Kind, depth: u32) {
+        if depth == 0 || kind == Kind::Function || self.rng.one_in(4) {
+            return self.atom(kind, depth);
+        }
+        let members: Vec<Member> = Member::all().filter(|member| result(*member) == kind).collect();
+        let member = self.rng.pick(&members);
+        self.chain(receiver(member), depth - 1);
+        self.put(&[".", member.name(), "("]);
+        if let Some(argument) = argument(member) {
+            self.expression(argument, depth - 1);
+        }
+        self.put(&[")"]);
+    }
+
+    fn atom(&mut self, kind: Kind, depth: u32) {
+        if kind == Kind::Function || depth > 0 && self.rng.one_in(6) {
+            self.put(&["("]);
+            self.expression(kind, depth.saturating_sub(1));
+            self.put(&[")"]);
+        } else if kind == Kind::Window {
+            self.name_or(kind, "data");
+        } else if self.rng.one_in(25) {
+            let name = self.rng.pick(&NAMES);
+            self.put(&[name]);
+        } else {
+            let number = self.rng.pick(&NUMBERS);
+            self.name_or(kind, number);
+        }
+    }
+
+    /// Often a name in scope of this kind, else the other token.
+    fn name_or(&mut self, kind: Kind, other: &str) {
+        let of_kind = self.scope.iter().filter(|(_, named)| *named == kind);
+        let names: Vec<&str> = of_kind.map(|(name, _)| *name).collect();
+        if names.is_empty() || self.rng.one_in(3) {
+            self.put(&[other]);
+        } else {
+            let name = self.rng.pick(&names);
+            self.put(&[name]);
+        }
+    }
+}
+
+fn receiver(member: Member) -> Kind {
+    match member.rule() {
+        Rule::Numbers(_) => Kind::Number,
+        _ => Kind::Window,
+    }
+}
+
+fn argument(member: Member) -> Option<Kind> {
+    match member.rule() {
+        Rule::Numbers(_) | Rule::Cut(_) | Rule::Index(_) => Some(Kind::Number),
+        Rule::Runs(_) => Some(Kind::Function),
+        Rule::Readings(_) => None,
+    }
+}
+
+fn result(member: Member) -> Kind {
+    match member.rule() {
+        Rule::Cut(_) => Kind::Window,
+        _ => Kind::Number,
+    }
+}

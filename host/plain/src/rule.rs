@@ -1,0 +1,111 @@
+//! The rules of the members, for dependencies that are neither missing nor delayed
+//! and have the right kinds.
+//!
+//! Numbers are computed exactly in 64 bits: 1,024 readings or one product of 32-bit
+//! numbers never leave them. Only the final result is tested for reason 4, by `fit`.
+
+use crate::shown::{BEYOND_32_BITS, DIVISION_BY_ZERO, OUTSIDE_WINDOW, Reason, Window};
+
+/// A rule, by the kinds it takes, the receiver first.
+#[derive(Clone, Copy)]
+pub enum Rule {
+    /// A number and a number give a number.
+    Numbers(fn(i64, i64) -> Result<i64, Reason>),
+    /// A window and a number give a window.
+    Cut(fn(Window, i32) -> Result<Window, Reason>),
+    /// A window, given by its readings, gives a number.
+    Readings(fn(&[i32]) -> Result<i64, Reason>),
+    /// A window, given by its readings, and a number give a number.
+    Index(fn(&[i32], i32) -> Result<i64, Reason>),
+    /// A window and a function give a number. The rule is fed what the function
+    /// gives for each reading, in order.
+    Runs(fn(&[i32]) -> Result<i64, Reason>),
+}
+
+/// The result as a signed 32-bit number, or reason 4.
+pub fn fit(exact: i64) -> Result<i32, Reason> {
+    i32::try_from(exact).map_err(|_| BEYOND_32_BITS)
+}
+
+pub fn add(left: i64, right: i64) -> Result<i64, Reason> {
+    Ok(left + right)
+}
+
+pub fn sub(left: i64, right: i64) -> Result<i64, Reason> {
+    Ok(left - right)
+}
+
+pub fn mul(left: i64, right: i64) -> Result<i64, Reason> {
+    Ok(left * right)
+}
+
+/// The division rule: towards zero, as Rust's `/` does.
+pub fn div(left: i64, right: i64) -> Result<i64, Reason> {
+    if right == 0 { Err(DIVISION_BY_ZERO) } else { Ok(left / right) }
+}
+
+pub fn gt(left: i64, right: i64) -> Result<i64, Reason> {
+    Ok(i64::from(left > right))
+}
+
+pub fn eq(left: i64, right: i64) -> Result<i64, Reason> {
+    Ok(i64::from(left == right))
+}
+
+/// The clipping rule: how many of `length` readings the count `n` covers. Past the
+/// end it is all there is.
+fn clip(n: i32, length: usize) -> Result<usize, Reason> {
+    match usize::try_from(n) {
+        Ok(count) => Ok(count.min(length)),
+        Err(_) => Err(OUTSIDE_WINDOW),
+    }
+}
+
+/// `skip` moves the start on by what it skips.
+pub fn skip(window: Window, n: i32) -> Result<Window, Reason> {
+    let skipped = clip(n, window.length)?;
+    Ok(Window { start: window.start + skipped, length: window.length - skipped })
+}
+
+/// `take` keeps the start.
+pub fn take(window: Window, n: i32) -> Result<Window, Reason> {
+    Ok(Window { start: window.start, length: clip(n, window.length)? })
+}
+
+pub fn count(readings: &[i32]) -> Result<i64, Reason> {
+    Ok(readings.len() as i64)
+}
+
+pub fn sum(readings: &[i32]) -> Result<i64, Reason> {
+    Ok(readings.iter().map(|reading| i64::from(*reading)).sum())
+}
+
+pub fn min(readings: &[i32]) -> Result<i64, Reason> {
+    readings.iter().min().map(|least| i64::from(*least)).ok_or(OUTSIDE_WINDOW)
+}
+
+pub fn max(readings: &[i32]) -> Result<i64, Reason> {
+    readings.iter().max().map(|greatest| i64::from(*greatest)).ok_or(OUTSIDE_WINDOW)
+}
+
+/// The reading at an index from 0.
+pub fn at(readings: &[i32], index: i32) -> Result<i64, Reason> {
+    let index = usize::try_from(index).map_err(|_| OUTSIDE_WINDOW)?;
+    readings.get(index).map(|reading| i64::from(*reading)).ok_or(OUTSIDE_WINDOW)
+}
+
+/// How many results are other than 0.
+pub fn count_where(results: &[i32]) -> Result<i64, Reason> {
+    Ok(results.iter().filter(|result| **result != 0).count() as i64)
+}
+
+/// The length of the longest stretch of results other than 0.
+pub fn longest_run(results: &[i32]) -> Result<i64, Reason> {
+    let stretches = results.split(|result| *result == 0);
+    Ok(stretches.map(|stretch| stretch.len() as i64).max().unwrap_or(0))
+}
+
+/// The total of the results.
+pub fn sum_by(results: &[i32]) -> Result<i64, Reason> {
+    sum(results)
+}

@@ -1,0 +1,154 @@
+//! Lists of calls about the refusals that no text decides alone: 1, 2, 3, 13, 14.
+
+use super::taken::forms_128;
+use super::{ALL, RECORDING, Step, edit, open, preview};
+use crate::model::{Answer, Call};
+use crate::shown::Shown;
+
+fn refused(number: u8) -> Answer {
+    Answer::Refused { number, place: 0 }
+}
+
+fn edited(whole: u32, new: u32, places: &[u32]) -> Answer {
+    Answer::Edited { whole, parts: places.len() as u32, new, places: places.to_vec() }
+}
+
+fn finished(worked: u32, value: i32) -> Answer {
+    Answer::Finished { worked, shown: Shown::Number(value) }
+}
+
+fn short_open(readings: usize) -> Call {
+    Call::Open { readings: vec![0; readings], enough: false }
+}
+
+fn edit_with(text: &str, places: usize, enough: bool) -> Call {
+    Call::Edit { text: text.into(), places, enough }
+}
+
+/// All lists of calls, each with a name for messages.
+pub fn sessions() -> Vec<(&'static str, Vec<Step>)> {
+    vec![
+        ("sizes of lent memory", memory()),
+        ("sizes of recordings", recordings()),
+        ("sizes of texts", texts()),
+        ("entry numbers", entries()),
+        ("a full table", full_table()),
+        ("an open clears", clearing()),
+    ]
+}
+
+/// Number 3, and that a refused call changes nothing.
+fn memory() -> Vec<Step> {
+    vec![
+        (open(&RECORDING), Answer::Opened),
+        (edit_with("data.sum()", 127, true), refused(3)),
+        (edit_with("data.sum()", 0, true), refused(3)),
+        (edit_with("data.sum()", 128, false), refused(3)),
+        (edit_with("data.", 127, true), refused(3)),
+        (edit_with("data.", 128, false), refused(3)),
+        (preview(0, ALL), refused(14)),
+        (Call::Preview { entry: 0, allowance: ALL, enough: false }, refused(3)),
+        (edit_with("data.sum()", 128, true), edited(1, 2, &[0, 1])),
+        (edit_with("data.sum()", 1000, true), edited(1, 0, &[0, 1])),
+        (Call::Preview { entry: 1, allowance: ALL, enough: false }, refused(3)),
+        (short_open(3), refused(3)),
+        (preview(1, ALL), finished(1, 755)),
+    ]
+}
+
+/// Numbers 2 and 3 of an open.
+fn recordings() -> Vec<Step> {
+    vec![
+        (open(&[0; 1024]), Answer::Opened),
+        (edit("data.count()"), edited(1, 2, &[0, 1])),
+        (open(&[0; 1025]), refused(2)),
+        (short_open(1025), refused(2)),
+        (short_open(1024), refused(3)),
+        (preview(1, ALL), finished(1, 1024)),
+        (open(&[]), Answer::Opened),
+        (edit("data.count()"), edited(1, 2, &[0, 1])),
+        (preview(1, ALL), finished(1, 0)),
+    ]
+}
+
+/// Number 1 comes before 3 and before all that is wrong in the text.
+fn texts() -> Vec<Step> {
+    let bad = format!("#{}", " ".repeat(1024));
+    vec![
+        (open(&RECORDING), Answer::Opened),
+        (edit(" ".repeat(1025)), refused(1)),
+        (edit(" ".repeat(1024)), Answer::Refused { number: 5, place: 1024 }),
+        (edit_with(&bad, 128, true), refused(1)),
+        (edit_with(&bad, 127, true), refused(1)),
+        (edit_with(&bad, 128, false), refused(1)),
+        (edit_with(&bad[..1024], 127, true), refused(3)),
+        (edit_with(&bad[..1024], 128, true), Answer::Refused { number: 5, place: 0 }),
+    ]
+}
+
+/// Number 14.
+fn entries() -> Vec<Step> {
+    vec![
+        (open(&RECORDING), Answer::Opened),
+        (edit("1.add(2).add(3)"), edited(4, 5, &[0, 2, 1, 4, 3])),
+        (preview(5, ALL), refused(14)),
+        (preview(5, 0), refused(14)),
+        (preview(u32::MAX, u32::MAX), refused(14)),
+        (Call::Preview { entry: 5, allowance: 1, enough: false }, refused(3)),
+        (preview(4, ALL), finished(2, 6)),
+    ]
+}
+
+/// Number 13: 512 forms are held, and then one more is too many. Old forms, and
+/// texts refused under 5 to 12, get the same answers as before.
+fn full_table() -> Vec<Step> {
+    let mut steps = vec![(open(&RECORDING), Answer::Opened)];
+    for round in 0..3 {
+        steps.push((edit(forms_128(round * 64)), edited_128(round as u32, 128)));
+    }
+    let last = forms_128(3 * 64);
+    let almost = last.trim_start_matches("\\x -> ");
+    let places: Vec<u32> = edited_places(3)[1..].to_vec();
+    steps.push((edit(almost), edited(510, 127, &places)));
+    steps.push((edit("900.add(901)"), refused(13)));
+    steps.push((edit("\\y -> y"), refused(13)));
+    steps.push((edit(&last), edited_128(3, 1)));
+    steps.push((edit(&last), edited_128(3, 0)));
+    steps.push((edit("1000"), refused(13)));
+    steps.push((edit("let u = 1000 in 0"), refused(13)));
+    steps.push((edit("1000."), Answer::Refused { number: 5, place: 5 }));
+    steps.push((edit("0"), edited(0, 0, &[0])));
+    steps.push((preview(511, 0), Answer::NotYet { worked: 0 }));
+    steps.push((preview(512, 0), refused(14)));
+    steps.push((preview(510, ALL), finished(63, 64 * 192 + 63 * 32)));
+    steps
+}
+
+/// The answer to the text `forms_128(64 * round)` after the rounds before it.
+fn edited_128(round: u32, new: u32) -> Answer {
+    edited(128 * round + 127, new, &edited_places(round))
+}
+
+/// Places of `forms_128(64 * round)`: the function, the first number, then for each
+/// call its member and its number, which has the number just below.
+fn edited_places(round: u32) -> Vec<u32> {
+    let base = 128 * round;
+    let calls = (1..64).flat_map(|call| [base + 2 * call, base + 2 * call - 1]);
+    [base + 127, base].into_iter().chain(calls).collect()
+}
+
+/// An open clears entries and results.
+fn clearing() -> Vec<Step> {
+    vec![
+        (open(&[1, 2, 3]), Answer::Opened),
+        (edit("data.sum()"), edited(1, 2, &[0, 1])),
+        (preview(1, ALL), finished(1, 6)),
+        (preview(1, ALL), finished(0, 6)),
+        (open(&[4, 5]), Answer::Opened),
+        (preview(1, ALL), refused(14)),
+        (preview(0, ALL), refused(14)),
+        (edit("data.sum()"), edited(1, 2, &[0, 1])),
+        (preview(1, 0), Answer::NotYet { worked: 0 }),
+        (preview(1, ALL), finished(1, 9)),
+    ]
+}
