@@ -84,21 +84,23 @@ unfoldable pub hasName : ℕ → List ℕ → Bool
 hasName x [] = false
 hasName x (y ∷ ys) = eqb x y || hasName x ys
 
-unfoldable pub addName : List ℕ → ℕ → List ℕ
-addName ys x = cond (hasName x ys) ys (ys ++ (x ∷ []))
+-- the names of ys behind those of xs, each once
+unfoldable pub joined : List ℕ → List ℕ → List ℕ
+joined xs [] = xs
+joined xs (y ∷ ys) = joined (cond (hasName y xs) xs (xs ++ (y ∷ []))) ys
 
--- the names of a form behind those of ys; hidden: the functions around
-unfoldable pub awaitedOnto : List ℕ → Form → List ℕ → List ℕ
-awaitedOnto hidden (number z) ys = ys
-awaitedOnto hidden (variable x) ys = cond (hasName x hidden) ys (addName ys x)
-awaitedOnto hidden (unbound x) ys = ys
-awaitedOnto hidden readings ys = ys
-awaitedOnto hidden (ask m f) ys = awaitedOnto hidden f ys
-awaitedOnto hidden (call m f a) ys = awaitedOnto hidden a (awaitedOnto hidden f ys)
-awaitedOnto hidden (function x b) ys = awaitedOnto (x ∷ hidden) b ys
+unfoldable pub without : ℕ → List ℕ → List ℕ
+without x [] = []
+without x (y ∷ ys) = cond (eqb x y) (without x ys) (y ∷ without x ys)
 
-abbrev pub awaited : Form → List ℕ
-awaited f = awaitedOnto [] f []
+unfoldable pub awaited : Form → List ℕ
+awaited (number z) = []
+awaited (variable x) = x ∷ []
+awaited (unbound x) = []
+awaited readings = []
+awaited (ask m f) = awaited f
+awaited (call m f a) = joined (awaited f) (awaited a)
+awaited (function x b) = without x (awaited b)
 
 -- what is shown for an entry
 pub data Shown : Type 0 where

@@ -24,13 +24,26 @@ pub enum Answer {
     Opened,
     /// The whole text's entry, the number of parts, the number of new entries, and
     /// each part's entry at its place.
-    Edited { whole: u32, parts: u32, new: u32, places: Vec<u32> },
+    Edited {
+        whole: u32,
+        parts: u32,
+        new: u32,
+        places: Vec<u32>,
+    },
     /// How many entries were worked out; some remain.
-    NotYet { worked: u32 },
+    NotYet {
+        worked: u32,
+    },
     /// How many entries were worked out, and what the entry shows.
-    Finished { worked: u32, shown: Shown },
+    Finished {
+        worked: u32,
+        shown: Shown,
+    },
     /// The number, and the byte place for 5 to 12, else 0.
-    Refused { number: u8, place: u32 },
+    Refused {
+        number: u8,
+        place: u32,
+    },
 }
 
 /// The state: a recording, let-free forms numbered from 0, and marks on some of
@@ -64,9 +77,8 @@ impl Model {
 
     /// The unmarked members and functions at or below a form, lowest first.
     pub fn unmarked(&self, number: usize) -> Vec<usize> {
-        let unworked = |below: &usize| {
-            self.forms.list[*below].needs_work() && !self.marks.contains_key(below)
-        };
+        let unworked =
+            |below: &usize| self.forms.list[*below].needs_work() && !self.marks.contains_key(below);
         self.forms.at_or_below(number).into_iter().filter(unworked).collect()
     }
 
@@ -75,9 +87,7 @@ impl Model {
         match call {
             Call::Open { readings, enough } => self.open(readings, *enough),
             Call::Edit { text, places, enough } => self.edit(text, *places, *enough),
-            Call::Preview { entry, allowance, enough } => {
-                self.preview(*entry, *allowance, *enough)
-            }
+            Call::Preview { entry, allowance, enough } => self.preview(*entry, *allowance, *enough),
         }
     }
 
@@ -105,7 +115,9 @@ impl Model {
         }
         let text = match parse(text) {
             Ok(text) => text,
-            Err(refusal) => return Answer::Refused { number: refusal.number, place: narrow(refusal.place) },
+            Err(refusal) => {
+                return Answer::Refused { number: refusal.number, place: narrow(refusal.place) };
+            }
         };
         let mut forms = self.forms.clone();
         let bound = bind(&text, &mut forms);

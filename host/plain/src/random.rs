@@ -3,6 +3,8 @@
 
 pub mod damage;
 pub mod formula;
+pub mod limit;
+pub mod nested;
 pub mod rng;
 
 use crate::bind::bind;
@@ -11,7 +13,9 @@ use crate::model::{Answer, Call, Model};
 use crate::rule::Rule;
 use crate::syntax::parse;
 use damage::{damaged, token_soup};
-use formula::{deep, formula, join, wide};
+use formula::{formula, join};
+use limit::{deep, wide};
+use nested::nested;
 use rng::Rng;
 
 /// Bound on the runs that one entry of a random text may need, so that a session
@@ -20,13 +24,8 @@ const MOST_RUNS: usize = 20_000;
 
 /// A session of `calls` calls. The first is an open that is accepted.
 pub fn session(seed: u64, calls: usize) -> Vec<Call> {
-    let mut generator = Generator {
-        rng: Rng::new(seed),
-        model: Model::new(),
-        texts: Vec::new(),
-        last_whole: 0,
-    };
-    let readings = generator.readings();
+    let mut generator = Generator::new(seed);
+    let readings = generator.short_recording();
     let mut list = Vec::new();
     let mut call = Call::Open { readings, enough: true };
     while list.len() < calls {
@@ -41,13 +40,22 @@ struct Generator {
     rng: Rng,
     /// Follows the session, so that calls can use its numbers.
     model: Model,
-    /// The texts accepted so far, as tokens would be repeated by a user.
+    /// The texts accepted so far.
     texts: Vec<Vec<u8>>,
     /// The last whole text's entry.
     last_whole: u32,
+    /// Whether the session fills the table: it opens no other recording and has many
+    /// long texts.
+    is_filling: bool,
 }
 
 impl Generator {
+    fn new(seed: u64) -> Generator {
+        let mut rng = Rng::new(seed);
+        let is_filling = rng.one_in(4);
+        Generator { rng, model: Model::new(), texts: Vec::new(), last_whole: 0, is_filling }
+    }
+
     fn follow(&mut self, call: &Call) {
         let answer = self.model.call(call);
         if let (Call::Edit { text, .. }, Answer::Edited { whole, .. }) = (call, answer) {
@@ -57,44 +65,54 @@ impl Generator {
     }
 
     fn next_call(&mut self) -> Call {
-        let enough = !self.rng.one_in(40);
+        let is_empty = self.model.forms().list.is_empty();
         match self.rng.below(40) {
-            0 => Call::Open { readings: self.readings_of_any_length(), enough },
-            1..=22 => Call::Edit { text: self.text(), places: self.places(), enough },
-            _ => Call::Preview { entry: self.entry(), allowance: self.allowance(), enough },
+            0 if !self.is_filling => self.open(),
+            1..=19 => self.edit(),
+            20..=38 if is_empty => self.edit(),
+            _ => self.preview(),
         }
     }
 
-    fn places(&mut self) -> usize {
-        if self.rng.one_in(30) { self.rng.pick(&[0, 1, 127, 129, 1000]) } else { 128 }
-    }
-
-    /// Mostly an entry held, sometimes the first number that is none.
-    fn entry(&mut self) -> u32 {
-        let held = self.model.forms().list.len() as u32;
-        match self.rng.below(12) {
-            0..=6 => self.last_whole,
-            7 => self.rng.pick(&[held, held + 1, 511, 512, 65_535, 65_536, u32::MAX]),
-            _ => self.rng.below(u64::from(held) + 1) as u32,
-        }
-    }
-
-    fn allowance(&mut self) -> u32 {
-        self.rng.pick(&[0, 1, 1, 2, 3, 5, 8, 64, 512, 512, 65_536, u32::MAX])
-    }
-
-    fn readings_of_any_length(&mut self) -> Vec<i32> {
-        match self.rng.below(8) {
+    fn open(&mut self) -> Call {
+        let readings = match self.rng.below(8) {
             0 => vec![self.rng.reading(); 1025],
             1 => (0..1024).map(|_| self.rng.reading()).collect(),
-            _ => self.readings(),
+            _ => self.short_recording(),
+        };
+        Call::Open { readings, enough: self.is_enough() }
+    }
+
+    fn edit(&mut self) -> Call {
+        let text = self.text();
+        let is_usual = !self.rng.one_in(30);
+        let places = if is_usual { 128 } else { self.rng.pick(&[0, 1, 127, 129, 1000]) };
+        Call::Edit { text, places, enough: self.is_enough() }
+    }
+
+    fn preview(&mut self) -> Call {
+        let allowance = self.rng.pick(&[0, 1, 1, 2, 3, 5, 8, 64, 512, 512, 65_536, u32::MAX]);
+        Call::Preview { entry: self.entry(), allowance, enough: self.is_enough() }
+    }
+
+    /// Whether the cache is lent whole.
+    fn is_enough(&mut self) -> bool {
+        !self.rng.one_in(40)
+    }
+
+    /// Mostly an entry held, sometimes a number near or far above.
+    fn entry(&mut self) -> u32 {
+        let held = self.model.forms().list.len() as u32;
+        match self.rng.below(16) {
+            0 => self.rng.pick(&[held, held + 1, 511, 512, 65_535, 65_536, u32::MAX]),
+            1..=7 if held > 0 => self.rng.below(u64::from(held)) as u32,
+            _ => self.last_whole,
         }
     }
 
-    /// A short recording, since runs within runs multiply its length.
-    fn readings(&mut self) -> Vec<i32> {
-        let most = self.rng.pick(&[0, 1, 3, 5, 8, 8, 30]);
-        let length = self.rng.below(most + 1);
+    /// Short, since runs within runs multiply a recording's length.
+    fn short_recording(&mut self) -> Vec<i32> {
+        let length = self.rng.pick(&[0, 1, 2, 3, 4, 5, 6, 7, 8, 12, 30]);
         (0..length).map(|_| self.rng.reading()).collect()
     }
 
@@ -105,26 +123,45 @@ impl Generator {
     }
 
     fn any_text(&mut self) -> Vec<u8> {
-        match self.rng.below(20) {
-            0..=9 => {
+        if self.is_filling && self.rng.one_in(3) {
+            return wide(&mut self.rng);
+        }
+        match self.rng.below(24) {
+            0..=7 => {
                 let tokens = formula(&mut self.rng);
                 join(&mut self.rng, &tokens)
             }
-            10..=14 => {
+            8..=11 => {
+                let tokens = nested(&mut self.rng);
+                join(&mut self.rng, &tokens)
+            }
+            12..=17 => {
                 let tokens = formula(&mut self.rng);
                 damaged(&mut self.rng, tokens)
             }
-            15 => wide(&mut self.rng),
-            16 => deep(&mut self.rng),
-            17 => token_soup(&mut self.rng),
-            _ if self.texts.is_empty() => b"data.sum()".to_vec(),
+            18 => wide(&mut self.rng),
+            19 => deep(&mut self.rng),
+            20 => token_soup(&mut self.rng),
+            21 => self.padded_text(),
             _ => self.changed_text(),
         }
     }
 
-    /// A text accepted before, with one digit changed or none.
+    /// A text accepted before, or a first one.
+    fn old_text(&mut self) -> Vec<u8> {
+        if self.texts.is_empty() { b"data.take(3)".to_vec() } else { self.rng.pick(&self.texts) }
+    }
+
+    /// A text with blanks up to about the greatest length.
+    fn padded_text(&mut self) -> Vec<u8> {
+        let mut text = self.old_text();
+        text.resize(1022 + self.rng.below(5) as usize, b' ');
+        text
+    }
+
+    /// A text with one digit changed, or none.
     fn changed_text(&mut self) -> Vec<u8> {
-        let mut text = self.rng.pick(&self.texts);
+        let mut text = self.old_text();
         let place = self.rng.below(text.len() as u64) as usize;
         if text[place].is_ascii_digit() {
             text[place] = b'0' + self.rng.below(10) as u8;

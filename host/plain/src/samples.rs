@@ -116,7 +116,8 @@ pub fn previews() -> Vec<Sample> {
         sample("data.countWhere(\\b -> b.gt(150))", runs, 3, number(3)).starred(),
         sample("data.sum()", (2, 1, &[0, 1]), 1, number(755)).starred(),
         sample("data.longestRun(\\b -> b.gt(145))", runs, 3, number(4)),
-        sample("data.sumBy(\\p -> data.countWhere(\\q -> q.gt(p)))", nested, 5, number(10)).starred(),
+        sample("data.sumBy(\\p -> data.countWhere(\\q -> q.gt(p)))", nested, 5, number(10))
+            .starred(),
         sample("-7.div(2)", one_call, 1, number(-3)).starred(),
         sample("-2147483648.div(-1)", one_call, 1, missing(4)).starred(),
         sample("7.div(0)", one_call, 1, missing(3)),

@@ -5,16 +5,18 @@ use super::formula::join;
 use super::rng::Rng;
 
 /// Tokens, and bytes that start none, to put into texts.
+#[rustfmt::skip]
 const PIECES: [&str; 40] = [
-    "let", "in", "\\", "->", "=", ".", ",", "(", ")", "data", "a", "b", "x", "abcdefgh",
-    "heartrate", "0", "-1", "2147483647", "2147483648", "-2147483648", "-2147483649", "-", ">",
-    "#", "_", "foo", "count", "sum", "skip", "add", "div", "at", "countWhere", "sumBy",
-    "longestRun", "longestRunX", "()", ".count()", "\\a ->", "let x =",
+    "let", "in", "\\", "->", "=", ".", ",", "(", ")", "()", ".count()", "\\a ->", "let x =",
+    "data", "a", "b", "x", "abcdefgh", "heartrate", "-", ">", "#", "_",
+    "0", "-1", "2147483647", "2147483648", "-2147483648", "-2147483649",
+    "foo", "count", "sum", "skip", "add", "div", "at", "countWhere", "sumBy", "longestRun",
+    "longestRunX",
 ];
 
-/// The text of a formula with one to three changes.
+/// The text of a formula with one or two tokens changed, and sometimes a byte.
 pub fn damaged(rng: &mut Rng, mut tokens: Vec<String>) -> Vec<u8> {
-    for _ in 0..rng.below(3) {
+    for _ in 0..1 + rng.below(2) {
         change_token(rng, &mut tokens);
     }
     let mut text = join(rng, &tokens);
@@ -55,7 +57,7 @@ fn change_byte(rng: &mut Rng, text: &mut Vec<u8>) {
         1 => {
             text.remove(place);
         }
-        2 => text[place] = rng.next() as u8,
+        2 => text[place] = rng.draw() as u8,
         _ => text.insert(place, rng.pick(b"\0\x7f\x80\xff-\\().,=> \tal09")),
     }
 }

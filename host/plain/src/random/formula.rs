@@ -5,15 +5,16 @@ use super::rng::Rng;
 use crate::member::Member;
 use crate::rule::Rule;
 
+/// The kind of an expression's result.
 #[derive(Clone, Copy, PartialEq, Eq)]
-enum Kind {
+pub(super) enum Kind {
     Number,
     Window,
     Function,
 }
 
 const KINDS: [Kind; 3] = [Kind::Number, Kind::Window, Kind::Function];
-const NAMES: [&str; 7] = ["a", "b", "x", "y", "h", "x1", "abcdefgh"];
+pub(super) const NAMES: [&str; 7] = ["a", "b", "x", "y", "h", "x1", "abcdefgh"];
 const NUMBERS: [&str; 12] =
     ["0", "1", "2", "3", "5", "-1", "-7", "007", "150", "2147483647", "-2147483648", "-0"];
 
@@ -21,38 +22,9 @@ const NUMBERS: [&str; 12] =
 pub fn formula(rng: &mut Rng) -> Vec<String> {
     let depth = rng.pick(&[1, 2, 3, 3, 4, 4, 5]);
     let kind = rng.pick(&[Kind::Number, Kind::Number, Kind::Window, Kind::Function]);
-    let mut writer = Writer { rng, tokens: Vec::new(), scope: Vec::new(), lambdas: Vec::new() };
+    let mut writer = Writer::new(rng);
     writer.expression(kind, depth);
     writer.tokens
-}
-
-/// A long chain of calls with numbers that are seldom used elsewhere, near 128 parts.
-/// A few of these fill the table.
-pub fn wide(rng: &mut Rng) -> Vec<u8> {
-    let calls = rng.pick(&[20, 40, 60, 62, 63, 64]);
-    let mut text = String::from(rng.pick(&["", "\\x -> ", "\\x -> \\y -> "]));
-    text += &rng.below(3000).to_string();
-    for _ in 0..calls {
-        let member = rng.pick(&["add", "sub", "gt", "eq"]);
-        text += &format!(".{member}({})", rng.below(3000));
-    }
-    text += rng.pick(&["", "", ".count()"]);
-    text.into_bytes()
-}
-
-/// Marks opened within each other, near 16 of them.
-pub fn deep(rng: &mut Rng) -> Vec<u8> {
-    let count = 13 + rng.below(6);
-    let mut text = String::new();
-    let mut ends = String::new();
-    for _ in 0..count {
-        let pairs = [("(", ")"), ("1.add(", ")"), ("let x = 1 in ", ""), ("let x = ", " in x")];
-        let (start, end) = rng.pick(&pairs);
-        text += start;
-        ends.insert_str(0, end);
-    }
-    text += rng.pick(&["1", "x", "(1)", "\\a -> a", "data.count()"]);
-    (text + &ends).into_bytes()
 }
 
 /// The text of some tokens: a blank where two would run together, and otherwise
@@ -71,17 +43,22 @@ pub fn join(rng: &mut Rng, tokens: &[String]) -> Vec<u8> {
     text
 }
 
-struct Writer<'a> {
-    rng: &'a mut Rng,
-    tokens: Vec<String>,
+/// Writes an expression, token by token.
+pub(super) struct Writer<'a> {
+    pub(super) rng: &'a mut Rng,
+    pub(super) tokens: Vec<String>,
     /// Names in scope with the kind that they most likely have.
-    scope: Vec<(&'static str, Kind)>,
+    pub(super) scope: Vec<(&'static str, Kind)>,
     /// Names of the open lambdas.
-    lambdas: Vec<&'static str>,
+    pub(super) lambdas: Vec<&'static str>,
 }
 
 impl Writer<'_> {
-    fn put(&mut self, tokens: &[&str]) {
+    pub(super) fn new(rng: &mut Rng) -> Writer<'_> {
+        Writer { rng, tokens: Vec::new(), scope: Vec::new(), lambdas: Vec::new() }
+    }
+
+    pub(super) fn put(&mut self, tokens: &[&str]) {
         self.tokens.extend(tokens.iter().map(|token| token.to_string()));
     }
 
@@ -97,8 +74,14 @@ impl Writer<'_> {
         }
     }
 
+    /// A name to bind, seldom one that cannot be bound.
+    fn name_to_bind(&mut self) -> &'static str {
+        let is_usual = !self.rng.one_in(80);
+        if is_usual { self.rng.pick(&NAMES) } else { self.rng.pick(&["data", "heartrate", "in"]) }
+    }
+
     fn let_expression(&mut self, kind: Kind, depth: u32) {
-        let name = self.rng.pick(&NAMES);
+        let name = self.name_to_bind();
         let value_kind = self.rng.pick(&KINDS);
         self.put(&["let", name, "="]);
         self.expression(value_kind, depth);
@@ -110,11 +93,11 @@ impl Writer<'_> {
 
     /// A lambda, or a name or number where two lambdas are open already.
     fn lambda(&mut self, depth: u32) {
-        if self.lambdas.len() == 2 && !self.rng.one_in(20) {
+        if self.lambdas.len() == 2 && !self.rng.one_in(6) {
             return self.name_or(Kind::Function, "0");
         }
-        let name = self.rng.pick(&NAMES);
-        if self.lambdas.contains(&name) && !self.rng.one_in(20) {
+        let name = self.name_to_bind();
+        if self.lambdas.contains(&name) && !self.rng.one_in(10) {
             return self.lambda(depth);
         }
         let body_kind = if self.rng.one_in(12) { self.rng.pick(&KINDS) } else { Kind::Number };
@@ -130,14 +113,31 @@ impl Writer<'_> {
         if depth == 0 || kind == Kind::Function || self.rng.one_in(4) {
             return self.atom(kind, depth);
         }
-        let members: Vec<Member> = Member::all().filter(|member| result(*member) == kind).collect();
-        let member = self.rng.pick(&members);
+        let member = self.member_giving(kind);
         self.chain(receiver(member), depth - 1);
         self.put(&[".", member.name(), "("]);
-        if let Some(argument) = argument(member) {
-            self.expression(argument, depth - 1);
+        match argument(member) {
+            Some(Kind::Number) if is_window(member) && !self.rng.one_in(3) => self.small_number(),
+            Some(argument) => self.expression(argument, depth - 1),
+            None => (),
         }
         self.put(&[")"]);
+    }
+
+    /// A number that is a likely count or index.
+    fn small_number(&mut self) {
+        let number = self.rng.pick(&["0", "0", "1", "1", "2", "3"]);
+        self.put(&[number]);
+    }
+
+    /// A member with this kind of result, quite often one that runs a function.
+    fn member_giving(&mut self, kind: Kind) -> Member {
+        let prefers_runs = kind == Kind::Number && self.rng.one_in(3);
+        let is_wanted = |member: &Member| {
+            result(*member) == kind && (!prefers_runs || argument(*member) == Some(Kind::Function))
+        };
+        let members: Vec<Member> = Member::all().filter(is_wanted).collect();
+        self.rng.pick(&members)
     }
 
     fn atom(&mut self, kind: Kind, depth: u32) {
@@ -157,7 +157,7 @@ impl Writer<'_> {
     }
 
     /// Often a name in scope of this kind, else the other token.
-    fn name_or(&mut self, kind: Kind, other: &str) {
+    pub(super) fn name_or(&mut self, kind: Kind, other: &str) {
         let of_kind = self.scope.iter().filter(|(_, named)| *named == kind);
         let names: Vec<&str> = of_kind.map(|(name, _)| *name).collect();
         if names.is_empty() || self.rng.one_in(3) {
@@ -167,6 +167,10 @@ impl Writer<'_> {
             self.put(&[name]);
         }
     }
+}
+
+fn is_window(member: Member) -> bool {
+    receiver(member) == Kind::Window
 }
 
 fn receiver(member: Member) -> Kind {

@@ -9,7 +9,7 @@ impl Rng {
         Rng { state: seed }
     }
 
-    pub fn next(&mut self) -> u64 {
+    pub fn draw(&mut self) -> u64 {
         self.state = self.state.wrapping_add(0x9e37_79b9_7f4a_7c15);
         let mut mixed = self.state;
         mixed = (mixed ^ (mixed >> 30)).wrapping_mul(0xbf58_476d_1ce4_e5b9);
@@ -19,7 +19,7 @@ impl Rng {
 
     /// A number from 0 up to, and not including, `bound`.
     pub fn below(&mut self, bound: u64) -> u64 {
-        self.next() % bound
+        self.draw() % bound
     }
 
     /// True once in `count` times on average.
@@ -36,7 +36,7 @@ impl Rng {
     pub fn reading(&mut self) -> i32 {
         match self.below(10) {
             0 => self.pick(&[i32::MIN, i32::MIN + 1, i32::MAX, i32::MAX - 1]),
-            1 => self.next() as i32,
+            1 => self.draw() as i32,
             2..=5 => 130 + self.below(40) as i32,
             _ => self.below(9) as i32 - 3,
         }

@@ -1,0 +1,35 @@
+-- The language of formulas, as the reference model takes it: forms, what they show, and the reader. Assumes nothing: these are definitions.
+use mathlib.Core.List.{List}
+use Prim.Native.Nat.{ℕ, _<_, _^_}
+use lib.IntN.{ℤ}
+use lib.Signed.{mag}
+use Rattle.grammar.specs.Reading.{Reading, tree, refused}
+use Rattle.grammar.specs.Machine.{readText}
+use Rattle.meaning.specs.Forms.{Form, same, dependency, within, works}
+use Rattle.meaning.specs.Binding.{formOf, formsByPlace, formsInOrder}
+use Rattle.meaning.specs.Evaluation.{Shown, shows}
+use Rattle.model.specs.Lists.{All}
+use Rattle.model.specs.Language.{Language, Parsed, rejected, parts}
+
+-- a reading is within signed 32 bits
+abbrev pub IsReading : ℤ → Type 0
+IsReading z = mag z < 2 ^ 31
+
+unfoldable pub parsed : Reading → Parsed Form
+parsed (tree e) = parts (formsInOrder e) (formsByPlace e) (formOf e)
+parsed (refused n at) = rejected n at
+
+abbrev pub formulas : Language
+formulas =
+    record {
+      Form = Form;
+      Shown = Shown;
+      Reading = ℤ;
+      Sound = All IsReading;
+      same = same;
+      dependency = dependency;
+      reach = within;
+      works = works;
+      shows = shows;
+      read = λ text. parsed (readText text)
+    }

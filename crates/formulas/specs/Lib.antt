@@ -1,0 +1,5 @@
+pub mod Formulas
+pub mod BindingLaws
+pub mod Computed
+pub mod Samples
+pub mod Refusals

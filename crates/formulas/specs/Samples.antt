@@ -1,0 +1,65 @@
+-- 01, "Sample previews": the starred samples, as sessions of the reference model, and one computed check over the list.
+-- Assumes nothing.
+use mathlib.Core.Path.{_≡_, refl}
+use mathlib.Core.Bool.{Bool, true, false, cond, not, _&&_, _||_}
+use mathlib.Core.List.{List, [], _∷_, map}
+use Prim.Native.Nat.{ℕ}
+use Prim.Native.String.{String}
+use lib.IntN.{ℤ, pos, negsuc}
+use lib.ListN.{replicate}
+use Rattle.language.specs.Limits.{textParts}
+use Rattle.language.specs.Names.{bytes}
+use Rattle.meaning.specs.Evaluation.{Shown, aNumber, aWindow, aFunction, aDelay, aReason}
+use Rattle.model.specs.Model.{State, Request, Open, Edit, Preview, Call, Answer, refused, opened, edited, notYet, finished, Outcome, start}
+use Rattle.formulas.specs.Formulas.{formulas}
+use Rattle.formulas.specs.Computed.{run}
+
+-- a text, what the edit answers, and what the preview of the whole with allowance 512 answers
+pub record Sample : Type 0 where
+  pub text : List ℕ
+  pub whole : ℕ
+  pub parts : ℕ
+  pub new : ℕ
+  pub places : List ℕ
+  pub worked : ℕ
+  pub shown : Shown
+
+abbrev pub recording : List ℤ
+recording = pos 140 ∷ pos 152 ∷ pos 160 ∷ pos 148 ∷ pos 155 ∷ []
+
+abbrev pub lent : Request formulas → Call formulas
+lent q = record { enough = true; request = q }
+
+abbrev pub editOf : List ℕ → Call formulas
+editOf text = lent (Edit (replicate textParts 0) text)
+
+-- the answers to a session's samples, one after the other
+unfoldable pub heard : State formulas → List Sample → List (Answer formulas)
+heard s [] = []
+heard s (x ∷ xs) =
+    let e : Outcome formulas = run s (editOf (x .text)) in
+    let p : Outcome formulas = run (e .state) (lent (Preview (x .whole) 512)) in
+    e .answer ∷ p .answer ∷ heard (p .state) xs
+
+unfoldable pub expected : List Sample → List (Answer formulas)
+expected [] = []
+expected (x ∷ xs) = edited (x .whole) (x .parts) (x .new) (x .places) ∷ finished (x .worked) (x .shown) ∷ expected xs
+
+-- each list of samples is a session of its own after an opening
+abbrev pub starred : List (List Sample)
+starred =
+    (record { text = bytes "let x = 2 in data.skip(1).take(x)"; whole = 4; parts = 7; new = 5; places = 4 ∷ 0 ∷ 1 ∷ 3 ∷ 2 ∷ 4 ∷ 0 ∷ []; worked = 2; shown = aWindow 1 2 } ∷ record { text = bytes "let x = 3 in data.skip(1).take(x)"; whole = 6; parts = 7; new = 2; places = 6 ∷ 5 ∷ 1 ∷ 3 ∷ 2 ∷ 6 ∷ 5 ∷ []; worked = 1; shown = aWindow 1 3 } ∷ [])
+    ∷ (record { text = bytes "data.countWhere(\\b -> b.gt(150))"; whole = 5; parts = 6; new = 6; places = 0 ∷ 5 ∷ 4 ∷ 1 ∷ 3 ∷ 2 ∷ []; worked = 3; shown = aNumber (pos 3) } ∷ [])
+    ∷ (record { text = bytes "data.sum()"; whole = 1; parts = 2; new = 2; places = 0 ∷ 1 ∷ []; worked = 1; shown = aNumber (pos 755) } ∷ [])
+    ∷ (record { text = bytes "data.sumBy(\\p -> data.countWhere(\\q -> q.gt(p)))"; whole = 7; parts = 9; new = 8; places = 0 ∷ 7 ∷ 6 ∷ 0 ∷ 5 ∷ 4 ∷ 1 ∷ 3 ∷ 2 ∷ []; worked = 5; shown = aNumber (pos 10) } ∷ [])
+    ∷ (record { text = bytes "-7.div(2)"; whole = 2; parts = 3; new = 3; places = 0 ∷ 2 ∷ 1 ∷ []; worked = 1; shown = aNumber (negsuc 2) } ∷ [])
+    ∷ (record { text = bytes "-2147483648.div(-1)"; whole = 2; parts = 3; new = 3; places = 0 ∷ 2 ∷ 1 ∷ []; worked = 1; shown = aReason 4 } ∷ [])
+    ∷ (record { text = bytes "let u = 1.div(0) in 6"; whole = 3; parts = 5; new = 4; places = 3 ∷ 0 ∷ 2 ∷ 1 ∷ 3 ∷ []; worked = 0; shown = aNumber (pos 6) } ∷ [])
+    ∷ (record { text = bytes "let y = b in \\b -> y"; whole = 1; parts = 4; new = 2; places = 1 ∷ 0 ∷ 1 ∷ 0 ∷ []; worked = 1; shown = aReason 1 } ∷ [])
+    ∷ (record { text = bytes "data.take(0).countWhere(\\b -> b.div(0))"; whole = 6; parts = 8; new = 7; places = 0 ∷ 2 ∷ 1 ∷ 6 ∷ 5 ∷ 3 ∷ 4 ∷ 1 ∷ []; worked = 4; shown = aNumber (pos 0) } ∷ [])
+    ∷ (record { text = bytes "data.take(0).countWhere(\\b -> 1.div(0))"; whole = 6; parts = 8; new = 7; places = 0 ∷ 2 ∷ 1 ∷ 6 ∷ 5 ∷ 3 ∷ 4 ∷ 1 ∷ []; worked = 4; shown = aReason 3 } ∷ [])
+    ∷ []
+
+pub samples-hold : map (heard (start formulas recording)) starred ≡ map expected starred
+unfolding heard expected run
+samples-hold = refl

@@ -1,0 +1,167 @@
+-- The reference model (01: the plain book): what it holds, and what each call answers and leaves.
+-- Sections in the order of 01: 'The plain book', 'When a call is declined', 'Four calls'. Assumes nothing.
+use mathlib.Core.Bool.{Bool, true, false, cond, not, _&&_, _||_}
+use mathlib.Core.List.{List, [], _∷_, _++_, map}
+use mathlib.Core.Option.{Option, none, some}
+use Prim.Native.Nat.{ℕ, _-_, min}
+use lib.Dec.{ltb, eqb}
+use lib.ListN.{length, drop, getElem?}
+use Rattle.model.specs.Limits.{textBytes, partsMost, readingsMost, entriesMost}
+use Rattle.model.specs.Lists.{isSome, countIf, onFirsts, member, index}
+use Rattle.model.specs.Language.{Language, Parsed, rejected, parts}
+
+module _ (L : Language) where
+  open Language L using (Form, Shown, Reading, same, reach, works, shows, read)
+
+  -- What the model holds: a recording, forms numbered from 0, and marks on some of them. A mark is what its form shows.
+  pub record Entry : Type 0 where
+    pub form : Form
+    pub mark : Option Shown
+
+  pub record State : Type 0 where
+    pub recording : List Reading
+    pub entries : List Entry
+
+  abbrev pub forms : List Entry → List Form
+  forms es = map (λ (e : Entry). e .form) es
+
+  abbrev pub marked : Entry → Bool
+  marked e = isSome (e .mark)
+
+  -- What the model is fed: a call's arguments, an edit's lent places among them, and whether the memory lent has the cache's size.
+  pub data Request : Type 0 where
+    Open : (readings : List Reading) → Request
+    Edit : (places text : List ℕ) → Request
+    Preview : (number allowance : ℕ) → Request
+
+  pub record Call : Type 0 where
+    pub enough : Bool
+    pub request : Request
+
+  abbrev pub lentPlaces : Request → List ℕ
+  lentPlaces (Open r) = []
+  lentPlaces (Edit places text) = places
+  lentPlaces (Preview n a) = []
+
+  -- What it answers. A finished preview is one that does not say 'not yet'.
+  pub data Answer : Type 0 where
+    refused : (number place : ℕ) → Answer
+    opened : Answer
+    edited : (whole parts added : ℕ) (numbers : List ℕ) → Answer
+    notYet : (worked : ℕ) → Answer
+    finished : (worked : ℕ) (shown : Shown) → Answer
+
+  -- 01's number and values of each answer: the refusal's number and byte place, 0 and 0 for an accepted call; the numbers given; what is shown
+  pub record Report : Type 0 where
+    pub number : ℕ
+    pub place : ℕ
+    pub values : List ℕ
+    pub shown : Option Shown
+
+  abbrev pub report : Answer → Report
+  report (refused n at) = record { number = n; place = at; values = []; shown = none }
+  report opened = record { number = 0; place = 0; values = []; shown = none }
+  report (edited w p k ns) = record { number = 0; place = 0; values = w ∷ p ∷ k ∷ ns; shown = none }
+  report (notYet k) = record { number = 0; place = 0; values = k ∷ []; shown = none }
+  report (finished k v) = record { number = 0; place = 0; values = k ∷ []; shown = some v }
+
+  -- The lent places after an answer: an accepted edit writes its parts' numbers to the first, and all others keep their contents.
+  unfoldable pub placesAfter : Answer → List ℕ → List ℕ
+  placesAfter (refused n at) ps = ps
+  placesAfter opened ps = ps
+  placesAfter (edited w p k ns) ps = ns ++ drop (length ns) ps
+  placesAfter (notYet k) ps = ps
+  placesAfter (finished k v) ps = ps
+
+  pub record Outcome : Type 0 where
+    pub answer : Answer
+    pub state : State
+
+  -- A declined call changes nothing. Its tests are made in the order in which they are written.
+  abbrev pub refuse : ℕ → ℕ → State → Outcome
+  refuse n at s = record { answer = refused n at; state = s }
+
+  abbrev pub refuseIf : Bool → ℕ → State → Outcome → Outcome
+  refuseIf test n s accepted = cond test (refuse n 0 s) accepted
+
+  -- Open: the recording is stored, forms and marks are cleared.
+  abbrev pub start : List Reading → State
+  start r = record { recording = r; entries = [] }
+
+  abbrev pub openedWith : List Reading → Outcome
+  openedWith r = record { answer = opened; state = start r }
+
+  unfoldable pub onOpen : State → Bool → List Reading → Outcome
+  onOpen s enough r = refuseIf (ltb readingsMost (length r)) 2 s (refuseIf (not enough) 3 s (openedWith r))
+
+  -- Edit: each form not yet held takes the next number, unmarked.
+  abbrev pub unmarked : Form → Entry
+  unmarked f = record { form = f; mark = none }
+
+  unfoldable pub hold : Form → List Entry → List Entry
+  hold f es = cond (member same f (forms es)) es (es ++ (unmarked f ∷ []))
+
+  unfoldable pub holdAll : List Form → List Entry → List Entry
+  holdAll [] es = es
+  holdAll (f ∷ fs) es = holdAll fs (hold f es)
+
+  abbrev pub numberOf : List Entry → Form → ℕ
+  numberOf es f = index same f (forms es)
+
+  abbrev pub editedTo : State → List Entry → List Form → Form → Outcome
+  editedTo s es places whole =
+      record {
+        answer = edited (numberOf es whole) (length places) (length es - length (s .entries)) (map (numberOf es) places);
+        state = record { recording = s .recording; entries = es }
+      }
+
+  unfoldable pub bind : State → Parsed Form → Outcome
+  bind s (rejected n at) = refuse n at s
+  bind s (parts order places whole) =
+      let es : List Entry = holdAll order (s .entries) in
+      refuseIf (ltb entriesMost (length es)) 13 s (editedTo s es places whole)
+
+  unfoldable pub onEdit : State → Bool → List ℕ → List ℕ → Outcome
+  onEdit s enough places text =
+      refuseIf (ltb textBytes (length text)) 1 s (refuseIf (not enough || ltb (length places) partsMost) 3 s (bind s (read text)))
+
+  -- Preview: the unmarked members and functions at or below the form, how many they are, and the entries with the a lowest of them marked.
+  unfoldable pub pending : Form → Entry → Bool
+  pending f e = not (marked e) && (works (e .form) && reach (e .form) f)
+
+  abbrev pub left : Form → List Entry → ℕ
+  left f = countIf (pending f)
+
+  abbrev pub markWith : List Reading → Entry → Entry
+  markWith r e = record { form = e .form; mark = some (shows r (e .form)) }
+
+  abbrev pub workOut : List Reading → ℕ → Form → List Entry → List Entry
+  workOut r a f = onFirsts (pending f) (markWith r) a
+
+  abbrev pub previewed : State → ℕ → Form → Outcome
+  previewed s a f =
+      let es : List Entry = workOut (s .recording) a f (s .entries) in
+      let k : ℕ = min a (left f (s .entries)) in
+      record { answer = cond (eqb (left f es) 0) (finished k (shows (s .recording) f)) (notYet k); state = record { recording = s .recording; entries = es } }
+
+  unfoldable pub look : State → ℕ → Option Form → Outcome
+  look s a none = refuse 14 0 s
+  look s a (some f) = previewed s a f
+
+  unfoldable pub onPreview : State → Bool → ℕ → ℕ → Outcome
+  onPreview s enough n a = refuseIf (not enough) 3 s (look s a (getElem? (forms (s .entries)) n))
+
+  -- Any call.
+  unfoldable pub onRequest : State → Bool → Request → Outcome
+  onRequest s enough (Open r) = onOpen s enough r
+  onRequest s enough (Edit places text) = onEdit s enough places text
+  onRequest s enough (Preview n a) = onPreview s enough n a
+
+  abbrev pub respond : State → Call → Outcome
+  respond s c = onRequest s (c .enough) (c .request)
+
+  abbrev pub answer : State → Call → Answer
+  answer s c = respond s c .answer
+
+  abbrev pub next : State → Call → State
+  next s c = respond s c .state

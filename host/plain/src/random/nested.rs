@@ -1,0 +1,62 @@
+//! Random formulas in which functions run within runs of functions.
+
+use super::formula::{Kind, NAMES, Writer};
+use super::rng::Rng;
+
+/// A formula as its tokens. Some of its functions stand in lets.
+pub fn nested(rng: &mut Rng) -> Vec<String> {
+    let mut writer = Writer::new(rng);
+    for _ in 0..writer.rng.below(3) {
+        let name = writer.rng.pick(&NAMES);
+        writer.put(&["let", name, "="]);
+        writer.nested_lambda(1);
+        writer.put(&["in"]);
+        writer.scope.push((name, Kind::Function));
+    }
+    writer.nested_run(2);
+    writer.tokens
+}
+
+impl Writer<'_> {
+    /// A run of a function over some part of the recording, in one level of runs or
+    /// more.
+    fn nested_run(&mut self, levels: u32) {
+        self.put(&["data"]);
+        if self.rng.one_in(2) {
+            let member = self.rng.pick(&["skip", "take"]);
+            self.put(&[".", member, "("]);
+            self.name_or(Kind::Number, "1");
+            self.put(&[")"]);
+        }
+        let member = self.rng.pick(&["sumBy", "sumBy", "countWhere", "longestRun"]);
+        self.put(&[".", member, "("]);
+        let has_function = self.scope.iter().any(|(_, kind)| *kind == Kind::Function);
+        if self.lambdas.len() == 2 || has_function && self.rng.one_in(3) {
+            self.name_or(Kind::Function, "data");
+        } else {
+            self.nested_lambda(levels - 1);
+        }
+        self.put(&[")"]);
+    }
+
+    /// A lambda that mostly gives numbers, by a run inside it if levels are left.
+    fn nested_lambda(&mut self, levels: u32) {
+        let outer = self.lambdas.clone();
+        let free: Vec<&str> = NAMES.into_iter().filter(|name| !outer.contains(name)).collect();
+        let name = self.rng.pick(&free);
+        self.put(&["\\", name, "->"]);
+        self.lambdas.push(name);
+        self.scope.push((name, Kind::Number));
+        if levels > 0 && !self.rng.one_in(4) {
+            self.nested_run(levels);
+        } else {
+            self.name_or(Kind::Number, "2");
+        }
+        let member = self.rng.pick(&["add", "sub", "mul", "div", "gt", "gt", "eq"]);
+        self.put(&[".", member, "("]);
+        self.name_or(Kind::Number, "150");
+        self.put(&[")"]);
+        self.scope.pop();
+        self.lambdas.pop();
+    }
+}

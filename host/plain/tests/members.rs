@@ -1,0 +1,249 @@
+//! What members, functions and names show.
+
+mod common;
+
+use common::{check_shown, delayed, function, missing, number, shown, window};
+
+#[test]
+fn numbers() {
+    check_shown(&[
+        ("2.add(3)", number(5)),
+        ("2.sub(3)", number(-1)),
+        ("-4.mul(3)", number(-12)),
+        ("7.div(2)", number(3)),
+        ("7.div(-2)", number(-3)),
+        ("-7.div(-2)", number(3)),
+        ("-1.div(2)", number(0)),
+        ("0.div(5)", number(0)),
+        ("-2147483648.div(1)", number(i32::MIN)),
+        ("-2147483648.div(2147483647)", number(-1)),
+        ("3.gt(2)", number(1)),
+        ("2.gt(2)", number(0)),
+        ("-2147483648.gt(2147483647)", number(0)),
+        ("2.eq(2)", number(1)),
+        ("2.eq(-2)", number(0)),
+        ("2147483647.add(-2147483648)", number(-1)),
+        ("46340.mul(46340)", number(2_147_395_600)),
+        ("-65536.mul(32768)", number(i32::MIN)),
+    ]);
+}
+
+#[test]
+fn results_beyond_32_bits() {
+    check_shown(&[
+        ("2147483647.add(1)", missing(4)),
+        ("-2147483648.sub(1)", missing(4)),
+        ("46341.mul(46341)", missing(4)),
+        ("-2147483648.mul(-2147483648)", missing(4)),
+        ("65536.mul(32768)", missing(4)),
+        ("0.sub(-2147483648)", missing(4)),
+    ]);
+}
+
+#[test]
+fn windows() {
+    check_shown(&[
+        ("data", window(0, 5)),
+        ("data.skip(0)", window(0, 5)),
+        ("data.skip(5)", window(5, 0)),
+        ("data.skip(2147483647)", window(5, 0)),
+        ("data.skip(-1)", missing(5)),
+        ("data.take(0)", window(0, 0)),
+        ("data.take(5)", window(0, 5)),
+        ("data.take(6)", window(0, 5)),
+        ("data.take(-1)", missing(5)),
+        ("data.skip(2).take(0)", window(2, 0)),
+        ("data.take(2).skip(9)", window(2, 0)),
+        ("data.skip(1).skip(2)", window(3, 2)),
+        ("data.skip(9).skip(1)", window(5, 0)),
+        ("data.skip(9).take(1)", window(5, 0)),
+        ("data.count()", number(5)),
+        ("data.skip(4).count()", number(1)),
+        ("data.min()", number(140)),
+        ("data.max()", number(160)),
+        ("data.skip(3).max()", number(155)),
+        ("data.take(0).max()", missing(5)),
+        ("data.take(0).sum()", number(0)),
+        ("data.at(0)", number(140)),
+        ("data.at(4)", number(155)),
+        ("data.at(5)", missing(5)),
+        ("data.at(-1)", missing(5)),
+        ("data.skip(3).at(1)", number(155)),
+        ("data.take(2).at(2)", missing(5)),
+    ]);
+}
+
+#[test]
+fn sums_are_exact_up_to_the_final_total() {
+    let recording = [i32::MAX, i32::MAX, i32::MIN, i32::MIN, 5];
+    assert_eq!(shown(&recording, "data.sum()"), number(3));
+    assert_eq!(shown(&recording, "data.take(2).sum()"), missing(4));
+    assert_eq!(shown(&recording, "data.take(4).sum()"), number(-2));
+    assert_eq!(shown(&recording, "data.sumBy(\\a -> a)"), number(3));
+    assert_eq!(shown(&recording, "data.skip(2).sumBy(\\a -> a)"), missing(4));
+    assert_eq!(shown(&[i32::MIN; 1024], "data.sum()"), missing(4));
+}
+
+#[test]
+fn runs() {
+    check_shown(&[
+        ("data.countWhere(\\b -> 1)", number(5)),
+        ("data.countWhere(\\b -> 0)", number(0)),
+        ("data.countWhere(\\b -> -1)", number(5)),
+        ("data.longestRun(\\b -> b.gt(150))", number(2)),
+        ("data.longestRun(\\b -> 0)", number(0)),
+        ("data.longestRun(\\b -> b)", number(5)),
+        ("data.take(0).longestRun(\\b -> b)", number(0)),
+        ("data.sumBy(\\b -> b.sub(150))", number(5)),
+        ("data.skip(3).sumBy(\\b -> b)", number(303)),
+        ("data.sumBy(\\b -> data.at(b.sub(b)))", number(700)),
+        ("data.sumBy(\\b -> data)", missing(2)),
+        ("data.sumBy(\\b -> \\c -> 1)", missing(2)),
+        ("data.sumBy(\\b -> \\c -> b)", missing(2)),
+        ("data.take(0).sumBy(\\b -> data)", number(0)),
+        ("data.sumBy(\\b -> 1.div(b.sub(160)))", missing(3)),
+        ("data.take(2).sumBy(\\b -> 1.div(b.sub(160)))", number(0)),
+    ]);
+}
+
+#[test]
+fn the_first_run_without_a_number_decides() {
+    let text = "data.sumBy(\\b -> 1.div(b).add(data.at(b)))";
+    assert_eq!(shown(&[1, 1, 0, 9], text), missing(3));
+    assert_eq!(shown(&[1, 1, 9, 0], text), missing(5));
+    assert_eq!(shown(&[1, 1], text), number(4));
+    let wide = "data.sumBy(\\b -> b.mul(b))";
+    assert_eq!(shown(&[40000, 40000], wide), missing(4));
+    assert_eq!(shown(&[30000, 30000], wide), number(1_800_000_000));
+}
+
+/// Each run's result is tested for 32 bits by the member inside; the total is exact.
+#[test]
+fn totals_of_runs_are_exact() {
+    let recording = [2_000_000_000, 2_000_000_000, -2_000_000_000];
+    assert_eq!(shown(&recording, "data.sumBy(\\b -> b)"), number(2_000_000_000));
+}
+
+#[test]
+fn missing_comes_before_delayed_and_the_first_missing_decides() {
+    check_shown(&[
+        ("y", missing(1)),
+        ("y.add(1.div(0))", missing(1)),
+        ("1.div(0).add(y)", missing(3)),
+        ("data.skip(-1).skip(y)", missing(5)),
+        ("\\a -> a.add(y)", missing(1)),
+        ("\\a -> y.add(a)", missing(1)),
+        ("\\a -> 1.div(0)", missing(3)),
+        ("\\a -> a.add(1.div(0).add(y))", missing(3)),
+        ("data.sumBy(\\a -> y)", missing(1)),
+        ("y.sumBy(\\a -> 1.div(0))", missing(1)),
+    ]);
+}
+
+#[test]
+fn delay_comes_before_kinds() {
+    let mut model = common::opened(&[1, 2]);
+    let (_, _, places) = common::edited(&mut model, "\\a -> data.add(a)");
+    let call = plain::samples::preview(places[2], 512);
+    let expected = plain::model::Answer::Finished { worked: 1, shown: delayed(&["a"]) };
+    assert_eq!(model.call(&call), expected);
+    check_shown(&[
+        ("\\a -> data.add(a)", function("a")),
+        ("data.sumBy(\\a -> data.add(a))", missing(2)),
+        ("data.take(0).sumBy(\\a -> data.add(a))", number(0)),
+    ]);
+}
+
+#[test]
+fn kinds() {
+    check_shown(&[
+        ("data.add(1)", missing(2)),
+        ("(\\a -> a).add(1)", missing(2)),
+        ("1.add(\\a -> a)", missing(2)),
+        ("1.sum()", missing(2)),
+        ("1.count()", missing(2)),
+        ("1.skip(1)", missing(2)),
+        ("data.skip(data)", missing(2)),
+        ("data.take(\\a -> a)", missing(2)),
+        ("data.at(data)", missing(2)),
+        ("data.sumBy(1)", missing(2)),
+        ("data.sumBy(data)", missing(2)),
+        ("data.take(0).sumBy(1)", missing(2)),
+        ("1.sumBy(\\a -> a)", missing(2)),
+        ("data.gt(0)", missing(2)),
+        ("data.eq(data)", missing(2)),
+        ("data.div(0)", missing(2)),
+        ("data.add(1).div(0)", missing(2)),
+    ]);
+}
+
+#[test]
+fn functions_show_their_names() {
+    check_shown(&[
+        ("\\a -> a", function("a")),
+        ("\\abcdefgh -> 1", function("abcdefgh")),
+        ("\\a -> \\b -> a", function("a")),
+        ("let f = \\a -> a in \\b -> f", function("b")),
+        ("\\a -> data", function("a")),
+    ]);
+}
+
+/// The places of a text show their own parts.
+#[test]
+fn delayed_names_stand_by_first_occurrence() {
+    let rows: [(&str, usize, &[&str]); 8] = [
+        ("\\a -> a", 1, &["a"]),
+        ("\\a -> \\b -> a.add(b)", 3, &["a", "b"]),
+        ("\\a -> \\b -> b.add(a)", 3, &["b", "a"]),
+        ("\\a -> \\b -> b.add(a)", 1, &["a"]),
+        ("\\a -> \\b -> b.add(a).add(b)", 5, &["b", "a"]),
+        ("\\a -> \\b -> 1.add(b).add(b.add(a))", 6, &["b"]),
+        ("\\a -> \\b -> 1.add(b).add(a.add(b))", 5, &["b", "a"]),
+        ("\\a -> data.sumBy(\\b -> b.add(a)).add(a)", 2, &["a"]),
+    ];
+    for (text, place, names) in rows {
+        let mut model = common::opened(&[1, 2]);
+        let (_, _, places) = common::edited(&mut model, text);
+        let answer = model.call(&plain::samples::preview(places[place], 512));
+        match answer {
+            plain::model::Answer::Finished { shown, .. } => {
+                assert_eq!(shown, delayed(names), "{text} at {place}")
+            }
+            other => panic!("{text}: {other:?}"),
+        }
+    }
+}
+
+/// A function with a missing body is missing, even if never run. In a run the number
+/// stands in the body, so an inner function may become missing.
+#[test]
+fn missing_bodies() {
+    let text = "data.sumBy(\\p -> data.take(0).countWhere(\\q -> 1.div(p)))";
+    assert_eq!(shown(&[1, 2], text), number(0));
+    assert_eq!(shown(&[1, 0], text), missing(3));
+    assert_eq!(shown(&[], text), number(0));
+    check_shown(&[
+        ("data.take(0).sumBy(\\a -> y)", missing(1)),
+        ("data.take(0).sumBy(\\a -> a.add(data.at(9)))", missing(5)),
+        ("data.take(0).sumBy(\\a -> 1.add(data))", missing(2)),
+    ]);
+}
+
+/// The inner `x` is the inner lambda's own while the outer `x` has a number.
+#[test]
+fn a_function_keeps_its_own_variable_under_a_run_of_its_twin() {
+    let text = "let h = \\y -> data.skip(1).sumBy(\\x -> y.div(x)) in \
+                data.sumBy(\\x -> data.skip(x).sumBy(h))";
+    assert_eq!(shown(&[0, 2, 3], text), number(5));
+    let twin = "let f = \\a -> a.mul(10) in data.sumBy(\\a -> data.take(a).sumBy(f))";
+    assert_eq!(shown(&[1, 2], twin), number(10 + 30));
+}
+
+#[test]
+fn lets_are_not_evaluated_strictly() {
+    check_shown(&[
+        ("let u = y in 1", number(1)),
+        ("let u = data.at(9) in data.count()", number(5)),
+        ("let u = \\a -> y in let v = u in 2", number(2)),
+    ]);
+}
