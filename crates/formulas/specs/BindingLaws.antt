@@ -97,6 +97,7 @@ onward pre q f u s k q' s' = k q' (λ x i. s' x (s x i))
 
 mutual
   unfolding orderE formE called
+
   orderedE : (e : Expression) (Γ : List Meaning) (u pre : List Form) → Grounded Γ pre → Then pre (formE e Γ) u → Ordered formulas pre (orderE e Γ u)
   orderedE (letIn x a b) Γ u pre g k =
       orderedE a Γ (orderE b (means x (formE a Γ) ∷ Γ) u) pre g
@@ -141,6 +142,7 @@ ordered e = orderedE e [] [] [] tt (λ q s i h. tt)
 -- what is in u is in the list that goes on with u, and so is the form of the expression
 mutual
   unfolding orderE formE called
+
   restE : (e : Expression) (Γ : List Meaning) (u : List Form) → Sub u (orderE e Γ u)
   restE (letIn x a b) Γ u f i = restE a Γ (orderE b (means x (formE a Γ) ∷ Γ) u) f (restE b (means x (formE a Γ) ∷ Γ) u f i)
   restE (lambda x b) Γ u f i = restE b (asLambda x Γ) _ f (in-more _ u f i)
@@ -163,6 +165,7 @@ mutual
 -- the form of a receiver with its calls is in any list that has the receiver's and what its calls add
 mutual
   unfolding orderE formE called
+
   wholeE : (e : Expression) (Γ : List Meaning) (u : List Form) → In (formE e Γ) (orderE e Γ u)
   wholeE (letIn x a b) Γ u = restE a Γ _ _ (wholeE b (means x (formE a Γ) ∷ Γ) u)
   wholeE (lambda x b) Γ u = restE b (asLambda x Γ) _ _ (in-self _ u)
@@ -199,11 +202,13 @@ ownA (first e x) m f Γ u l s = ownM x (Form.call (member m) f (formE e Γ)) Γ 
 
 mutual
   unfolding orderE placesE formE called
+
   placedE : (e : Expression) (Γ : List Meaning) (u v l : List Form) → Sub (orderE e Γ u) l → AllIn l v → AllIn l (placesE e Γ v)
-  placedE (letIn x a b) Γ u v l s h =
-      (s _ (wholeE (letIn x a b) Γ u),
-      placedE a Γ (orderE b (means x (formE a Γ) ∷ Γ) u) _ l s
-      (placedE b (means x (formE a Γ) ∷ Γ) u v l (λ f i. s f (restE a Γ _ f i)) h))
+  placedE (letIn x a b) Γ u v l s h = (
+    s _ (wholeE (letIn x a b) Γ u),
+    placedE a Γ (orderE b (means x (formE a Γ) ∷ Γ) u) _ l s
+        (placedE b (means x (formE a Γ) ∷ Γ) u v l (λ f i. s f (restE a Γ _ f i)) h),
+  )
   placedE (lambda x b) Γ u v l s h = (s _ (wholeE (lambda x b) Γ u), placedE b (asLambda x Γ) _ v l s h)
   placedE (name x r) Γ u v l s h = (s _ (in-self _ _), placedC r (named x Γ) Γ u v l (λ f i. s f (in-more _ _ f i)) h)
   placedE (literal z r) Γ u v l s h = (s _ (in-self _ _), placedC r (number z) Γ u v l (λ f i. s f (in-more _ _ f i)) h)

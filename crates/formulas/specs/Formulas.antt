@@ -31,5 +31,5 @@ formulas =
       reach = within;
       works = works;
       shows = shows;
-      read = λ text. parsed (readText text)
+      read = λ text. parsed (readText text);
     }

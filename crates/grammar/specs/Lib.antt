@@ -3,3 +3,11 @@ pub mod Grammar
 pub mod Faults
 pub mod Reading
 pub mod Machine
+pub mod MachineLaws
+pub mod ReadLaws
+pub mod KeptLimits
+pub mod FaultLaws
+pub mod KeptLimitsLaws
+pub mod Places
+pub mod ReadingLaws
+pub mod Theorems

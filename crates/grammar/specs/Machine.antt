@@ -10,7 +10,7 @@ use Rattle.language.specs.Members.{memberOf, isUnknown, takes}
 use Rattle.grammar.specs.Tokens.{Token, kLet, kIn, kEquals, kLambda, kArrow, kDot, kOpen, kShut, kComma, word, number, other}
 use Rattle.grammar.specs.Grammar.{Expression, Calls, Arguments, More, letIn, lambda, name, literal, bracket, done, call, none, first, last, next}
 use Rattle.grammar.specs.Grammar.{spellE, spellC, spellA, spellM}
-use Rattle.grammar.specs.Faults.{Fault, fine, Around, outermost, opened, inLet, inLambda, deep, markFault, lambdaFault, letNameFault, lambdaNameFault}
+use Rattle.grammar.specs.Faults.{fine, Around, outermost, opened, inLet, inLambda, deep, markFault, lambdaFault, letNameFault, lambdaNameFault}
 use Rattle.grammar.specs.Faults.{nameFault, literalFault, callFault, Note, note, plain, notesE, notesC, notesA, notesM, fault, counted}
 use Rattle.grammar.specs.Reading.{Reading, tree, refused, placeOf, tokensOf}
 
@@ -219,7 +219,8 @@ stepOver (argument k d ∷ F) kShut = go (note (callFault (leb 1 k)) false) (at 
 stepOver [] kComma = stop
 stepOver (value x d ∷ F) kComma = stop
 stepOver (brackets d ∷ F) kComma = stop
-stepOver (argument k d ∷ F) kComma = go (note (callFault (eqb k 0)) false) (at (expression false (opened d)) (argument (k - 1) d ∷ F)) (λ q. (tt, (next (q .0) (q .1 .0), q .1 .1))) (λ q. refl) (λ q. refl)
+stepOver (argument k d ∷ F) kComma =
+    go (note (callFault (eqb k 0)) false) (at (expression false (opened d)) (argument (k - 1) d ∷ F)) (λ q. (tt, (next (q .0) (q .1 .0), q .1 .1))) (λ q. refl) (λ q. refl)
 stepOver F (word x) = stop
 stepOver F (number z) = stop
 stepOver F (other b) = stop

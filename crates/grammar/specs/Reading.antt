@@ -1,7 +1,6 @@
 -- 01, "When a call is declined", refusals 5 to 12: what it means that tokens, and a text, are read as a tree or refused at a place.
 -- Assumes nothing: these are definitions. That the reader of Machine does just this is in Theorems.
 use mathlib.Core.Path.{_≡_}
-use mathlib.Core.Bool.{Bool, true, false}
 use mathlib.Core.List.{List, [], _∷_, map}
 use Prim.Native.Nat.{ℕ, zero, suc}
 use lib.ListN.{length, take, getD}
@@ -20,6 +19,8 @@ AgreesTo j ts e = take j (spellE e []) ≡ take j ts
 
 -- refused by the number n at token j; j is the number of tokens where the end is refused
 pub record RefusedBy (ts : List Token) (n j : ℕ) : Type 0 where
+  -- 0 stands for no fault
+  pub refusal : ¬ (n ≡ 0)
   -- a grammatical text begins with the tokens before j, and where n is not 5 also with token j
   pub before : (e : Expression) × AgreesTo j ts e
   pub beyond : ¬ (n ≡ 5) → (e : Expression) × AgreesTo (suc j) ts e

@@ -4,8 +4,8 @@ use mathlib.Core.List.{List, [], _∷_}
 use Prim.Native.Nat.{ℕ, zero, suc, _+_, _*_, _-_}
 use lib.Dec.{eqb}
 use lib.IntN.{ℤ, pos, negℤ}
-use lib.ListN.{length, take}
-use Rattle.language.specs.Names.{isLetter, isDigit, inWord, isBlank, letWord, inWord!}
+use lib.ListN.{take}
+use Rattle.language.specs.Names.{isLetter, isDigit, inWord, isBlank, letWord, inWord! }
 use Rattle.language.specs.Members.{sameBytes}
 
 pub data Token : Type 0 where

@@ -1,3 +1,5 @@
 pub mod Limits
 pub mod Names
+pub mod NamesLaws
 pub mod Members
+pub mod MembersLaws

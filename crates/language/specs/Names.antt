@@ -1,9 +1,9 @@
 -- 01, "The text": bytes, words and names. A name is kept as one number, its bytes packed in base 256, the first byte highest.
 -- Assumes nothing: these are definitions. That packing loses nothing is in NamesLaws.
-use mathlib.Core.Bool.{Bool, true, false, _&&_, _||_}
+use mathlib.Core.Bool.{Bool, _&&_, _||_}
 use mathlib.Core.List.{List, [], _∷_}
 use Prim.Native.Nat.{ℕ, _+_, _*_}
-use Prim.Native.Char.{Char, code}
+use Prim.Native.Char.{code}
 use Prim.Native.String.{String, [] as emptyText, _∷_ as _then_}
 use lib.Dec.{leb, ltb, eqb}
 use lib.ListN.{length}

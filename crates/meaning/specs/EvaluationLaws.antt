@@ -113,4 +113,3 @@ module _ (xs : List ℤ) (x : ℕ) (z : ℤ) where
       (ap valueOf (evaluate-alike xs _ _ b (alike-swap x y (Number z) Delayed ρ e) ∙ evaluate-put (bind y Delayed ρ) b))
       (settled-alike _ _ b (alike-swap x y (Number z) (Number (pos 0)) ρ e) ∙ settled-put (bind y (Number (pos 0)) ρ) b)
       (λ a. evaluate-alike xs _ _ b (alike-swap x y (Number z) (Number a) ρ e) ∙ evaluate-put (bind y (Number a) ρ) b)))
-

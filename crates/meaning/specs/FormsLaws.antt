@@ -50,7 +50,7 @@ sameℤ-self : (a : ℤ) → sameℤ a a ≡ true
 sameℤ-self (pos m) = eq-eqb m m refl
 sameℤ-self (negsuc m) = eq-eqb m m refl
 
-found : (m : Member) → foundIn members (memberNumber m) ≡ Is m
+pub found : (m : Member) → foundIn members (memberNumber m) ≡ Is m
 found Add = refl
 found Sub = refl
 found Mul = refl
@@ -68,7 +68,7 @@ found CountWhere = refl
 found LongestRun = refl
 found SumBy = refl
 
-sameMember-eq : (m n : Member) → sameMember m n ≡ true → m ≡ n
+pub sameMember-eq : (m n : Member) → sameMember m n ≡ true → m ≡ n
 sameMember-eq m n h =
     let e : Is m ≡ Is n = sym (found m) ∙ ap (foundIn members) (eqb-true (memberNumber m) (memberNumber n) h) ∙ found n in
     cc

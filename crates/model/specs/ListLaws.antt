@@ -1,14 +1,14 @@
 -- Laws of the list definitions and of reading a list by number. Assumes nothing.
 use mathlib.Core.Path.{_≡_, refl, sym, ap, _∙_, subst}
 use mathlib.Core.Logic.{_⊎_, inl, inr}
-use mathlib.Core.Bool.{Bool, true, false, cond, not}
-use mathlib.Core.List.{List, [], _∷_, _++_, map, append-nil, append-assoc, List·Memᴰ, List·Memᴰ·head, List·Memᴰ·tail}
-use mathlib.Core.Option.{Option, none, some}
+use mathlib.Core.Bool.{Bool, true, false, not}
+use mathlib.Core.List.{List, [], _∷_, _++_, map, List·Memᴰ, List·Memᴰ·head, List·Memᴰ·tail}
+use mathlib.Core.Option.{some}
 use Prim.Native.Nat.{ℕ, zero, suc, _+_, _-_, _≤_, _<_, min}
 use native.Mathlib.Omega.{arith}
 use native.Mathlib.Decide.{decLt}
-use lib.ListN.{length, getElem?, length-append}
-use Rattle.model.specs.Lists.{All, countIf, firsts, onFirsts, member, index, occurrences, insert, insertAll, Distinct}
+use lib.ListN.{length, getD, getElem?, length-append}
+use Rattle.model.specs.Lists.{All, countIf, firsts, onFirsts, member, index, insert, insertAll, Distinct}
 use Rattle.model.specs.Cases.{impossible, split}
 
 -- Elements by number.
@@ -35,7 +35,12 @@ module _ {A : Type 0} where
   nth-last [] x = refl
   nth-last (y ∷ ys) x = nth-last ys x
 
-  pub old-or-last : (xs : List A) (x : A) (i : ℕ) (y : A) → getElem? (xs ++ (x ∷ [])) i ≡ some y → ((i < length xs) × (getElem? xs i ≡ some y)) ⊎ ((i ≡ length xs) × (x ≡ y))
+  pub nth-seam : (xs : List A) (x : A) (ys : List A) → getElem? (xs ++ (x ∷ ys)) (length xs) ≡ some x
+  nth-seam [] x ys = refl
+  nth-seam (z ∷ zs) x ys = nth-seam zs x ys
+
+  pub old-or-last : (xs : List A) (x : A) (i : ℕ) (y : A) → getElem? (xs ++ (x ∷ [])) i ≡ some y
+      → ((i < length xs) × (getElem? xs i ≡ some y)) ⊎ ((i ≡ length xs) × (x ≡ y))
   old-or-last xs x i y e =
       elim (decLt i (length xs)) [
         | yes less ↦ inl (less, sym (nth-front xs (x ∷ []) i less) ∙ e)
@@ -46,6 +51,14 @@ module _ {A : Type 0} where
             let w : some x ≡ some y = sym (nth-last xs x) ∙ subst (λ (k : ℕ). getElem? (xs ++ (x ∷ [])) k ≡ some y) q e in
             inr (q, cc)
       ]
+
+  pub getD-nth : (xs : List A) (n : ℕ) (x d : A) → getElem? xs n ≡ some x → getD xs n d ≡ x
+  getD-nth [] n x d e = impossible (cc)
+  getD-nth (y ∷ ys) zero x d e = cc
+  getD-nth (y ∷ ys) (suc n) x d e = getD-nth ys n x d e
+
+  pub getD-last : (xs : List A) (x : A) (n : ℕ) (d : A) → n ≡ length xs → getD (xs ++ (x ∷ [])) n d ≡ x
+  getD-last xs x n d q = getD-nth (xs ++ (x ∷ [])) n x d (ap (getElem? (xs ++ (x ∷ []))) q ∙ nth-last xs x)
 
   pub length-snoc : (xs : List A) (x : A) → length (xs ++ (x ∷ [])) ≡ suc (length xs)
   length-snoc xs x = length-append xs (x ∷ []) ∙ omega arith
@@ -74,6 +87,11 @@ module _ {A : Type 0} (P : A → Type 0) where
   all-map g [] h = tt
   all-map g (y ∷ ys) h = (h .0, all-map g ys (h .1))
 
+  pub all-nth : (xs : List A) (n : ℕ) (x : A) → All P xs → getElem? xs n ≡ some x → P x
+  all-nth [] n x p e = impossible (cc)
+  all-nth (y ∷ ys) zero x p e = let q : y ≡ x = cc in subst P q (p .0)
+  all-nth (y ∷ ys) (suc n) x p e = all-nth ys n x (p .1) e
+
   pub all-in : (xs : List A) (x : A) → List·Memᴰ x xs → All P xs → P x
   all-in xs x (List·Memᴰ·head e) p = subst P (sym e) (p .0)
   all-in xs x (List·Memᴰ·tail i) p = all-in _ x i (p .1)
@@ -89,6 +107,11 @@ module _ {A : Type 0} (p : A → Bool) where
   unfolding countIf
   count-none [] h = refl
   count-none (x ∷ xs) h = rw (h .0) (count-none xs (h .1))
+
+  pub count-none-nth : (xs : List A) → ((i : ℕ) (x : A) → getElem? xs i ≡ some x → p x ≡ false) → countIf p xs ≡ 0
+  unfolding countIf
+  count-none-nth [] h = refl
+  count-none-nth (x ∷ xs) h = rw (h 0 x refl) (count-none-nth xs (λ i. h (suc i)))
 
   pub count-every : ((x : A) → p x ≡ true) → (xs : List A) → countIf p xs ≡ length xs
   unfolding countIf
@@ -126,6 +149,17 @@ module _ {A : Type 0} (p : A → Bool) (g : A → A) where
   on-all P new n [] h = tt
   on-all P new zero (x ∷ xs) h = h
   on-all P new (suc n) (x ∷ xs) h = split (p x) (λ q. rw q (new x q, on-all P new n xs (h .1))) (λ q. rw q (h .0, on-all P new (suc n) xs (h .1)))
+
+  pub on-zero : (xs : List A) → onFirsts p g zero xs ≡ xs
+  unfolding onFirsts
+  on-zero [] = refl
+  on-zero (x ∷ xs) = refl
+
+  pub on-none : (n : ℕ) (xs : List A) → ((i : ℕ) (x : A) → getElem? xs i ≡ some x → p x ≡ false) → onFirsts p g n xs ≡ xs
+  unfolding onFirsts
+  on-none n [] h = refl
+  on-none zero (x ∷ xs) h = refl
+  on-none (suc n) (x ∷ xs) h = rw (h 0 x refl) (ap (λ (l : List A). x ∷ l) (on-none (suc n) xs (λ i. h (suc i))))
 
   -- an element that fails the test stays
   pub on-nth : (n : ℕ) (xs : List A) (i : ℕ) (x : A) → p x ≡ false → getElem? xs i ≡ some x → getElem? (onFirsts p g n xs) i ≡ some x
@@ -240,9 +274,14 @@ module _ {A : Type 0} {same : A → A → Bool} (Q : Equality same) where
       misses (z ∷ zs) m p = split (same z y) (λ q. impossible (sym (rw q at m))) (λ q. rw q (misses zs (rw q at m) p))
 
   -- by cases on an insertion: the list is as before, or extended
-  pub insert-by : (P : List A → Type 0) (x : A) (xs : List A) → (member same x xs ≡ true → P xs) → (member same x xs ≡ false → P (xs ++ (x ∷ []))) → P (insert same x xs)
+  pub insert-by : (P : List A → Type 0) (x : A) (xs : List A) → (member same x xs ≡ true → P xs) → (member same x xs ≡ false → P (xs ++ (x ∷ [])))
+      → P (insert same x xs)
   unfolding insert
   insert-by P x xs old new = split (member same x xs) (λ p. rw p (old p)) (λ p. rw p (new p))
+
+  pub insert-old : (x : A) (xs : List A) → member same x xs ≡ true → insert same x xs ≡ xs
+  unfolding insert
+  insert-old x xs h = rw h
 
   pub insert-has : (x : A) (xs : List A) → member same x (insert same x xs) ≡ true
   insert-has x xs = insert-by (λ (l : List A). member same x l ≡ true) x xs (λ p. p) (λ p. member-last x xs)
@@ -260,7 +299,8 @@ module _ {A : Type 0} {same : A → A → Bool} (Q : Equality same) where
   index-insert x y xs h = insert-by (λ (l : List A). index same x l ≡ index same x xs) y xs (λ p. refl) (λ p. index-old x xs (y ∷ []) h)
 
   -- all of a list, one after the other: what each insertion keeps
-  pub insertAll-by : (P : List A → Type 0) → ((x : A) (xs : List A) → P xs → P (insert same x xs)) → (ys xs : List A) → P xs → P (insertAll same ys xs)
+  pub insertAll-by : (P : List A → Type 0) → ((x : A) (xs : List A) → P xs → P (insert same x xs)) → (ys xs : List A) → P xs
+      → P (insertAll same ys xs)
   unfolding insertAll
   insertAll-by P step [] xs h = h
   insertAll-by P step (y ∷ ys) xs h = insertAll-by P step ys (insert same y xs) (step y xs h)
@@ -290,4 +330,6 @@ module _ {A : Type 0} {same : A → A → Bool} (Q : Equality same) where
   pub all-insertAll : (P : A → Type 0) (ys xs : List A) → All P ys → All P xs → All P (insertAll same ys xs)
   unfolding insertAll
   all-insertAll P [] xs p q = q
-  all-insertAll P (y ∷ ys) xs p q = all-insertAll P ys (insert same y xs) (p .1) (insert-by (All P) y xs (λ h. q) (λ h. all-append P xs (y ∷ []) q (p .0, tt)))
+  all-insertAll P (y ∷ ys) xs p q =
+      all-insertAll P ys (insert same y xs) (p .1)
+      (insert-by (All P) y xs (λ h. q) (λ h. all-append P xs (y ∷ []) q (p .0, tt)))

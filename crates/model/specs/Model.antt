@@ -1,6 +1,6 @@
--- The reference model (01: the plain book): what it holds, and what each call answers and leaves.
--- Sections in the order of 01: 'The plain book', 'When a call is declined', 'Four calls'. Assumes nothing.
-use mathlib.Core.Bool.{Bool, true, false, cond, not, _&&_, _||_}
+-- The reference model (01: the plain book): what it holds, and what each call answers and leaves. The tests of a call stand in the order in
+-- which they are made, each with its number of 'When a call is declined'. Assumes nothing.
+use mathlib.Core.Bool.{Bool, cond, not, _&&_, _||_}
 use mathlib.Core.List.{List, [], _∷_, _++_, map}
 use mathlib.Core.Option.{Option, none, some}
 use Prim.Native.Nat.{ℕ, _-_, min}
@@ -28,7 +28,7 @@ module _ (L : Language) where
   abbrev pub marked : Entry → Bool
   marked e = isSome (e .mark)
 
-  -- What the model is fed: a call's arguments, an edit's lent places among them, and whether the memory lent has the cache's size.
+  -- What it is fed: a call's arguments, with an edit's lent places, and whether the memory lent has the cache's size.
   pub data Request : Type 0 where
     Open : (readings : List Reading) → Request
     Edit : (places text : List ℕ) → Request
@@ -38,12 +38,8 @@ module _ (L : Language) where
     pub enough : Bool
     pub request : Request
 
-  abbrev pub lentPlaces : Request → List ℕ
-  lentPlaces (Open r) = []
-  lentPlaces (Edit places text) = places
-  lentPlaces (Preview n a) = []
-
-  -- What it answers. A finished preview is one that does not say 'not yet'.
+  -- What it answers: a refusal's number and byte place; of an edit the whole's number, the number of parts, the number of forms added and each
+  -- part's number by place; of a preview how many it marked, and 'not yet' or what the form shows.
   pub data Answer : Type 0 where
     refused : (number place : ℕ) → Answer
     opened : Answer
@@ -51,33 +47,24 @@ module _ (L : Language) where
     notYet : (worked : ℕ) → Answer
     finished : (worked : ℕ) (shown : Shown) → Answer
 
-  -- 01's number and values of each answer: the refusal's number and byte place, 0 and 0 for an accepted call; the numbers given; what is shown
-  pub record Report : Type 0 where
-    pub number : ℕ
-    pub place : ℕ
-    pub values : List ℕ
-    pub shown : Option Shown
+  -- The lent places after an edit's answer: an accepted edit writes its parts' numbers to the first, and all others keep their contents.
+  unfoldable pub written : Answer → List ℕ → List ℕ
+  written (refused n at) places = places
+  written opened places = places
+  written (edited w p k numbers) places = numbers ++ drop (length numbers) places
+  written (notYet k) places = places
+  written (finished k v) places = places
 
-  abbrev pub report : Answer → Report
-  report (refused n at) = record { number = n; place = at; values = []; shown = none }
-  report opened = record { number = 0; place = 0; values = []; shown = none }
-  report (edited w p k ns) = record { number = 0; place = 0; values = w ∷ p ∷ k ∷ ns; shown = none }
-  report (notYet k) = record { number = 0; place = 0; values = k ∷ []; shown = none }
-  report (finished k v) = record { number = 0; place = 0; values = k ∷ []; shown = some v }
-
-  -- The lent places after an answer: an accepted edit writes its parts' numbers to the first, and all others keep their contents.
-  unfoldable pub placesAfter : Answer → List ℕ → List ℕ
-  placesAfter (refused n at) ps = ps
-  placesAfter opened ps = ps
-  placesAfter (edited w p k ns) ps = ns ++ drop (length ns) ps
-  placesAfter (notYet k) ps = ps
-  placesAfter (finished k v) ps = ps
+  abbrev pub placesAfter : Request → Answer → List ℕ
+  placesAfter (Open r) x = []
+  placesAfter (Edit places text) x = written x places
+  placesAfter (Preview n a) x = []
 
   pub record Outcome : Type 0 where
     pub answer : Answer
     pub state : State
 
-  -- A declined call changes nothing. Its tests are made in the order in which they are written.
+  -- A declined call changes nothing.
   abbrev pub refuse : ℕ → ℕ → State → Outcome
   refuse n at s = record { answer = refused n at; state = s }
 
@@ -94,7 +81,7 @@ module _ (L : Language) where
   unfoldable pub onOpen : State → Bool → List Reading → Outcome
   onOpen s enough r = refuseIf (ltb readingsMost (length r)) 2 s (refuseIf (not enough) 3 s (openedWith r))
 
-  -- Edit: each form not yet held takes the next number, unmarked.
+  -- Edit: each of the parts' forms that is not yet held takes the next number, unmarked.
   abbrev pub unmarked : Form → Entry
   unmarked f = record { form = f; mark = none }
 
@@ -112,7 +99,7 @@ module _ (L : Language) where
   editedTo s es places whole =
       record {
         answer = edited (numberOf es whole) (length places) (length es - length (s .entries)) (map (numberOf es) places);
-        state = record { recording = s .recording; entries = es }
+        state = record { recording = s .recording; entries = es };
       }
 
   unfoldable pub bind : State → Parsed Form → Outcome
@@ -125,7 +112,7 @@ module _ (L : Language) where
   onEdit s enough places text =
       refuseIf (ltb textBytes (length text)) 1 s (refuseIf (not enough || ltb (length places) partsMost) 3 s (bind s (read text)))
 
-  -- Preview: the unmarked members and functions at or below the form, how many they are, and the entries with the a lowest of them marked.
+  -- Preview: the unmarked members and functions at or below form f are pending. The a lowest are marked, or all if they are fewer.
   unfoldable pub pending : Form → Entry → Bool
   pending f e = not (marked e) && (works (e .form) && reach (e .form) f)
 
@@ -142,7 +129,10 @@ module _ (L : Language) where
   previewed s a f =
       let es : List Entry = workOut (s .recording) a f (s .entries) in
       let k : ℕ = min a (left f (s .entries)) in
-      record { answer = cond (eqb (left f es) 0) (finished k (shows (s .recording) f)) (notYet k); state = record { recording = s .recording; entries = es } }
+      record {
+        answer = cond (eqb (left f es) 0) (finished k (shows (s .recording) f)) (notYet k);
+        state = record { recording = s .recording; entries = es };
+      }
 
   unfoldable pub look : State → ℕ → Option Form → Outcome
   look s a none = refuse 14 0 s
@@ -151,7 +141,6 @@ module _ (L : Language) where
   unfoldable pub onPreview : State → Bool → ℕ → ℕ → Outcome
   onPreview s enough n a = refuseIf (not enough) 3 s (look s a (getElem? (forms (s .entries)) n))
 
-  -- Any call.
   unfoldable pub onRequest : State → Bool → Request → Outcome
   onRequest s enough (Open r) = onOpen s enough r
   onRequest s enough (Edit places text) = onEdit s enough places text

@@ -3,3 +3,4 @@ pub mod Numbers
 pub mod Windows
 pub mod Runs
 pub mod Apply
+pub mod Packing

@@ -20,7 +20,7 @@ use rng::Rng;
 
 /// Bound on the runs that one entry of a random text may need, so that a session
 /// takes little time.
-const MOST_RUNS: usize = 20_000;
+const MOST_RUNS: usize = 5_000;
 
 /// A session of `calls` calls. The first is an open that is accepted.
 pub fn session(seed: u64, calls: usize) -> Vec<Call> {

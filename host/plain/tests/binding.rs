@@ -6,6 +6,7 @@ use common::{edited, name, opened};
 use plain::form::Form;
 use plain::member::Member;
 use plain::model::Model;
+use plain::name::Name;
 use plain::samples::RECORDING;
 
 fn member(word: &str, operands: &[usize]) -> Form {
@@ -90,6 +91,11 @@ fn unequal_forms_have_two_entries() {
         "data.skip(2).take(1)",
         "a",
         "A",
+        "a1",
+        "abcdefgh",
+        "abcdefgi",
+        "abcdefg",
+        "bbcdefgh",
         "data",
         "data.count()",
         "data.sum()",
@@ -101,6 +107,14 @@ fn unequal_forms_have_two_entries() {
     entries.sort();
     entries.dedup();
     assert_eq!(entries.len(), texts.len());
+}
+
+#[test]
+fn names_keep_their_spelling() {
+    for word in ["a", "x1", "abcdefg", "abcdefgh", "ABCDEFG8"] {
+        assert_eq!(name(word).word(), word);
+    }
+    assert_eq!(Name::new("abcdefgh9"), None);
 }
 
 #[test]

@@ -112,6 +112,9 @@ fn the_first_run_without_a_number_decides() {
     assert_eq!(shown(&[1, 1, 0, 9], text), missing(3));
     assert_eq!(shown(&[1, 1, 9, 0], text), missing(5));
     assert_eq!(shown(&[1, 1], text), number(4));
+    let no_number = "data.sumBy(\\b -> data.skip(b))";
+    assert_eq!(shown(&[1, -1], no_number), missing(2));
+    assert_eq!(shown(&[-1, 1], no_number), missing(5));
     let wide = "data.sumBy(\\b -> b.mul(b))";
     assert_eq!(shown(&[40000, 40000], wide), missing(4));
     assert_eq!(shown(&[30000, 30000], wide), number(1_800_000_000));

@@ -90,7 +90,7 @@ fn check_kept(model: &Model, shown: &Shown) {
 
 #[test]
 fn each_call_keeps_the_promises() {
-    for seed in 0..200 {
+    for seed in 0..150 {
         let mut model = Model::new();
         let mut worked_out = 0;
         for call in session(seed, 60) {
@@ -164,7 +164,7 @@ fn a_seed_always_gives_the_same_session() {
 #[test]
 fn sessions_reach_all_kinds_of_answers() {
     let mut counts: BTreeMap<String, usize> = BTreeMap::new();
-    for seed in 0..400 {
+    for seed in 0..300 {
         let mut model = Model::new();
         for call in session(seed, 60) {
             let answer = model.call(&call);

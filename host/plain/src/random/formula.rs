@@ -14,7 +14,7 @@ pub(super) enum Kind {
 }
 
 const KINDS: [Kind; 3] = [Kind::Number, Kind::Window, Kind::Function];
-pub(super) const NAMES: [&str; 7] = ["a", "b", "x", "y", "h", "x1", "abcdefgh"];
+pub(super) const NAMES: [&str; 8] = ["a", "b", "x", "y", "h", "x1", "abcdefgh", "abcdefgi"];
 const NUMBERS: [&str; 12] =
     ["0", "1", "2", "3", "5", "-1", "-7", "007", "150", "2147483647", "-2147483648", "-0"];
 

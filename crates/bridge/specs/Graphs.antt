@@ -1,0 +1,277 @@
+-- The table's nodes as the model's graph: a node with its dependencies' forms builds its form, and equal forms have equal nodes.
+-- Assumes nothing.
+use mathlib.Core.Path.{_≡_, refl, sym, ap, _∙_, subst}
+use mathlib.Core.Logic.{_⊎_, inl, inr, ⊎-elim}
+use mathlib.Core.Bool.{Bool, true, false, cond, not, _&&_, _||_}
+use mathlib.Core.List.{List, [], _∷_}
+use Prim.Native.Nat.{ℕ, zero, suc, _+_, _-_, _<_, _≤_, _^_}
+use native.Mathlib.Omega.{arith}
+use borrow.Author.Tests.{eqb-true, eq-eqb, ne-eqb, le-ltb}
+use lib.Dec.{eqb, ltb, leb}
+use lib.IntN.{ℤ, pos, natAbs, _+ℤ_, _-ℤ_, -ℤ-+ℤ-cancel}
+use Rattle.language.specs.Members.{row, memberAt, memberNumber}
+use Rattle.language.specs.declared.members.Member.{Member}
+use Rattle.language.specs.declared.members.Found.{Found}
+use Rattle.language.specs.declared.members.Found.the-variants.{Is, Unknown}
+use Rattle.meaning.specs.Forms.{Form, number, variable, unbound, readings, ask, call, function, same, dependency, firstOf, secondOf}
+use Rattle.meaning.specs.FormsLaws.{no-way, either, and-left, and-right, or-right, same-eq, same-self, found}
+use Rattle.model.specs.Lists.{member}
+use Rattle.model.specs.Cases.{split}
+use Rattle.model.specs.Language.{Language}
+use Rattle.model.specs.ListLaws.{Equality}
+use Rattle.model.specs.Graph.{among, Graph, GraphLaws}
+use Rattle.table.specs.Memory.{Node}
+use Rattle.records.specs.Records.{node, numberKey}
+use Rattle.table.specs.Nodes.{numberKind, variableKind, unboundKind, readingsKind, functionKind, memberKind, pickForm, memberOfKind, memberArity, memberForm, arity, listed, kids, sameNode, numberOfKey, build}
+use Rattle.formulas.specs.Formulas.{formulas}
+
+-- nodes as they stand in tables: what each kind has, and nothing else
+pub data Fine : Node → Type 0 where
+  aNumber : (key : ℕ) → Fine (node numberKind key 0 0)
+  aVariable : (x : ℕ) → Fine (node variableKind x 0 0)
+  anUnbound : (x : ℕ) → Fine (node unboundKind x 0 0)
+  theReadings : Fine (node readingsKind 0 0 0)
+  aFunction : (x b : ℕ) → Fine (node functionKind x (suc b) 0)
+  anAsk : (m : Member) (f : ℕ) → row m .arguments ≡ 0 → Fine (node (memberKind m) 0 (suc f) 0)
+  aCall : (m : Member) (f a : ℕ) → row m .arguments ≡ 1 → Fine (node (memberKind m) 0 (suc f) (suc a))
+
+abbrev pub nodes : Graph formulas
+nodes = record { Node = Node; Fine = Fine; same = sameNode; links = kids; build = build; nowhere = readings }
+
+-- the members' kinds are told apart from the others, and stand for their members
+pub member-found : (m : Member) → memberOfKind (memberKind m) ≡ Is m
+unfolding memberOfKind memberAt
+member-found m =
+    let q : 5 + memberNumber m - 5 ≡ memberNumber m = omega arith in
+    rw (le-ltb (5 + memberNumber m) 5 (omega arith), q) (found m)
+
+pub not-member : (m : Member) (k : ℕ) → k < 5 → eqb (memberKind m) k ≡ false
+not-member m k h = ne-eqb (memberKind m) k (λ e. omega arith)
+
+pub member-arity : (m : Member) → arity (memberKind m) ≡ suc (row m .arguments)
+unfolding arity
+member-arity m = rw (not-member m 4 (omega arith), member-found m)
+
+pub less-one : (n : ℕ) → suc n - 1 ≡ n
+less-one n = omega arith
+
+-- the test of nodes is equality
+node-equal : (a b : Node) → sameNode a b ≡ true → a ≡ b
+unfolding sameNode
+node-equal a b h =
+    let k = eqb-true (a .kind) (b .kind) (and-left _ _ h) in
+    let r = and-right (eqb (a .kind) (b .kind)) _ h in
+    let y = eqb-true (a .key) (b .key) (and-left _ _ r) in
+    let q = and-right (eqb (a .key) (b .key)) _ r in
+    let f = eqb-true (a .first) (b .first) (and-left _ _ q) in
+    let s = eqb-true (a .second) (b .second) (and-right (eqb (a .first) (b .first)) _ q) in
+    λ i. record { kind = k i; key = y i; first = f i; second = s i }
+
+node-self : (a : Node) → sameNode a a ≡ true
+unfolding sameNode
+node-self a = rw (eq-eqb (a .kind) (a .kind) refl, eq-eqb (a .key) (a .key) refl, eq-eqb (a .first) (a .first) refl, eq-eqb (a .second) (a .second) refl)
+
+pub equality : Equality sameNode
+equality = record { equal = node-equal; self = node-self }
+
+-- the node of a form, from the numbers of its dependencies
+unfoldable pub nodeOf : Form → ℕ → ℕ → Node
+nodeOf (number z) i j = node numberKind (numberKey z) 0 0
+nodeOf (variable x) i j = node variableKind x 0 0
+nodeOf (unbound x) i j = node unboundKind x 0 0
+nodeOf readings i j = node readingsKind 0 0 0
+nodeOf (ask m f) i j = node (memberKind m) 0 (suc i) 0
+nodeOf (call m f a) i j = node (memberKind m) 0 (suc i) (suc j)
+nodeOf (function x b) i j = node functionKind x (suc i) 0
+
+-- the form has a first dependency, and a second
+abbrev HasFirst : Form → Type 0
+HasFirst (number z) = ⊥
+HasFirst (variable x) = ⊥
+HasFirst (unbound x) = ⊥
+HasFirst readings = ⊥
+HasFirst (ask m f) = Unit {0}
+HasFirst (call m f a) = Unit {0}
+HasFirst (function x b) = Unit {0}
+
+abbrev HasSecond : Form → Type 0
+HasSecond (number z) = ⊥
+HasSecond (variable x) = ⊥
+HasSecond (unbound x) = ⊥
+HasSecond readings = ⊥
+HasSecond (ask m f) = ⊥
+HasSecond (call m f a) = Unit {0}
+HasSecond (function x b) = ⊥
+
+-- what is known of a node of form f: its dependencies' numbers
+record Known (n : Node) (φ : ℕ → Form) (f : Form) : Type 0 where
+  left : ℕ
+  right : ℕ
+  form : build n φ ≡ f
+  made : n ≡ nodeOf f left right
+  first : HasFirst f → (among left (kids n) ≡ true) × (φ left ≡ firstOf f)
+  second : HasSecond f → (among right (kids n) ≡ true) × (φ right ≡ secondOf f)
+
+-- the dependencies of each kind, and its form
+pub kids-function : (x b : ℕ) → kids (node functionKind x (suc b) 0) ≡ b ∷ []
+unfolding kids arity
+kids-function x b = rw (less-one b)
+
+pub kids-ask : (m : Member) (f : ℕ) → row m .arguments ≡ 0 → kids (node (memberKind m) 0 (suc f) 0) ≡ f ∷ []
+unfolding kids
+kids-ask m f e = rw (member-arity m, e, less-one f)
+
+pub kids-call : (m : Member) (f a : ℕ) → row m .arguments ≡ 1 → kids (node (memberKind m) 0 (suc f) (suc a)) ≡ f ∷ a ∷ []
+unfolding kids
+kids-call m f a e = rw (member-arity m, e, less-one f, less-one a)
+
+build-member : (m : Member) (f a : ℕ) (φ : ℕ → Form) → build (node (memberKind m) 0 f a) φ ≡ memberForm (Is m) (φ (f - 1)) (φ (a - 1))
+unfolding build
+build-member m f a φ = rw (not-member m 0 (omega arith), not-member m 1 (omega arith), not-member m 2 (omega arith), not-member m 3 (omega arith), not-member m 4 (omega arith), member-found m)
+
+pub build-ask : (m : Member) (f : ℕ) (φ : ℕ → Form) → row m .arguments ≡ 0 → build (node (memberKind m) 0 (suc f) 0) φ ≡ ask m (φ f)
+build-ask m f φ e = build-member m (suc f) 0 φ ∙ rw (e, less-one f)
+
+pub build-call : (m : Member) (f a : ℕ) (φ : ℕ → Form) → row m .arguments ≡ 1 → build (node (memberKind m) 0 (suc f) (suc a)) φ ≡ call m (φ f) (φ a)
+build-call m f a φ e = build-member m (suc f) (suc a) φ ∙ rw (e, less-one f, less-one a)
+
+among-first : (i : ℕ) (l : List ℕ) → among i (i ∷ l) ≡ true
+unfolding member
+among-first i l = rw (eq-eqb i i refl)
+
+among-second : (i j : ℕ) → among j (i ∷ j ∷ []) ≡ true
+unfolding member
+among-second i j = split (eqb i j) (λ e. rw e) (λ e. rw (e, eq-eqb j j refl))
+
+pub number-key : (key : ℕ) → numberKey (numberOfKey key) ≡ key
+number-key key = ap natAbs (-ℤ-+ℤ-cancel (pos key) (pos 2147483648))
+
+known : (n : Node) (φ : ℕ → Form) → Fine n → (f : Form) × Known n φ f
+unfolding build nodeOf firstOf secondOf
+known _ φ (aNumber key) = (number (numberOfKey key), record { left = 0; right = 0; form = refl; made = ap (λ (k : ℕ). node numberKind k 0 0) (sym (number-key key)); first = absurd; second = absurd })
+known _ φ (aVariable x) = (variable x, record { left = 0; right = 0; form = refl; made = refl; first = absurd; second = absurd })
+known _ φ (anUnbound x) = (unbound x, record { left = 0; right = 0; form = refl; made = refl; first = absurd; second = absurd })
+known _ φ theReadings = (readings, record { left = 0; right = 0; form = refl; made = refl; first = absurd; second = absurd })
+known _ φ (aFunction x b) =
+    (function x (φ b), record { left = b; right = 0; form = rw (less-one b); made = refl; first = λ u. (rw (kids-function x b) (among-first b []), refl); second = absurd })
+known _ φ (anAsk m f e) =
+    (ask m (φ f), record { left = f; right = 0; form = build-ask m f φ e; made = refl; first = λ u. (rw (kids-ask m f e) (among-first f []), refl); second = absurd })
+known _ φ (aCall m f a e) = (
+  call m (φ f) (φ a),
+  record {
+    left = f;
+    right = a;
+    form = build-call m f a φ e;
+    made = refl;
+    first = λ u. (rw (kids-call m f a e) (among-first f (a ∷ [])), refl);
+    second = λ u. (rw (kids-call m f a e) (among-second f a), refl);
+  },
+)
+
+-- equal forms with equal numbers of dependencies: one node
+same-made : (f : Form) (i j i′ j′ : ℕ) → (HasFirst f → i ≡ i′) → (HasSecond f → j ≡ j′) → nodeOf f i j ≡ nodeOf f i′ j′
+unfolding nodeOf
+same-made (number z) i j i′ j′ p q = refl
+same-made (variable x) i j i′ j′ p q = refl
+same-made (unbound x) i j i′ j′ p q = refl
+same-made readings i j i′ j′ p q = refl
+same-made (ask m f) i j i′ j′ p q = rw (p tt)
+same-made (call m f a) i j i′ j′ p q = rw (p tt, q tt)
+same-made (function x b) i j i′ j′ p q = rw (p tt)
+
+one-node : (n m : Node) (φ : ℕ → Form) → Fine n → Fine m → build n φ ≡ build m φ
+    → ((i j : ℕ) → among i (kids n) ≡ true → among j (kids m) ≡ true → φ i ≡ φ j → i ≡ j) → n ≡ m
+one-node n m φ fn fm e h =
+    let N = known n φ fn in
+    let M = known m φ fm in
+    let q : N .0 ≡ M .0 = sym (N .1 .form) ∙ e ∙ M .1 .form in
+    N .1 .made
+    ∙ same-made (N .0) (N .1 .left) (N .1 .right) (M .1 .left) (M .1 .right)
+    (λ u. let a = N .1 .first u in let b = M .1 .first (rw q at u) in h (N .1 .left) (M .1 .left) (a .0) (b .0) (a .1 ∙ ap firstOf q ∙ sym (b .1)))
+    (λ u. let a = N .1 .second u in let b = M .1 .second (rw q at u) in h (N .1 .right) (M .1 .right) (a .0) (b .0) (a .1 ∙ ap secondOf q ∙ sym (b .1)))
+    ∙ ap (λ (f : Form). nodeOf f (M .1 .left) (M .1 .right)) q
+    ∙ sym (M .1 .made)
+
+-- the dependencies of the form are those of the node
+each-of : (n : Node) (φ : ℕ → Form) (f d : Form) → Known n φ f → dependency d f ≡ true → (j : ℕ) × (among j (kids n) ≡ true) × (φ j ≡ d)
+unfolding dependency firstOf secondOf
+each-of n φ (number z) d k h = no-way h
+each-of n φ (variable x) d k h = no-way h
+each-of n φ (unbound x) d k h = no-way h
+each-of n φ readings d k h = no-way h
+each-of n φ (ask m f) d k h = let a = k .first tt in (k .left, a .0, a .1 ∙ sym (same-eq d f h))
+each-of n φ (call m f a) d k h =
+    either (same d f) (same d a) h
+    (λ e. let u = k .first tt in (k .left, u .0, u .1 ∙ sym (same-eq d f e)))
+    (λ e. let u = k .second tt in (k .right, u .0, u .1 ∙ sym (same-eq d a e)))
+each-of n φ (function x b) d k h = let a = k .first tt in (k .left, a .0, a .1 ∙ sym (same-eq d b h))
+
+pub among-one : (j k : ℕ) → among j (k ∷ []) ≡ true → k ≡ j
+unfolding member
+among-one j k h = split (eqb k j) (λ e. eqb-true k j e) (λ e. no-way (rw e at h))
+
+pub among-two : {A : Type 0} (j k l : ℕ) → among j (k ∷ l ∷ []) ≡ true → (k ≡ j → A) → (l ≡ j → A) → A
+unfolding member
+among-two j k l h p q = split (eqb k j) (λ e. p (eqb-true k j e)) (λ e. q (among-one j l (rw e at h)))
+
+only-of : (n : Node) (φ : ℕ → Form) (j : ℕ) → Fine n → among j (kids n) ≡ true → dependency (φ j) (build n φ) ≡ true
+unfolding dependency member kids arity memberOfKind build
+only-of _ φ j (aNumber key) h = no-way h
+only-of _ φ j (aVariable x) h = no-way h
+only-of _ φ j (anUnbound x) h = no-way h
+only-of _ φ j theReadings h = no-way h
+only-of _ φ j (aFunction x b) h =
+    let q = among-one j b (subst (λ (l : List ℕ). among j l ≡ true) (kids-function x b) h) in
+    rw (less-one b, q) (same-self (φ j))
+only-of _ φ j (anAsk m f e) h =
+    let q = among-one j f (subst (λ (l : List ℕ). among j l ≡ true) (kids-ask m f e) h) in
+    rw (build-ask m f φ e, q) (same-self (φ j))
+only-of _ φ j (aCall m f a e) h =
+    rw (build-call m f a φ e)
+    (among-two j f a (subst (λ (l : List ℕ). among j l ≡ true) (kids-call m f a e) h)
+    (λ q. rw (q, same-self (φ j)))
+    (λ q. rw q (or-right (same (φ j) (φ f)) _ (same-self (φ j)))))
+
+-- a form hangs on the forms of its dependencies alone
+agree-member : (f : Found) (n : Node) (φ ψ : ℕ → Form) → ((j : ℕ) → among j (listed (memberArity f) n) ≡ true → φ j ≡ ψ j)
+    → memberForm f (φ (n .first - 1)) (φ (n .second - 1)) ≡ memberForm f (ψ (n .first - 1)) (ψ (n .second - 1))
+agree-member Unknown n φ ψ h = refl
+agree-member (Is m) n φ ψ h = by (row m .arguments) refl
+  where
+    by : (k : ℕ) → row m .arguments ≡ k → memberForm (Is m) (φ (n .first - 1)) (φ (n .second - 1)) ≡ memberForm (Is m) (ψ (n .first - 1)) (ψ (n .second - 1))
+    by zero e = let a = h (n .first - 1) (rw e (among-first (n .first - 1) [])) in rw (e, a)
+    by (suc k) e =
+        let a = h (n .first - 1) (rw e (among-first (n .first - 1) _)) in
+        let b = h (n .second - 1) (rw e (among-second (n .first - 1) (n .second - 1))) in
+        rw (a, b)
+
+agree-works : (n : Node) (φ ψ : ℕ → Form) → ((j : ℕ) → among j (kids n) ≡ true → φ j ≡ ψ j)
+    → pickForm (eqb (n .kind) functionKind) (function (n .key) (φ (n .first - 1))) (memberForm (memberOfKind (n .kind)) (φ (n .first - 1)) (φ (n .second - 1)))
+    ≡ pickForm (eqb (n .kind) functionKind) (function (n .key) (ψ (n .first - 1))) (memberForm (memberOfKind (n .kind)) (ψ (n .first - 1)) (ψ (n .second - 1)))
+unfolding kids arity
+agree-works n φ ψ h = by (eqb (n .kind) functionKind) refl
+  where
+    by : (b : Bool) → eqb (n .kind) functionKind ≡ b
+        → pickForm b (function (n .key) (φ (n .first - 1))) (memberForm (memberOfKind (n .kind)) (φ (n .first - 1)) (φ (n .second - 1)))
+        ≡ pickForm b (function (n .key) (ψ (n .first - 1))) (memberForm (memberOfKind (n .kind)) (ψ (n .first - 1)) (ψ (n .second - 1)))
+    by true e = ap (function (n .key)) (h (n .first - 1) (rw e (among-first (n .first - 1) [])))
+    by false e = agree-member (memberOfKind (n .kind)) n φ ψ (λ j a. h j (rw e a))
+
+agree-of : (n : Node) (φ ψ : ℕ → Form) → ((j : ℕ) → among j (kids n) ≡ true → φ j ≡ ψ j) → build n φ ≡ build n ψ
+unfolding build
+agree-of n φ ψ h =
+    λ i.
+    pickForm (eqb (n .kind) numberKind) (number (numberOfKey (n .key)))
+    (pickForm (eqb (n .kind) variableKind) (variable (n .key))
+    (pickForm (eqb (n .kind) unboundKind) (unbound (n .key))
+    (pickForm (eqb (n .kind) readingsKind) readings (agree-works n φ ψ h i))))
+
+pub graph-laws : GraphLaws formulas nodes
+graph-laws =
+    record {
+      equality = equality;
+      agree = agree-of;
+      one = one-node;
+      each = λ n φ d fn h. let k = known n φ fn in each-of n φ (k .0) d (k .1) (rw (k .1 .form) at h);
+      only = only-of;
+    }

@@ -1,0 +1,486 @@
+-- The records of a tree unfold to its let-free forms: the root to the whole's, each place to its part's, and bound in their order they add
+-- what the forms in the order of binding add. Assumes nothing.
+use mathlib.Core.Path.{_≡_, refl, sym, ap, _∙_, subst}
+use mathlib.Core.Bool.{Bool, true, false, cond, not, _&&_, _||_}
+use mathlib.Core.List.{List, [], _∷_, _++_, map, append-nil, append-assoc}
+use Prim.Native.Nat.{ℕ, zero, suc, _+_, _-_, _<_, _≤_}
+use native.Mathlib.Omega.{arith}
+use borrow.Author.Tests.{eqb-true, le-ltb}
+use lib.Dec.{T, leb→le}
+use lib.IntN.{ℤ, pos, negsuc, _+ℤ_, _-ℤ_, +ℤ-negℤ-cancel}
+use lib.Signed.{_≤ℤ_, nonNeg, pos-natAbs}
+use lib.ListN.{length, getD, length-append, List·getD-append}
+use Rattle.language.specs.Limits.{leastNumber}
+use Rattle.language.specs.Names.{packed, sameName, isData}
+use Rattle.language.specs.Members.{row, memberOf, isUnknown, takes}
+use Rattle.language.specs.declared.members.Member.{Member}
+use Rattle.language.specs.declared.members.Member.the-variants.{Add, Sub, Mul, Div, Gt, Eq, Skip, Take, Count, Sum, Min, Max, At, CountWhere, LongestRun, SumBy}
+use Rattle.language.specs.declared.members.Found.{Found}
+use Rattle.language.specs.declared.members.Found.the-variants.{Is, Unknown}
+use Rattle.grammar.specs.Grammar.{Expression, Calls, Arguments, More, letIn, lambda, name, literal, bracket, done, call, none, first, last, next}
+use Rattle.grammar.specs.Faults.{Around, outermost, opened, inLet, inLambda}
+use Rattle.grammar.specs.KeptLimits.{givenA, givenM, EverywhereE, EverywhereC, EverywhereA, EverywhereM, RightCalls, SmallNumbers, InRange, KeepsLimits}
+use Rattle.meaning.specs.Forms.{Form, number, variable, unbound, readings, ask, function, same}
+use Rattle.meaning.specs.FormsLaws.{no-way, same-eq, same-self}
+use Rattle.meaning.specs.Binding.{Meaning, means, pickForm, lookUp, named, asLambda, member, formE, formC, formA, formM, called, placesE, placesC, placesA, placesM, orderE, orderC, orderA, orderM, formOf, formsByPlace, formsInOrder}
+use Rattle.model.specs.Lists.{All, member as isIn, insert, insertAll}
+use Rattle.model.specs.Cases.{split}
+use Rattle.model.specs.ListLaws.{Equality, getD-last, map-append, all-append, insert-old, insertAll-has}
+use Rattle.model.specs.Graph.{among, formAt, Placed, AllPlaced, decode, decode-snoc}
+use Rattle.table.specs.Memory.{Node}
+use Rattle.table.specs.Nodes.{numberKind, variableKind, unboundKind, readingsKind, functionKind, memberKind, numberOfKey, build, kids, arity, memberOfKind}
+use Rattle.records.specs.Records.{Named, stands, Recorded, node, newRecord, numberKey, pickRecorded, linked, recordScoped, recordName, behind, recordE, recordC, recordA, recordM, recordsOf}
+use Rattle.formulas.specs.Formulas.{formulas}
+use Rattle.bridge.specs.Graphs.{Fine, aNumber, aVariable, anUnbound, theReadings, aFunction, anAsk, aCall, nodes, build-ask, build-call, kids-function, kids-ask, kids-call, among-one, among-two, less-one}
+
+-- the forms of records, and the form of one
+abbrev pub formsOf : List Node → List Form
+formsOf t = decode formulas nodes [] t
+
+abbrev pub formIn : List Node → ℕ → Form
+formIn t j = formAt formulas nodes (formsOf t) j
+
+equality : Equality same
+equality = record { equal = same-eq; self = same-self }
+
+-- forms that add the same, whatever is held
+abbrev Same : List Form → List Form → Type 0
+Same xs ys = (fs : List Form) → insertAll same xs fs ≡ insertAll same ys fs
+
+insert-append : (xs ys fs : List Form) → insertAll same (xs ++ ys) fs ≡ insertAll same ys (insertAll same xs fs)
+unfolding insertAll
+insert-append [] ys fs = refl
+insert-append (x ∷ xs) ys fs = insert-append xs ys (insert same x fs)
+
+same-rest : (xs ys us vs : List Form) → Same xs ys → Same us vs → Same (xs ++ us) (ys ++ vs)
+same-rest xs ys us vs p q fs = insert-append xs us fs ∙ ap (insertAll same us) (p fs) ∙ q (insertAll same ys fs) ∙ sym (insert-append ys vs fs)
+
+-- a form that is there already adds nothing
+same-again : (xs us : List Form) (f : Form) → isIn same f xs ≡ true → Same (xs ++ (f ∷ us)) (xs ++ us)
+unfolding insertAll
+same-again xs us f h fs =
+    insert-append xs (f ∷ us) fs
+    ∙ ap (insertAll same us) (insert-old equality f (insertAll same xs fs) (insertAll-has equality f xs fs h))
+    ∙ sym (insert-append xs us fs)
+
+-- records behind others: their forms stand, and the others' too
+length-decode : (fs : List Form) (u : List Node) → length (decode formulas nodes fs u) ≡ length fs + length u
+unfolding decode
+length-decode fs [] = omega arith
+length-decode fs (n ∷ u) = let a = length-decode (fs ++ (build n (formAt formulas nodes fs) ∷ [])) u in let b = length-append fs (build n (formAt formulas nodes fs) ∷ []) in omega arith
+
+pub length-forms : (t : List Node) → length (formsOf t) ≡ length t
+length-forms t = length-decode [] t ∙ omega arith
+
+decode-append : (fs : List Form) (t u : List Node) → decode formulas nodes fs (t ++ u) ≡ decode formulas nodes (decode formulas nodes fs t) u
+unfolding decode
+decode-append fs [] u = refl
+decode-append fs (n ∷ t) u = decode-append (fs ++ (build n (formAt formulas nodes fs) ∷ [])) t u
+
+decode-keeps : (fs : List Form) (u : List Node) (j : ℕ) → j < length fs → formAt formulas nodes (decode formulas nodes fs u) j ≡ formAt formulas nodes fs j
+unfolding decode
+decode-keeps fs [] j h = refl
+decode-keeps fs (n ∷ u) j h =
+    let f = build n (formAt formulas nodes fs) in
+    let l = length-append fs (f ∷ []) in
+    decode-keeps (fs ++ (f ∷ [])) u j (omega arith) ∙ List·getD-append fs (f ∷ []) readings j h
+
+form-kept : (t u : List Node) (j : ℕ) → j < length t → formIn (t ++ u) j ≡ formIn t j
+form-kept t u j h = let l = length-forms t in ap (λ (fs : List Form). formAt formulas nodes fs j) (decode-append [] t u) ∙ decode-keeps (formsOf t) u j (omega arith)
+
+forms-kept : (t u : List Node) (ps : List ℕ) → All (λ (p : ℕ). p < length t) ps → map (formIn (t ++ u)) ps ≡ map (formIn t) ps
+forms-kept t u [] h = refl
+forms-kept t u (p ∷ ps) h = rw (form-kept t u p (h .0), forms-kept t u ps (h .1))
+
+form-last : (t : List Node) (n : Node) → formIn (t ++ (n ∷ [])) (length t) ≡ build n (formIn t)
+form-last t n = rw (decode-snoc formulas nodes [] t n) (getD-last (formsOf t) (build n (formIn t)) (length t) readings (sym (length-forms t)))
+
+placed-append : (i : ℕ) (u v : List Node) → AllPlaced formulas nodes i u → AllPlaced formulas nodes (i + length u) v → AllPlaced formulas nodes i (u ++ v)
+placed-append i [] v p q = let z : i + 0 ≡ i = omega arith in rw z at q
+placed-append i (n ∷ u) v p q = let z : i + suc (length u) ≡ suc i + length u = omega arith in (p .0, placed-append (suc i) u v (p .1) (rw z at q))
+
+all-longer : (a b : ℕ) (ps : List ℕ) → a ≤ b → All (λ (p : ℕ). p < a) ps → All (λ (p : ℕ). p < b) ps
+all-longer a b [] l h = tt
+all-longer a b (p ∷ ps) l h = let x = h .0 in (omega arith, all-longer a b ps l (h .1))
+
+-- what is read to R behind the records t: its form f, its parts' forms before v, and its forms in order before u
+record Right (R : Recorded) (t : List Node) (f : Form) (ps os : List Form → List Form) : Type 0 where
+  more : List Node
+  is : R .records ≡ t ++ more
+  placed : AllPlaced formulas nodes (length t) more
+  low : R .root < length (R .records)
+  form : formIn (R .records) (R .root) ≡ f
+  inside : All (λ (p : ℕ). p < length (R .records)) (R .places)
+  places : (v : List Form) → map (formIn (R .records)) (R .places) ++ v ≡ ps v
+  order : (u : List Form) → Same (formsOf t ++ os u) (formsOf (R .records) ++ u)
+
+-- one after the other, the second's places alone
+extended : (A B : Recorded) (t : List Node) (f g : Form) (pa pb oa ob : List Form → List Form) → Right A t f pa oa → Right B (A .records) g pb ob → Right B t g pb (λ u. oa (ob u))
+extended A B t f g pa pb oa ob a b =
+    let x = a .is in
+    let y = b .is in
+    let l = length-append t (a .more) in
+    record {
+      more = a .more ++ b .more;
+      is = y ∙ rw x (append-assoc t (a .more) (b .more));
+      placed = placed-append (length t) (a .more) (b .more) (a .placed) (rw (x, l) at (b .placed));
+      low = b .low;
+      form = b .form;
+      inside = b .inside;
+      places = b .places;
+      order = λ u fs. a .order (ob u) fs ∙ b .order u fs;
+    }
+
+-- places before those of R
+before : (ps : List ℕ) (R : Recorded) (t : List Node) (f : Form) (pr os : List Form → List Form) → All (λ (p : ℕ). p < length t) ps → Right R t f pr os → Right (behind ps R) t f (λ v. map (formIn t) ps ++ pr v) os
+before ps R t f pr os h r =
+    let x = r .is in
+    let l = length-append t (r .more) in
+    let n : length t ≤ length (R .records) = rw x (omega arith) in
+    record {
+      more = r .more;
+      is = r .is;
+      placed = r .placed;
+      low = r .low;
+      form = r .form;
+      inside = all-append (λ (p : ℕ). p < length (R .records)) ps (R .places) (all-longer (length t) (length (R .records)) ps n h) (r .inside);
+      places = λ v.
+          ap (λ (m : List Form). m ++ v) (map-append (formIn (R .records)) ps (R .places))
+          ∙ append-assoc (map (formIn (R .records)) ps) (map (formIn (R .records)) (R .places)) v
+          ∙ ap (λ (m : List Form). map (formIn (R .records)) ps ++ m) (r .places v)
+          ∙ ap (λ (m : List Form). m ++ pr v) (ap (λ (k : List Node). map (formIn k) ps) x ∙ forms-kept t (r .more) ps h);
+      order = r .order;
+    }
+
+-- one more record, whose place stands before others
+pushed : (n : Node) (R : Recorded) (t : List Node) (f : Form) (pr os : List Form → List Form) → Placed formulas nodes (length (R .records)) n → Right R t f pr os
+    → Right (newRecord n (R .records) (length (R .records) ∷ R .places)) t (build n (formIn (R .records))) (λ v. build n (formIn (R .records)) ∷ pr v) (λ u. os (build n (formIn (R .records)) ∷ u))
+pushed n R t f pr os p r =
+    let x = r .is in
+    let g = build n (formIn (R .records)) in
+    let l = length-append (R .records) (n ∷ []) in
+    let k = length-append t (r .more) in
+    let m : length (R .records) ≤ length (R .records ++ (n ∷ [])) = omega arith in
+    let z : length (R .records) ≡ length t + length (r .more) = ap length x ∙ k in
+    record {
+      more = r .more ++ (n ∷ []);
+      is = rw x (append-assoc t (r .more) (n ∷ []));
+      placed = placed-append (length t) (r .more) (n ∷ []) (r .placed) (rw z at p, tt);
+      low = omega arith;
+      form = form-last (R .records) n;
+      inside = (omega arith, all-longer (length (R .records)) _ (R .places) m (r .inside));
+      places = λ v.
+          ap (λ (h : Form). h ∷ (map (formIn (R .records ++ (n ∷ []))) (R .places) ++ v)) (form-last (R .records) n)
+          ∙ ap (λ (fs : List Form). g ∷ (fs ++ v)) (forms-kept (R .records) (n ∷ []) (R .places) (r .inside))
+          ∙ ap (λ (fs : List Form). g ∷ fs) (r .places v);
+      order = λ u fs.
+          r .order (g ∷ u) fs
+          ∙ ap (λ (xs : List Form). insertAll same xs fs) (sym (append-assoc (formsOf (R .records)) (g ∷ []) u))
+          ∙ ap (λ (xs : List Form). insertAll same (xs ++ u) fs) (sym (decode-snoc formulas nodes [] (R .records) n));
+    }
+
+-- nothing read yet, with record j for what stands
+abbrev standing : List Node → ℕ → Recorded
+standing t j = record { records = t; root = j; places = [] }
+
+still : (t : List Node) (j : ℕ) (f : Form) → j < length t → formIn t j ≡ f → Right (standing t j) t f (λ v. v) (λ u. u)
+still t j f h e = record { more = []; is = sym (append-nil t); placed = tt; low = h; form = e; inside = tt; places = λ v. refl; order = λ u fs. refl }
+
+-- a new record by itself
+fresh : (n : Node) (t : List Node) (f : Form) → Placed formulas nodes (length t) n → build n (formIn t) ≡ f → Right (newRecord n t (length t ∷ [])) t f (λ v. f ∷ v) (λ u. f ∷ u)
+fresh n t f p e =
+    let l = length-append t (n ∷ []) in
+    record {
+      more = n ∷ [];
+      is = refl;
+      placed = (p, tt);
+      low = omega arith;
+      form = form-last t n ∙ e;
+      inside = (omega arith, tt);
+      places = λ v. ap (λ (h : Form). h ∷ v) (form-last t n ∙ e);
+      order = λ u fs.
+          ap (λ (xs : List Form). insertAll same xs fs) (sym (append-assoc (formsOf t) (f ∷ []) u))
+          ∙ ap (λ (xs : List Form). insertAll same (xs ++ u) fs) (ap (λ (h : Form). formsOf t ++ (h ∷ [])) (sym e) ∙ sym (decode-snoc formulas nodes [] t n));
+    }
+
+-- a use of a let's name: an earlier record again
+is-in : (fs : List Form) (j : ℕ) → j < length fs → isIn same (getD fs j readings) fs ≡ true
+unfolding isIn
+is-in [] j h = absurd (omega arith)
+is-in (f ∷ fs) zero h = rw (same-self f)
+is-in (f ∷ fs) (suc j) h = let i = is-in fs j (omega arith) in split (same f (getD fs j readings)) (λ e. rw e) (λ e. rw (e, i))
+
+again : (t : List Node) (j : ℕ) (f : Form) → j < length t → formIn t j ≡ f → Right (record { records = t; root = j; places = j ∷ [] }) t f (λ v. f ∷ v) (λ u. f ∷ u)
+again t j f h e =
+    let l = length-forms t in
+    let i : isIn same f (formsOf t) ≡ true = rw e at (is-in (formsOf t) j (omega arith)) in
+    record {
+      more = [];
+      is = sym (append-nil t);
+      placed = tt;
+      low = h;
+      form = e;
+      inside = (h, tt);
+      places = λ v. ap (λ (g : Form). g ∷ v) e;
+      order = λ u. same-again (formsOf t) u f i;
+    }
+
+-- the scope of records and the environment of forms: name by name
+abbrev Linked : ℕ → List ℕ → Form → List Node → Type 0
+Linked zero x f t = f ≡ variable (packed x)
+Linked (suc j) x f t = (j < length t) × (formIn t j ≡ f)
+
+abbrev Scoped : List Named → List Meaning → List Node → Type 0
+Scoped [] [] t = Unit {0}
+Scoped [] (e ∷ Γ) t = ⊥
+Scoped (s ∷ Σ) [] t = ⊥
+Scoped (s ∷ Σ) (e ∷ Γ) t = (s .name ≡ e .name) × Linked (s .link) (s .name) (e .form) t × Scoped Σ Γ t
+
+linked-longer : (k : ℕ) (x : List ℕ) (f : Form) (t u : List Node) → Linked k x f t → Linked k x f (t ++ u)
+linked-longer zero x f t u h = h
+linked-longer (suc j) x f t u h = let l = length-append t u in let b = h .0 in (omega arith, form-kept t u j (h .0) ∙ h .1)
+
+scoped-longer : (Σ : List Named) (Γ : List Meaning) (t u : List Node) → Scoped Σ Γ t → Scoped Σ Γ (t ++ u)
+scoped-longer [] [] t u h = tt
+scoped-longer [] (e ∷ Γ) t u h = h
+scoped-longer (s ∷ Σ) [] t u h = h
+scoped-longer (s ∷ Σ) (e ∷ Γ) t u h = (h .0, linked-longer (s .link) (s .name) (e .form) t u (h .1), scoped-longer Σ Γ t u (h .2))
+
+scoped-after : (Σ : List Named) (Γ : List Meaning) (t : List Node) (R : Recorded) (f : Form) (pr os : List Form → List Form) → Right R t f pr os → Scoped Σ Γ t → Scoped Σ Γ (R .records)
+scoped-after Σ Γ t R f pr os r h = let x = r .is in rw x (scoped-longer Σ Γ t (r .more) h)
+
+-- leaves
+leaf-placed : (i : ℕ) (n : Node) → Fine n → kids n ≡ [] → Placed formulas nodes i n
+unfolding isIn
+leaf-placed i n f e = record { fine = f; lower = λ j h. no-way (subst (λ (l : List ℕ). among j l ≡ true) e h) }
+
+abbrev one : Form → List Form → List Form
+one f v = f ∷ v
+
+right-pick : (b : Bool) (A B : Recorded) (t : List Node) (f g : Form) → Right A t f (one f) (one f) → Right B t g (one g) (one g) → Right (pickRecorded b A B) t (pickForm b f g) (one (pickForm b f g)) (one (pickForm b f g))
+right-pick true A B t f g p q = p
+right-pick false A B t f g p q = q
+
+linked-right : (k : ℕ) (x y : List ℕ) (f : Form) (t : List Node) → packed x ≡ packed y → Linked k y f t → Right (linked k x t) t f (one f) (one f)
+unfolding build kids arity memberOfKind
+linked-right zero x y f t e h = fresh (node variableKind (packed x) 0 0) t f (leaf-placed (length t) _ (aVariable (packed x)) refl) (ap variable e ∙ sym h)
+linked-right (suc j) x y f t e h = again t j f (h .0) (h .1)
+
+scoped-right : (x : List ℕ) (Σ : List Named) (Γ : List Meaning) (t : List Node) → Scoped Σ Γ t → Right (recordScoped x Σ t) t (lookUp x Γ) (one (lookUp x Γ)) (one (lookUp x Γ))
+unfolding recordScoped lookUp build kids arity memberOfKind
+scoped-right x [] [] t h = fresh (node unboundKind (packed x) 0 0) t (unbound (packed x)) (leaf-placed (length t) _ (anUnbound (packed x)) refl) refl
+scoped-right x [] (e ∷ Γ) t h = absurd h
+scoped-right x (s ∷ Σ) [] t h = absurd h
+scoped-right x (s ∷ Σ) (e ∷ Γ) t h =
+    let n = h .0 in
+    let l = scoped-right x Σ Γ t (h .2) in
+    rw (← n)
+    (split (sameName x (s .name))
+    (λ q. rw q (linked-right (s .link) x (s .name) (e .form) t (eqb-true (packed x) (packed (s .name)) q) (h .1)))
+    (λ q. rw q l))
+
+name-right : (x : List ℕ) (Σ : List Named) (Γ : List Meaning) (t : List Node) → Scoped Σ Γ t → Right (recordName x Σ t) t (named x Γ) (one (named x Γ)) (one (named x Γ))
+unfolding recordName named build kids arity memberOfKind
+name-right x Σ Γ t h =
+    right-pick (isData x) _ _ t readings (lookUp x Γ)
+    (fresh (node readingsKind 0 0 0) t readings (leaf-placed (length t) _ theReadings refl) refl)
+    (scoped-right x Σ Γ t h)
+
+-- a member that is known and given what it takes
+few-arguments : (m : Member) → row m .arguments ≤ 1
+unfolding row
+few-arguments Add = omega arith
+few-arguments Sub = omega arith
+few-arguments Mul = omega arith
+few-arguments Div = omega arith
+few-arguments Gt = omega arith
+few-arguments Eq = omega arith
+few-arguments Skip = omega arith
+few-arguments Take = omega arith
+few-arguments Count = omega arith
+few-arguments Sum = omega arith
+few-arguments Min = omega arith
+few-arguments Max = omega arith
+few-arguments At = omega arith
+few-arguments CountWhere = omega arith
+few-arguments LongestRun = omega arith
+few-arguments SumBy = omega arith
+
+given-right : (m : List ℕ) (k : ℕ) → isUnknown (memberOf m) ≡ false → k ≡ takes (memberOf m) → row (member m) .arguments ≡ k
+unfolding member takes
+given-right m k u e = by (memberOf m) refl
+  where
+    by : (f : Found) → memberOf m ≡ f → row (member m) .arguments ≡ k
+    by (Is n) q = rw q (sym (rw q at e))
+    by Unknown q = no-way (sym (rw q at u))
+
+-- a call's record
+ask-placed : (m : Member) (f i : ℕ) → row m .arguments ≡ 0 → f < i → Placed formulas nodes i (node (memberKind m) 0 (suc f) 0)
+ask-placed m f i e h =
+    record { fine = anAsk m f e; lower = λ j a. let q = among-one j f (subst (λ (l : List ℕ). among j l ≡ true) (kids-ask m f e) a) in omega arith }
+
+call-placed : (m : Member) (f a i : ℕ) → row m .arguments ≡ 1 → f < i → a < i → Placed formulas nodes i (node (memberKind m) 0 (suc f) (suc a))
+call-placed m f a i e h k =
+    record {
+      fine = aCall m f a e;
+      lower = λ j b. among-two j f a (subst (λ (l : List ℕ). among j l ≡ true) (kids-call m f a e) b) (λ q. omega arith) (λ q. omega arith);
+    }
+
+function-placed : (x b i : ℕ) → b < i → Placed formulas nodes i (node functionKind x (suc b) 0)
+function-placed x b i h =
+    record { fine = aFunction x b; lower = λ j a. let q = among-one j b (subst (λ (l : List ℕ). among j l ≡ true) (kids-function x b) a) in omega arith }
+
+build-function : (x b : ℕ) (φ : ℕ → Form) → build (node functionKind x (suc b) 0) φ ≡ function x (φ b)
+unfolding build
+build-function x b φ = rw (less-one b)
+
+-- a number in range is found again in its key
+shifted : (z : ℤ) → leastNumber ≤ℤ z → T (nonNeg (z +ℤ pos 2147483648))
+shifted (pos n) h = tt
+shifted (negsuc n) h = let l = leb→le n 2147483647 (h .le) in rw (le-ltb 2147483648 (suc n) (omega arith)) tt
+
+number-form : (z : ℤ) (φ : ℕ → Form) → InRange z → build (node numberKind (numberKey z) 0 0) φ ≡ number z
+unfolding build
+number-form z φ h = ap number (ap (λ (y : ℤ). y -ℤ pos 2147483648) (pos-natAbs (z +ℤ pos 2147483648) (shifted z (h .0))) ∙ +ℤ-negℤ-cancel z (pos 2147483648))
+
+-- the same places and order, said otherwise
+replaced : (R : Recorded) (t : List Node) (f : Form) (ps qs os : List Form → List Form) → Right R t f ps os → ((v : List Form) → ps v ≡ qs v) → Right R t f qs os
+replaced R t f ps qs os r h =
+    record { more = r .more; is = r .is; placed = r .placed; low = r .low; form = r .form; inside = r .inside; places = λ v. r .places v ∙ h v; order = r .order }
+
+-- one after the other
+after : (A B : Recorded) (t : List Node) (f g : Form) (pa pb oa ob : List Form → List Form) → Right A t f pa oa → Right B (A .records) g pb ob → Right (behind (A .places) B) t g (λ v. pa (pb v)) (λ u. oa (ob u))
+after A B t f g pa pb oa ob a b =
+    replaced (behind (A .places) B) t g _ (λ v. pa (pb v)) (λ u. oa (ob u))
+    (extended A (behind (A .places) B) t f g pa _ oa ob a (before (A .places) B (A .records) g pb ob (a .inside) b))
+    (λ v. a .places (pb v))
+
+-- its own place first
+rooted : (R : Recorded) (t : List Node) (f : Form) (ps os : List Form → List Form) → Right R t f ps os → Right (behind (R .root ∷ []) R) t f (λ v. f ∷ ps v) os
+rooted R t f ps os r =
+    record {
+      more = r .more;
+      is = r .is;
+      placed = r .placed;
+      low = r .low;
+      form = r .form;
+      inside = (r .low, r .inside);
+      places = λ v. ap (λ (g : Form). g ∷ (map (formIn (R .records)) (R .places) ++ v)) (r .form) ∙ ap (λ (fs : List Form). f ∷ fs) (r .places v);
+      order = r .order;
+    }
+
+low-after : (R : Recorded) (t : List Node) (f : Form) (ps os : List Form → List Form) → Right R t f ps os → length t ≤ length (R .records)
+low-after R t f ps os r = let x = r .is in let l = length-append t (r .more) in rw x (omega arith)
+
+form-after : (R : Recorded) (t : List Node) (f : Form) (ps os : List Form → List Form) → Right R t f ps os → (j : ℕ) → j < length t → formIn (R .records) j ≡ formIn t j
+form-after R t f ps os r j h = ap (λ (k : List Node). formIn k j) (r .is) ∙ form-kept t (r .more) j h
+
+mutual
+  unfolding recordE formE placesE orderE called givenA givenM kids arity memberOfKind
+
+  recordedE : (e : Expression) (d : Around) (Σ : List Named) (Γ : List Meaning) (t : List Node) → EverywhereE RightCalls e d → EverywhereE SmallNumbers e d → Scoped Σ Γ t
+      → Right (recordE e Σ t) t (formE e Γ) (placesE e Γ) (orderE e Γ)
+  recordedE (letIn x a b) d Σ Γ t c n s =
+      let A = recordedE a (opened d) Σ Γ t (c .1) (n .1) s in
+      let RA = recordE a Σ t in
+      let B = recordedE b (inLet x d) (stands x (suc (RA .root)) ∷ Σ) (means x (formE a Γ) ∷ Γ) (RA .records) (c .2) (n .2) (refl, (A .low, A .form), scoped-after Σ Γ t RA _ _ _ A s) in
+      rooted (behind (RA .places) (recordE b (stands x (suc (RA .root)) ∷ Σ) (RA .records))) t _ _ _ (after RA (recordE b (stands x (suc (RA .root)) ∷ Σ) (RA .records)) t _ _ _ _ _ _ A B)
+  recordedE (lambda x b) d Σ Γ t c n s =
+      let B = recordedE b (inLambda x d) (stands x 0 ∷ Σ) (asLambda x Γ) t (c .1) (n .1) (refl, refl, s) in
+      let RB = recordE b (stands x 0 ∷ Σ) t in
+      let k = node functionKind (packed x) (suc (RB .root)) 0 in
+      subst
+      (λ (g : Form). Right (newRecord k (RB .records) (length (RB .records) ∷ RB .places)) t g (λ v. g ∷ placesE b (asLambda x Γ) v) (λ u. orderE b (asLambda x Γ) (g ∷ u)))
+      (build-function (packed x) (RB .root) (formIn (RB .records)) ∙ ap (function (packed x)) (B .form))
+      (pushed k RB t _ _ _ (function-placed (packed x) (RB .root) (length (RB .records)) (B .low)) B)
+  recordedE (name x r) d Σ Γ t c n s =
+      let N = name-right x Σ Γ t s in
+      let RN = recordName x Σ t in
+      after RN (recordC r (RN .root) Σ (RN .records)) t _ _ _ _ _ _ N
+      (recordedC r d (RN .root) (named x Γ) Σ Γ (RN .records) (c .1) (n .1) (scoped-after Σ Γ t RN _ _ _ N s) (N .low) (N .form))
+  recordedE (literal z r) d Σ Γ t c n s =
+      let k = node numberKind (numberKey z) 0 0 in
+      let N = fresh k t (number z) (leaf-placed (length t) k (aNumber (numberKey z)) refl) (number-form z (formIn t) (n .0)) in
+      let RN = newRecord k t (length t ∷ []) in
+      after RN (recordC r (length t) Σ (t ++ (k ∷ []))) t _ _ _ _ _ _ N
+      (recordedC r d (length t) (number z) Σ Γ (t ++ (k ∷ [])) (c .1) (n .1) (scoped-after Σ Γ t RN _ _ _ N s) (N .low) (N .form))
+  recordedE (bracket e r) d Σ Γ t c n s =
+      let E = recordedE e (opened d) Σ Γ t (c .1) (n .1) s in
+      let RE = recordE e Σ t in
+      after RE (recordC r (RE .root) Σ (RE .records)) t _ _ _ _ _ _ E
+      (recordedC r d (RE .root) (formE e Γ) Σ Γ (RE .records) (c .2) (n .2) (scoped-after Σ Γ t RE _ _ _ E s) (E .low) (E .form))
+
+  recordedC : (r : Calls) (d : Around) (f : ℕ) (F : Form) (Σ : List Named) (Γ : List Meaning) (t : List Node) → EverywhereC RightCalls r d → EverywhereC SmallNumbers r d → Scoped Σ Γ t
+      → f < length t → formIn t f ≡ F → Right (recordC r f Σ t) t (formC r F Γ) (placesC r F Γ) (orderC r F Γ)
+  recordedC done d f F Σ Γ t c n s h e = still t f F h e
+  recordedC (call m a) d f F Σ Γ t c n s h e = recordedA a m d f F Σ Γ t (given-right m (givenA a) (c .0 .0) (c .0 .1)) (c .1) (n .1) s h e
+
+  recordedA : (a : Arguments) (m : List ℕ) (d : Around) (f : ℕ) (F : Form) (Σ : List Named) (Γ : List Meaning) (t : List Node) → row (member m) .arguments ≡ givenA a → EverywhereA RightCalls a d
+      → EverywhereA SmallNumbers a d → Scoped Σ Γ t → f < length t → formIn t f ≡ F
+      → Right (recordA a m f Σ t) t (formA a m F Γ) (λ v. called a m F Γ ∷ placesA a (called a m F Γ) Γ v) (orderA a (called a m F Γ) Γ)
+  recordedA (none r) m d f F Σ Γ t g c n s h e =
+      let k = node (memberKind (member m)) 0 (suc f) 0 in
+      let N = fresh k t (ask (member m) F) (ask-placed (member m) f (length t) g h) (build-ask (member m) f (formIn t) g ∙ ap (ask (member m)) e) in
+      let RN = newRecord k t (length t ∷ []) in
+      after RN (recordC r (length t) Σ (t ++ (k ∷ []))) t _ _ _ _ _ _ N
+      (recordedC r d (length t) (ask (member m) F) Σ Γ (t ++ (k ∷ [])) c n (scoped-after Σ Γ t RN _ _ _ N s) (N .low) (N .form))
+  recordedA (first e′ x) m d f F Σ Γ t g c n s h e =
+      let E = recordedE e′ (opened d) Σ Γ t (c .0) (n .0) s in
+      let RE = recordE e′ Σ t in
+      let l = low-after RE t _ _ _ E in
+      let few = few-arguments (member m) in
+      let only : row (member m) .arguments ≡ 1 = omega arith in
+      let M = recordedM x m d f (RE .root) F (formE e′ Γ) (RE .places) Σ Γ (RE .records) only (c .1) (n .1) (scoped-after Σ Γ t RE _ _ _ E s) (omega arith) (form-after RE t _ _ _ E f h ∙ e) (E .low) (E .form) (E .inside) in
+      replaced _ t _ _ _ _ (extended RE (recordM x m f (RE .root) (RE .places) Σ (RE .records)) t _ _ _ _ _ _ E M) (λ v. ap (λ (fs : List Form). Form.call (member m) F (formE e′ Γ) ∷ fs) (E .places _))
+
+  recordedM : (x : More) (m : List ℕ) (d : Around) (f a : ℕ) (F A : Form) (ps : List ℕ) (Σ : List Named) (Γ : List Meaning) (t : List Node) → row (member m) .arguments ≡ 1 → EverywhereM RightCalls x d
+      → EverywhereM SmallNumbers x d → Scoped Σ Γ t → f < length t → formIn t f ≡ F → a < length t → formIn t a ≡ A → All (λ (p : ℕ). p < length t) ps
+      → Right (recordM x m f a ps Σ t) t (formM x (Form.call (member m) F A) Γ) (λ v. Form.call (member m) F A ∷ (map (formIn t) ps ++ placesM x (Form.call (member m) F A) Γ v)) (orderM x (Form.call (member m) F A) Γ)
+  recordedM (last r) m d f a F A ps Σ Γ t g c n s h e k i q =
+      let y = node (memberKind (member m)) 0 (suc f) (suc a) in
+      let G = Form.call (member m) F A in
+      let N = fresh y t G (call-placed (member m) f a (length t) g h k) (build-call (member m) f a (formIn t) g ∙ (λ j. Form.call (member m) (e j) (i j))) in
+      let RN = newRecord y t (length t ∷ []) in
+      let C = recordedC r d (length t) G Σ Γ (t ++ (y ∷ [])) c n (scoped-after Σ Γ t RN _ _ _ N s) (N .low) (N .form) in
+      let RC = recordC r (length t) Σ (t ++ (y ∷ [])) in
+      let l = low-after RN t _ _ _ N in
+      replaced _ t _ _ _ _
+      (after RN (behind ps RC) t _ _ _ _ _ _ N (before ps RC (t ++ (y ∷ [])) _ _ _ (all-longer (length t) _ ps l q) C))
+      (λ v. ap (λ (fs : List Form). G ∷ (fs ++ placesC r G Γ v)) (forms-kept t (y ∷ []) ps q))
+  recordedM (next e′ x) m d f a F A ps Σ Γ t g c n s h e k i q =
+      let E = recordedE e′ (opened d) Σ Γ t (c .0) (n .0) s in
+      let RE = recordE e′ Σ t in
+      let G = Form.call (member m) F A in
+      let l = low-after RE t _ _ _ E in
+      let M = recordedM x m d f a F A (ps ++ RE .places) Σ Γ (RE .records) g (c .1) (n .1) (scoped-after Σ Γ t RE _ _ _ E s) (omega arith) (form-after RE t _ _ _ E f h ∙ e) (omega arith) (form-after RE t _ _ _ E a k ∙ i)
+      (all-append (λ (p : ℕ). p < length (RE .records)) ps (RE .places) (all-longer (length t) _ ps l q) (E .inside)) in
+      replaced _ t _ _ _ _ (extended RE (recordM x m f a (ps ++ RE .places) Σ (RE .records)) t _ _ _ _ _ _ E M)
+      (λ v.
+      ap (λ (fs : List Form). G ∷ fs)
+      (ap (λ (fs : List Form). fs ++ placesM x G Γ v) (map-append (formIn (RE .records)) ps (RE .places))
+      ∙ append-assoc (map (formIn (RE .records)) ps) (map (formIn (RE .records)) (RE .places)) (placesM x G Γ v)
+      ∙ ap (λ (fs : List Form). map (formIn (RE .records)) ps ++ fs) (E .places _)
+      ∙ ap (λ (fs : List Form). fs ++ placesE e′ Γ (placesM x G Γ v)) (ap (λ (y : List Node). map (formIn y) ps) (E .is) ∙ forms-kept t (E .more) ps q)))
+
+-- of a whole tree that keeps the limits
+pub record Unfolds (e : Expression) (R : Recorded) : Type 0 where
+  pub placed : AllPlaced formulas nodes 0 (R .records)
+  pub low : R .root < length (R .records)
+  pub whole : formIn (R .records) (R .root) ≡ formOf e
+  pub inside : All (λ (p : ℕ). p < length (R .records)) (R .places)
+  pub places : map (formIn (R .records)) (R .places) ≡ formsByPlace e
+  pub order : (fs : List Form) → insertAll same (formsOf (R .records)) fs ≡ insertAll same (formsInOrder e) fs
+
+pub unfolds : (e : Expression) → KeepsLimits e → Unfolds e (recordsOf e)
+unfolding decode
+unfolds e k =
+    let r = recordedE e outermost [] [] [] (k .members) (k .numbers) tt in
+    let x = r .is in
+    record {
+      placed = rw x (r .placed);
+      low = r .low;
+      whole = r .form;
+      inside = r .inside;
+      places = sym (append-nil _) ∙ r .places [];
+      order = λ fs. ap (λ (xs : List Form). insertAll same xs fs) (sym (append-nil (formsOf (recordsOf e .records)))) ∙ sym (r .order [] fs);
+    }

@@ -1,0 +1,272 @@
+-- 01's table, refusals 6 to 12: when exactly a single token has each fault, and when it has none.
+-- Assumes nothing.
+use mathlib.Core.Path.{_≡_, refl, sym, ap, _∙_}
+use mathlib.Core.Logic.{_↔_, _⊎_, inl, inr, Iff·rfl, Iff·trans, Iff·not, Iff·and, ⊎-map}
+use mathlib.Core.Bool.{Bool, true, false, not, _&&_, _||_, true≢false, false≢true}
+use mathlib.Core.List.{List, [], _∷_}
+use Prim.Native.Nat.{ℕ, suc, _-_, _<_, _≤_}
+use native.Mathlib.Omega.{arith}
+use lib.Dec.{T, T-not, leb, eqb, leb→le, le→leb, eqb→eq, eqb-refl}
+use lib.IntN.{ℤ}
+use lib.ListN.{length, getD}
+use lib.Signed.{ltZ, _≤ℤ_, ltZ-yes, ltZ-no, clashℤ}
+use Rattle.language.specs.Limits.{textParts, openMarks, openLambdas, nameBytes, leastNumber, mostNumber}
+use Rattle.language.specs.Names.{packed, sameName, isLong, isData, dataWord}
+use Rattle.grammar.specs.Faults.{Fault, fine, outOfRange, longName, dataBound, badCall, manyLambdas, reusedName, tooMany, faultNumber, ifSo, Binder, byLet, byLambda, Around}
+use Rattle.grammar.specs.Faults.{lambdasOf, lambdaNamed, deep, markFault, lambdaFault, letNameFault, lambdaNameFault, nameFault, literalFault, callFault, note, orMany, fault}
+use Rattle.grammar.specs.KeptLimits.{NoLambdaNamed, NotData, InRange}
+
+-- tests, as what they test
+is-true : (b : Bool) → T b ↔ (b ≡ true)
+is-true true = (λ t. refl, λ h. tt)
+is-true false = (λ t. absurd t, λ h. absurd (false≢true h))
+
+pub is-false : (b : Bool) → (b ≡ false) ↔ (¬ (b ≡ true))
+is-false true = (λ h. absurd (true≢false h), λ h. absurd (h refl))
+is-false false = (λ h e. false≢true e, λ h. refl)
+
+pub leb-true : (m n : ℕ) → (leb m n ≡ true) ↔ (m ≤ n)
+leb-true m n = (λ h. leb→le m n (is-true (leb m n) .1 h), λ h. is-true (leb m n) .0 (le→leb m n h))
+
+pub leb-false : (m n : ℕ) → (leb m n ≡ false) ↔ (n < m)
+leb-false m n = Iff·trans (is-false (leb m n)) (Iff·trans (Iff·not (leb-true m n)) (λ h. omega arith, λ h k. omega arith))
+
+pub eqb-true : (m n : ℕ) → (eqb m n ≡ true) ↔ (m ≡ n)
+eqb-true m n = (λ h. eqb→eq m n (is-true (eqb m n) .1 h), λ h. rw h (is-true (eqb n n) .0 (eqb-refl n)))
+
+long : (x : List ℕ) → (isLong x ≡ true) ↔ (nameBytes < length x)
+long x = leb-true (suc nameBytes) (length x)
+
+short : (x : List ℕ) → (isLong x ≡ false) ↔ (length x ≤ nameBytes)
+short x = Iff·trans (leb-false (suc nameBytes) (length x)) (λ h. omega arith, λ h. omega arith)
+
+neither : (a b : Bool) → ((a || b) ≡ false) ↔ ((a ≡ false) × (b ≡ false))
+neither true b = (λ h. absurd (true≢false h), λ h. absurd (true≢false (h .0)))
+neither false b = (λ h. (refl, h), λ h. h .1)
+
+is-data : (x : List ℕ) → (isData x ≡ true) ↔ (packed x ≡ packed dataWord)
+unfolding isData
+is-data x = eqb-true (packed x) (packed dataWord)
+
+not-data : (x : List ℕ) → (isData x ≡ false) ↔ NotData x
+not-data x = Iff·trans (is-false (isData x)) (Iff·not (is-data x))
+
+new-name : (x : List ℕ) (bs : List Binder) → (lambdaNamed x bs ≡ false) ↔ NoLambdaNamed x bs
+unfolding lambdaNamed
+new-name x [] = (λ h. tt, λ h. refl)
+new-name x (byLet y ∷ bs) = new-name x bs
+new-name x (byLambda y ∷ bs) =
+    Iff·trans (neither (sameName x y) (lambdaNamed x bs)) (Iff·and (Iff·trans (is-false (sameName x y)) (Iff·not (eqb-true (packed x) (packed y)))) (new-name x bs))
+
+not-less : (a b : ℤ) → (ltZ a b ≡ false) ↔ (b ≤ℤ a)
+not-less a b = (λ h. ltZ-no (rw h tt), λ h. is-false (ltZ a b) .1 (λ e. clashℤ (ltZ-yes (is-true (ltZ a b) .1 e)) h))
+
+abbrev outside : ℤ → Bool
+outside z = ltZ z leastNumber || ltZ mostNumber z
+
+in-range : (z : ℤ) → (outside z ≡ false) ↔ InRange z
+in-range z = Iff·trans (neither (ltZ z leastNumber) (ltZ mostNumber z)) (Iff·and (not-less z leastNumber) (not-less mostNumber z))
+
+true-not : (b : Bool) (A : Type 0) → (b ≡ false) ↔ A → (b ≡ true) ↔ (¬ A)
+true-not true A h = (λ e a. true≢false (h .1 a), λ n. refl)
+true-not false A h = (λ e. absurd (false≢true e), λ n. absurd (n (h .0 refl)))
+
+-- a fault is known by its number
+faultOf : ℕ → Fault
+faultOf n = getD (fine ∷ outOfRange ∷ longName ∷ dataBound ∷ badCall ∷ manyLambdas ∷ reusedName ∷ tooMany ∷ []) (n - 5) fine
+
+fault-of-number : (f : Fault) → faultOf (faultNumber f) ≡ f
+unfolding faultOf faultNumber
+fault-of-number fine = refl
+fault-of-number outOfRange = refl
+fault-of-number longName = refl
+fault-of-number dataBound = refl
+fault-of-number badCall = refl
+fault-of-number manyLambdas = refl
+fault-of-number reusedName = refl
+fault-of-number tooMany = refl
+
+pub same-fault : (f g : Fault) → faultNumber f ≡ faultNumber g → f ≡ g
+same-fault f g h = sym (fault-of-number f) ∙ ap faultOf h ∙ fault-of-number g
+
+-- the fault behind a refused number: from 6 to 11 the token's own; at 12 the token's own, or it is a 129th part
+number-cases : (f : Fault) (b : Bool) → (orMany (faultNumber f) b ≡ faultNumber f) ⊎ ((orMany (faultNumber f) b ≡ faultNumber tooMany) × (f ≡ fine) × (b ≡ true))
+unfolding faultNumber
+number-cases fine true = inr (refl, refl, refl)
+number-cases fine false = inl refl
+number-cases outOfRange b = inl refl
+number-cases longName b = inl refl
+number-cases dataBound b = inl refl
+number-cases badCall b = inl refl
+number-cases manyLambdas b = inl refl
+number-cases reusedName b = inl refl
+number-cases tooMany b = inl refl
+
+both : (a b : Bool) → (a && b) ≡ true → (a ≡ true) × (b ≡ true)
+both true b e = (refl, e)
+both false b e = absurd (false≢true e)
+
+pub number-means : (c : ℕ) (f : Fault) (p : Bool) (g : Fault) → fault c (note f p) ≡ faultNumber g → (f ≡ g) ⊎ ((g ≡ tooMany) × (f ≡ fine) × (p ≡ true) × (textParts ≤ c))
+unfolding fault
+number-means c f p g h = ⊎-map (λ e. same-fault f g (sym e ∙ h)) many (number-cases f (p && leb textParts c))
+  where
+    many : (orMany (faultNumber f) (p && leb textParts c) ≡ faultNumber tooMany) × (f ≡ fine) × ((p && leb textParts c) ≡ true) → (g ≡ tooMany) × (f ≡ fine) × (p ≡ true) × (textParts ≤ c)
+    many z = let y = both p (leb textParts c) (z .2) in (same-fault g tooMany (sym h ∙ z .0), z .1, y .0, leb-true textParts c .0 (y .1))
+
+-- two faults that their numbers tell apart
+abbrev Apart : Fault → Fault → Type 0
+Apart f g = T (not (eqb (faultNumber f) (faultNumber g)))
+
+apart : (f g : Fault) → Apart f g → ¬ (f ≡ g)
+apart f g n e = T-not (eqb (faultNumber f) (faultNumber g)) n (is-true (eqb (faultNumber f) (faultNumber g)) .1 (eqb-true (faultNumber f) (faultNumber g) .1 (ap faultNumber e)))
+
+-- of the tests in their order: one that names another fault fails
+past : (b : Bool) (f g h : Fault) → Apart f h → (ifSo b f g ≡ h) ↔ ((b ≡ false) × (g ≡ h))
+past true f g h n = (λ e. absurd (apart f h n e), λ z. absurd (true≢false (z .0)))
+past false f g h n = (λ e. (refl, e), λ z. z .1)
+
+-- and the one that names this fault holds, where nothing behind it names this fault
+hit : (b : Bool) (f g : Fault) → ¬ (g ≡ f) → (ifSo b f g ≡ f) ↔ (b ≡ true)
+hit true f g n = (λ e. refl, λ e. refl)
+hit false f g n = (λ e. absurd (n e), λ e. absurd (false≢true e))
+
+lacks : (b : Bool) (f g h : Fault) → Apart f h → ¬ (g ≡ h) → ¬ (ifSo b f g ≡ h)
+lacks true f g h n m e = apart f h n e
+lacks false f g h n m e = m e
+
+-- the last test
+clear : (b : Bool) (f : Fault) → Apart f fine → (ifSo b f fine ≡ fine) ↔ (b ≡ false)
+clear b f n = Iff·trans (past b f fine fine n) (λ h. h .0, λ h. (h, refl))
+
+only : (b : Bool) (f : Fault) → Apart f fine → (ifSo b f fine ≡ f) ↔ (b ≡ true)
+only b f n = hit b f fine (λ e. apart f fine n (sym e))
+
+misses : (b : Bool) (f h : Fault) → Apart f h → Apart fine h → ¬ (ifSo b f fine ≡ h)
+misses b f h n m = lacks b f fine h n (apart fine h m)
+
+-- no fault
+module _ (d : Around) where
+  pub deep-fine : (deep d ≡ fine) ↔ (d .marks < openMarks)
+  unfolding faultNumber
+  deep-fine = Iff·trans (clear (leb openMarks (d .marks)) tooMany tt) (leb-false openMarks (d .marks))
+
+  pub mark-fine : (w : Bool) → (markFault w d ≡ fine) ↔ ((w ≡ false) × (d .marks < openMarks))
+  unfolding faultNumber markFault
+  mark-fine w = Iff·trans (past w badCall (deep d) fine tt) (Iff·and Iff·rfl deep-fine)
+
+  pub lambda-fine : (w : Bool) → (lambdaFault w d ≡ fine) ↔ ((w ≡ false) × ((lambdasOf (d .binders) < openLambdas) × (d .marks < openMarks)))
+  unfolding faultNumber lambdaFault
+  lambda-fine w =
+      Iff·trans (past w badCall _ fine tt) (Iff·and Iff·rfl
+      (Iff·trans (past (leb openLambdas (lambdasOf (d .binders))) manyLambdas (deep d) fine tt) (Iff·and (leb-false openLambdas (lambdasOf (d .binders))) deep-fine)))
+
+  pub lambda-name-fine : (x : List ℕ) → (lambdaNameFault x d ≡ fine) ↔ ((length x ≤ nameBytes) × (NotData x × NoLambdaNamed x (d .binders)))
+  unfolding faultNumber lambdaNameFault
+  lambda-name-fine x =
+      Iff·trans (past (isLong x) longName _ fine tt) (Iff·and (short x)
+      (Iff·trans (past (isData x) dataBound _ fine tt) (Iff·and (not-data x)
+      (Iff·trans (clear (lambdaNamed x (d .binders)) reusedName tt) (new-name x (d .binders))))))
+
+pub let-name-fine : (x : List ℕ) → (letNameFault x ≡ fine) ↔ ((length x ≤ nameBytes) × NotData x)
+unfolding faultNumber letNameFault
+let-name-fine x =
+    Iff·trans (past (isLong x) longName _ fine tt) (Iff·and (short x) (Iff·trans (clear (isData x) dataBound tt) (not-data x)))
+
+pub name-fine : (w : Bool) (x : List ℕ) → (nameFault w x ≡ fine) ↔ ((length x ≤ nameBytes) × (w ≡ false))
+unfolding faultNumber nameFault
+name-fine w x = Iff·trans (past (isLong x) longName _ fine tt) (Iff·and (short x) (clear w badCall tt))
+
+pub literal-fine : (w : Bool) (z : ℤ) → (literalFault w z ≡ fine) ↔ (InRange z × (w ≡ false))
+unfolding faultNumber literalFault
+literal-fine w z = Iff·trans (past (outside z) outOfRange _ fine tt) (Iff·and (in-range z) (clear w badCall tt))
+
+pub call-fine : (b : Bool) → (callFault b ≡ fine) ↔ (b ≡ false)
+unfolding faultNumber callFault
+call-fine b = clear b badCall tt
+
+-- 6: a number out of range
+pub six : (w : Bool) (z : ℤ) → (literalFault w z ≡ outOfRange) ↔ (¬ InRange z)
+unfolding faultNumber literalFault
+six w z =
+    Iff·trans (hit (outside z) outOfRange _ (misses w badCall outOfRange tt tt))
+    (true-not (outside z) (InRange z) (in-range z))
+
+-- 7: a name of over 8 bytes, bound or in use
+pub seven-name : (w : Bool) (x : List ℕ) → (nameFault w x ≡ longName) ↔ (nameBytes < length x)
+unfolding faultNumber nameFault
+seven-name w x = Iff·trans (hit (isLong x) longName _ (misses w badCall longName tt tt)) (long x)
+
+pub seven-let : (x : List ℕ) → (letNameFault x ≡ longName) ↔ (nameBytes < length x)
+unfolding faultNumber letNameFault
+seven-let x = Iff·trans (hit (isLong x) longName _ (misses (isData x) dataBound longName tt tt)) (long x)
+
+pub seven-lambda : (x : List ℕ) (d : Around) → (lambdaNameFault x d ≡ longName) ↔ (nameBytes < length x)
+unfolding faultNumber lambdaNameFault
+seven-lambda x d =
+    Iff·trans (hit (isLong x) longName _ (lacks (isData x) dataBound _ longName tt
+    (misses (lambdaNamed x (d .binders)) reusedName longName tt tt))) (long x)
+
+-- 8: data bound
+pub eight-let : (x : List ℕ) → (letNameFault x ≡ dataBound) ↔ ((length x ≤ nameBytes) × (packed x ≡ packed dataWord))
+unfolding faultNumber letNameFault
+eight-let x = Iff·trans (past (isLong x) longName _ dataBound tt) (Iff·and (short x) (Iff·trans (only (isData x) dataBound tt) (is-data x)))
+
+pub eight-lambda : (x : List ℕ) (d : Around) → (lambdaNameFault x d ≡ dataBound) ↔ ((length x ≤ nameBytes) × (packed x ≡ packed dataWord))
+unfolding faultNumber lambdaNameFault
+eight-lambda x d =
+    Iff·trans (past (isLong x) longName _ dataBound tt) (Iff·and (short x)
+    (Iff·trans (hit (isData x) dataBound _ (misses (lambdaNamed x (d .binders)) reusedName dataBound tt tt)) (is-data x)))
+
+-- 9: a member, ) or comma that is wrong, or an expression where a member takes no argument
+pub nine-call : (b : Bool) → (callFault b ≡ badCall) ↔ (b ≡ true)
+unfolding faultNumber callFault
+nine-call b = only b badCall tt
+
+pub nine-mark : (w : Bool) (d : Around) → (markFault w d ≡ badCall) ↔ (w ≡ true)
+unfolding faultNumber markFault
+nine-mark w d = hit w badCall (deep d) (misses (leb openMarks (d .marks)) tooMany badCall tt tt)
+
+pub nine-lambda : (w : Bool) (d : Around) → (lambdaFault w d ≡ badCall) ↔ (w ≡ true)
+unfolding faultNumber lambdaFault
+nine-lambda w d =
+    hit w badCall _ (lacks (leb openLambdas (lambdasOf (d .binders))) manyLambdas (deep d) badCall tt
+    (misses (leb openMarks (d .marks)) tooMany badCall tt tt))
+
+pub nine-name : (w : Bool) (x : List ℕ) → (nameFault w x ≡ badCall) ↔ ((length x ≤ nameBytes) × (w ≡ true))
+unfolding faultNumber nameFault
+nine-name w x = Iff·trans (past (isLong x) longName _ badCall tt) (Iff·and (short x) (only w badCall tt))
+
+pub nine-number : (w : Bool) (z : ℤ) → (literalFault w z ≡ badCall) ↔ (InRange z × (w ≡ true))
+unfolding faultNumber literalFault
+nine-number w z = Iff·trans (past (outside z) outOfRange _ badCall tt) (Iff·and (in-range z) (only w badCall tt))
+
+-- 10: a third open \
+pub ten : (w : Bool) (d : Around) → (lambdaFault w d ≡ manyLambdas) ↔ ((w ≡ false) × (openLambdas ≤ lambdasOf (d .binders)))
+unfolding faultNumber lambdaFault
+ten w d =
+    Iff·trans (past w badCall _ manyLambdas tt) (Iff·and Iff·rfl
+    (Iff·trans (hit (leb openLambdas (lambdasOf (d .binders))) manyLambdas (deep d) (misses (leb openMarks (d .marks)) tooMany manyLambdas tt tt))
+    (leb-true openLambdas (lambdasOf (d .binders)))))
+
+-- 11: the name of a lambda around
+pub eleven : (x : List ℕ) (d : Around) → (lambdaNameFault x d ≡ reusedName) ↔ ((length x ≤ nameBytes) × (NotData x × (¬ NoLambdaNamed x (d .binders))))
+unfolding faultNumber lambdaNameFault
+eleven x d =
+    Iff·trans (past (isLong x) longName _ reusedName tt) (Iff·and (short x)
+    (Iff·trans (past (isData x) dataBound _ reusedName tt) (Iff·and (not-data x)
+    (Iff·trans (only (lambdaNamed x (d .binders)) reusedName tt) (true-not (lambdaNamed x (d .binders)) _ (new-name x (d .binders)))))))
+
+-- 12: a 17th open mark; a 129th part is in number-means
+pub twelve : (d : Around) → (deep d ≡ tooMany) ↔ (openMarks ≤ d .marks)
+unfolding faultNumber
+twelve d = Iff·trans (only (leb openMarks (d .marks)) tooMany tt) (leb-true openMarks (d .marks))
+
+pub twelve-mark : (w : Bool) (d : Around) → (markFault w d ≡ tooMany) ↔ ((w ≡ false) × (openMarks ≤ d .marks))
+unfolding faultNumber markFault
+twelve-mark w d = Iff·trans (past w badCall (deep d) tooMany tt) (Iff·and Iff·rfl (twelve d))
+
+pub twelve-lambda : (w : Bool) (d : Around) → (lambdaFault w d ≡ tooMany) ↔ ((w ≡ false) × ((lambdasOf (d .binders) < openLambdas) × (openMarks ≤ d .marks)))
+unfolding faultNumber lambdaFault
+twelve-lambda w d =
+    Iff·trans (past w badCall _ tooMany tt) (Iff·and Iff·rfl
+    (Iff·trans (past (leb openLambdas (lambdasOf (d .binders))) manyLambdas (deep d) tooMany tt) (Iff·and (leb-false openLambdas (lambdasOf (d .binders))) (twelve d))))

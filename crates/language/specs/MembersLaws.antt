@@ -1,0 +1,251 @@
+-- The member table: each member has one number and one name, both are its own, and the table's cells say what its row says.
+-- Assumes nothing.
+use mathlib.Core.Path.{_≡_, refl, sym, ap, _∙_}
+use mathlib.Core.Bool.{Bool, true, false, _&&_, and-eq-true-iff}
+use mathlib.Core.List.{List, [], _∷_, _++_}
+use mathlib.Core.Logic.{_↔_}
+use Prim.Native.Nat.{ℕ, zero, suc, _+_, _*_, _/_, _%_, _≤_, _<_}
+use native.Mathlib.Nat.{add-zero, zero-add, add-suc, suc-add}
+use native.Mathlib.Numerals.{add-one}
+use native.Mathlib.Omega.{arith}
+use lib.Dec.{eqb, leb, lit<}
+use lib.ListN.{length, getD, drop, drop-of-length-le, List·getD-append, List·getD-eq-default}
+use borrow.Author.Tests.{eqb-true, eq-eqb, leb-true}
+use Rattle.language.specs.Names.{bytes}
+use Rattle.language.specs.Members.{Row, row, members, memberNumber, foundIn, memberAt, sameBytes, pickFound, namedIn, memberOf, kindNumber, rowCells, cellsOf, tableCell}
+use Rattle.language.specs.declared.members.Member.{Member}
+use Rattle.language.specs.declared.members.Member.the-variants.{Add, Sub, Mul, Div, Gt, Eq, Skip, Take, Count, Sum, Min, Max, At, CountWhere, LongestRun, SumBy}
+use Rattle.language.specs.declared.members.Kind.{Kind}
+use Rattle.language.specs.declared.members.Kind.the-variants.{Number, Window, Function, Nothing}
+use Rattle.language.specs.declared.members.Found.{Found}
+use Rattle.language.specs.declared.members.Found.the-variants.{Is, Unknown}
+
+-- ---- a test that passes at every entry of a table
+
+module _ {A : Type 0} (f : ℕ → A → Bool) where
+  -- the entries' places are counted from i
+  abbrev passes : ℕ → List A → Bool
+  passes i [] = true
+  passes i (x ∷ xs) = f i x && passes (suc i) xs
+
+  passes-from : (d : A) (xs : List A) (i k : ℕ) → passes i xs ≡ true → k < length xs → f (i + k) (getD xs k d) ≡ true
+  passes-from d [] i k t h = absurd (omega arith)
+  passes-from d (x ∷ xs) i zero t h = rw add-zero (and-eq-true-iff (f i x) (passes (suc i) xs) .0 t .0)
+  passes-from d (x ∷ xs) i (suc k) t h =
+      rw (add-suc, ← suc-add) (passes-from d xs (suc i) k (and-eq-true-iff (f i x) (passes (suc i) xs) .0 t .1) (omega arith))
+
+  passes-at : (d : A) (xs : List A) → passes 0 xs ≡ true → (k : ℕ) → k < length xs → f k (getD xs k d) ≡ true
+  passes-at d xs t k h = rw zero-add at (passes-from d xs 0 k t h)
+
+-- ---- a number that is none of the first k
+abbrev pub NoneOf : ℕ → ℕ → Type 0
+NoneOf zero n = Unit {0}
+NoneOf (suc k) n = NoneOf k n × (n ≡ k → ⊥)
+
+pub none-of : (k n : ℕ) → NoneOf k n → k ≤ n
+none-of zero n h = omega arith
+none-of (suc k) n h = omega (arith, none-of k n (h .0))
+
+-- ---- numbers
+
+pub number-found : (m : Member) → memberAt (memberNumber m) ≡ Is m
+unfolding memberAt
+number-found Add = refl
+number-found Sub = refl
+number-found Mul = refl
+number-found Div = refl
+number-found Gt = refl
+number-found Eq = refl
+number-found Skip = refl
+number-found Take = refl
+number-found Count = refl
+number-found Sum = refl
+number-found Min = refl
+number-found Max = refl
+number-found At = refl
+number-found CountWhere = refl
+number-found LongestRun = refl
+number-found SumBy = refl
+
+pub number-at : (m : Member) (n : ℕ) → n ≡ memberNumber m → Is m ≡ memberAt n
+number-at m n e = sym (number-found m) ∙ ap memberAt (sym e)
+
+pub number-injective : (m k : Member) → memberNumber m ≡ memberNumber k → m ≡ k
+number-injective m k e = cc (number-found m, number-found k)
+
+found-inside : (ms : List Member) (n : ℕ) (m : Member) → foundIn ms n ≡ Is m → (n < length ms) × (getD ms n Add ≡ m)
+found-inside [] n m e = let z : _≡_ {A = ℕ} 0 1 = cc in absurd (omega arith)
+found-inside (k ∷ ms) zero m e = (omega arith, cc)
+found-inside (k ∷ ms) (suc n) m e = let h = found-inside ms n m e in (omega arith, h .1)
+
+pub number-below : (m : Member) → memberNumber m < 16
+unfolding memberAt
+number-below m = found-inside members (memberNumber m) m (number-found m) .0
+
+found-beyond : (ms : List Member) (n : ℕ) → length ms ≤ n → foundIn ms n ≡ Unknown
+found-beyond [] n h = refl
+found-beyond (k ∷ ms) zero h = absurd (omega arith)
+found-beyond (k ∷ ms) (suc n) h = found-beyond ms n (omega arith)
+
+pub number-beyond : (n : ℕ) → 16 ≤ n → memberAt n ≡ Unknown
+unfolding memberAt
+number-beyond n h = found-beyond members n h
+
+-- a test that passes in the table passes for every member
+each : (p : Member → Bool) → passes (λ i m. p m) 0 members ≡ true → (m : Member) → p m ≡ true
+unfolding memberAt
+each p t m =
+    let h = found-inside members (memberNumber m) m (number-found m) in
+    rw (h .1) at (passes-at (λ i k. p k) Add members t (memberNumber m) (h .0))
+
+each-equal : (f g : Member → ℕ) → passes (λ i m. eqb (f m) (g m)) 0 members ≡ true → (m : Member) → f m ≡ g m
+each-equal f g t m = eqb-true (f m) (g m) (each (λ k. eqb (f k) (g k)) t m)
+
+-- ---- names
+
+same-refl : (w : List ℕ) → sameBytes w w ≡ true
+unfolding sameBytes
+same-refl [] = refl
+same-refl (b ∷ w) = rw (eq-eqb b b refl, same-refl w)
+
+same-equal : (v w : List ℕ) → sameBytes v w ≡ true → v ≡ w
+unfolding sameBytes
+same-equal [] [] e = refl
+same-equal [] (b ∷ w) e = cc
+same-equal (a ∷ v) [] e = cc
+same-equal (a ∷ v) (b ∷ w) e =
+    let h = and-eq-true-iff (eqb a b) (sameBytes v w) .0 e in
+    cc (eqb-true a b (h .0), same-equal v w (h .1))
+
+pub same-bytes : (v w : List ℕ) → (sameBytes v w ≡ true) ↔ (v ≡ w)
+same-bytes v w = (same-equal v w, λ e. rw e (same-refl w))
+
+refuted : (b : Bool) → (b ≡ true → ⊥) → b ≡ false
+refuted true h = absurd (h refl)
+refuted false h = refl
+
+pub other-bytes : (v w : List ℕ) → (v ≡ w → ⊥) → sameBytes v w ≡ false
+other-bytes v w h = refuted (sameBytes v w) (λ e. h (same-equal v w e))
+
+isMember : Member → Found → Bool
+isMember m (Is k) = eqb (memberNumber k) (memberNumber m)
+isMember m Unknown = false
+
+is-member : (m : Member) (f : Found) → isMember m f ≡ true → f ≡ Is m
+unfolding isMember
+is-member m (Is k) e = ap Is (number-injective k m (eqb-true (memberNumber k) (memberNumber m) e))
+is-member m Unknown e = cc
+
+pub name-found : (m : Member) → memberOf (row m .name) ≡ Is m
+unfolding isMember memberOf namedIn sameBytes row bytes
+name-found m = is-member m (memberOf (row m .name)) (each (λ k. isMember k (memberOf (row k .name))) refl m)
+
+picked : (b : Bool) (k m : Member) (f : Found) (w : List ℕ) → sameBytes w (row k .name) ≡ b → (f ≡ Is m → w ≡ row m .name) → pickFound b (Is k) f ≡ Is m → w ≡ row m .name
+picked true k m f w s h e = cc (same-equal w (row k .name) s)
+picked false k m f w s h e = h e
+
+named-in : (ms : List Member) (w : List ℕ) (m : Member) → namedIn ms w ≡ Is m → w ≡ row m .name
+unfolding namedIn
+named-in [] w m e = cc
+named-in (k ∷ ms) w m e = picked (sameBytes w (row k .name)) k m (namedIn ms w) w refl (named-in ms w m) e
+
+pub name-own : (w : List ℕ) (m : Member) → memberOf w ≡ Is m → w ≡ row m .name
+unfolding memberOf
+name-own w m e = named-in members w m e
+
+-- ---- the search for a name, row by row
+
+-- the name of the member, if there is one
+abbrev pub nameOf : Found → List ℕ
+nameOf (Is m) = row m .name
+nameOf Unknown = []
+
+rest-row : (ms : List Member) (n : ℕ) (w : List ℕ) → n < length ms → namedIn (drop n ms) w ≡ pickFound (sameBytes w (nameOf (foundIn ms n))) (foundIn ms n) (namedIn (drop (suc n) ms) w)
+unfolding namedIn
+rest-row [] n w h = absurd (omega arith)
+rest-row (m ∷ ms) zero w h = refl
+rest-row (m ∷ ms) (suc n) w h = rest-row ms n w (omega arith)
+
+pub row-is : (n : ℕ) (w : List ℕ) → n < 16 → sameBytes w (nameOf (memberAt n)) ≡ true → memberAt n ≡ namedIn (drop n members) w
+unfolding memberAt
+row-is n w h e = rw (rest-row members n w h, e)
+
+pub row-not : (n : ℕ) (w : List ℕ) → n < 16 → sameBytes w (nameOf (memberAt n)) ≡ false → namedIn (drop (n + 1) members) w ≡ namedIn (drop n members) w
+unfolding memberAt
+row-not n w h e = rw (add-one, rest-row members n w h, e)
+
+pub row-none : (n : ℕ) (w : List ℕ) → 16 ≤ n → namedIn (drop n members) w ≡ Unknown
+unfolding namedIn
+row-none n w h = rw (drop-of-length-le members h)
+
+-- ---- cells
+
+-- the kind of a number
+abbrev pub kindAt : ℕ → Kind
+kindAt n = getD (Nothing ∷ Number ∷ Window ∷ Function ∷ []) n Nothing
+
+kind-at : (k : Kind) → kindAt (kindNumber k) ≡ k
+kind-at Number = refl
+kind-at Window = refl
+kind-at Function = refl
+kind-at Nothing = refl
+
+pub kind-beyond : (n : ℕ) → 4 ≤ n → kindAt n ≡ Nothing
+kind-beyond n h = List·getD-eq-default (Nothing ∷ Number ∷ Window ∷ Function ∷ []) Nothing h
+
+-- the rows' cells, one after the other
+unfoldable pub rowsCells : List Member → List ℕ
+rowsCells [] = []
+rowsCells (m ∷ ms) = rowCells (row m) ++ rowsCells ms
+
+pub table-cells : (k : ℕ) → k < 256 → getD (rowsCells members) k 0 ≡ tableCell k
+unfolding rowsCells tableCell memberAt rowCells row bytes
+table-cells k h = eqb-true (getD (rowsCells members) k 0) (tableCell k) (passes-at (λ j x. eqb x (tableCell j)) 0 (rowsCells members) refl k h)
+
+row-cell : (n i : ℕ) → i < 16 → tableCell (16 * n + i) ≡ getD (cellsOf (memberAt n)) i 0
+unfolding tableCell
+row-cell n i h =
+    let q : (16 * n + i) / 16 ≡ n = omega arith in
+    let r : (16 * n + i) % 16 ≡ i = omega arith in
+    rw (q, r)
+
+pub name-short : (f : Found) → length (nameOf f) ≤ 12
+unfolding row bytes
+name-short (Is m) = leb-true (length (row m .name)) 12 (each (λ k. leb (length (row k .name)) 12) refl m)
+name-short Unknown = omega arith
+
+name-length : (f : Found) → getD (cellsOf f) 12 0 ≡ length (nameOf f)
+unfolding row bytes rowCells
+name-length (Is m) = each-equal (λ k. getD (rowCells (row k)) 12 0) (λ k. length (row k .name)) refl m
+name-length Unknown = refl
+
+name-byte : (f : Found) (i : ℕ) → i < length (nameOf f) → getD (cellsOf f) i 0 ≡ getD (nameOf f) i 0
+unfolding rowCells
+name-byte (Is m) i h = List·getD-append (row m .name) _ 0 i h
+name-byte Unknown i h = refl
+
+-- in the table's bytes a row has its name and the name's length
+module _ (t : List ℕ) (n : ℕ) (e : t ≡ rowsCells members) (h : n < 16) where
+  pub size-cell : getD t (16 * n + 12) 0 ≡ length (nameOf (memberAt n))
+  size-cell = rw e (table-cells (16 * n + 12) (omega arith) ∙ row-cell n 12 (lit< tt) ∙ name-length (memberAt n))
+
+  pub name-cell : (i : ℕ) → i < length (nameOf (memberAt n)) → getD t (16 * n + i) 0 ≡ getD (nameOf (memberAt n)) i 0
+  name-cell i k =
+      let short = name-short (memberAt n) in
+      rw e (table-cells (16 * n + i) (omega arith) ∙ row-cell n i (omega arith) ∙ name-byte (memberAt n) i k)
+
+pub arguments-cell : (m : Member) → tableCell (16 * memberNumber m + 13) ≡ row m .arguments
+unfolding tableCell memberAt rowCells row bytes
+arguments-cell m = each-equal (λ k. tableCell (16 * memberNumber k + 13)) (λ k. row k .arguments) refl m
+
+kind-cell : (j : ℕ) (kind : Row → Kind) → passes (λ i m. eqb (tableCell (16 * memberNumber m + j)) (kindNumber (kind (row m)))) 0 members ≡ true → (m : Member) → kindAt (tableCell (16 * memberNumber m + j)) ≡ kind (row m)
+kind-cell j kind t m =
+    ap kindAt (each-equal (λ k. tableCell (16 * memberNumber k + j)) (λ k. kindNumber (kind (row k))) t m) ∙ kind-at (kind (row m))
+
+pub receiver-cell : (m : Member) → kindAt (tableCell (16 * memberNumber m + 14)) ≡ row m .receiver
+unfolding tableCell memberAt rowCells row bytes
+receiver-cell m = kind-cell 14 (λ r. r .receiver) refl m
+
+pub argument-cell : (m : Member) → kindAt (tableCell (16 * memberNumber m + 15)) ≡ row m .argument
+unfolding tableCell memberAt rowCells row bytes
+argument-cell m = kind-cell 15 (λ r. r .argument) refl m

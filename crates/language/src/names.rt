@@ -1,0 +1,47 @@
+// The bytes of a text, and names. A name is kept as one number.
+ghost use mathlib.Core.Path.{_≡_};
+ghost use Prim.Native.Nat.{_≤_};
+ghost use lib.ListN.{length};
+ghost use Rattle.language.specs.Names.{isLetter, isDigit, inWord, isBlank, packed};
+
+// An ASCII letter.
+pub fn is_letter(b: u8) -> bool
+    ensures { λ r. ⌜ r ≡ isLetter b ⌝ }
+{
+    ((b'A' <= b) & (b <= b'Z')) | ((b'a' <= b) & (b <= b'z'))
+}
+
+// An ASCII digit.
+pub fn is_digit(b: u8) -> bool
+    ensures { λ r. ⌜ r ≡ isDigit b ⌝ }
+{
+    (b'0' <= b) & (b <= b'9')
+}
+
+// A byte of a name or of a number.
+pub fn in_word(b: u8) -> bool
+    ensures { λ r. ⌜ r ≡ inWord b ⌝ }
+{
+    is_letter(b) | is_digit(b)
+}
+
+// Space, tab, CR, LF.
+pub fn is_blank(b: u8) -> bool
+    ensures { λ r. ⌜ r ≡ isBlank b ⌝ }
+{
+    (b == b' ') | ((b == b'\t') | ((b == b'\r') | (b == b'\n')))
+}
+
+// The bytes in base 256, the first highest.
+pub fn pack(word: &[u8]) -> u64
+    requires { ⌜ length (now word) ≤ 8 ⌝ }
+    ensures { λ r. ⌜ r ≡ packed (now (word .entry)) ⌝ }
+{
+    let mut acc: u64 = 0;
+    let mut i = 0;
+    while i < word.len() {
+        acc = acc * 256 + word[i] as u64;
+        i += 1;
+    }
+    acc
+}

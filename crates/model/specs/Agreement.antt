@@ -1,0 +1,138 @@
+-- An engine that implements the model agrees with it over every run of calls. Assumes nothing.
+use mathlib.Core.Path.{_≡_, refl, sym, ap, _∙_}
+use mathlib.Core.Bool.{true, false, cond}
+use mathlib.Core.List.{List, [], _∷_, _++_, map}
+use Prim.Native.Nat.{ℕ, zero, suc, _≤_}
+use borrow.Author.Tests.{ltb-true, ltb-false}
+use lib.Dec.{ltb}
+use lib.ListN.{length}
+use Rattle.model.specs.Limits.{readingsMost}
+use Rattle.model.specs.Cases.{impossible, split}
+use Rattle.model.specs.Language.{Language}
+use Rattle.model.specs.Model.{Request, Open, Edit, Preview, Answer, opened, placesAfter, start, onOpen, onRequest, respond, answer, next}
+use Rattle.model.specs.Since.{isOpening, SoundRequest, Sendable}
+use Rattle.model.specs.Runs.{model, newlyMarked, answers, placesLeft, after, workLog, inTheEnd}
+use Rattle.model.specs.Laws.{Laws}
+use Rattle.model.specs.Invariant.{Invariant}
+use Rattle.model.specs.Steps.{accepts-open, declines-open, short-next}
+use Rattle.model.specs.Preserved.{invariant-start, invariant-next}
+use Rattle.model.specs.Engine.{Engine, Lent, whole, part, says, fills, leaves, Sent, isWhole, told, lendTo, takeBack, machine, Agrees, Implements}
+
+module _ (L : Language) (H : Laws L) (E : Engine L) (I : Implements L H E) where
+  open Language L using (Form, Reading, Sound)
+  open Engine E using (Memory, Cut)
+
+  -- an open is accepted only over memory of the cache's size, and with no more readings than allowed
+  pub accepted : (m : Memory) (r : List Reading) → E .openAnswer m r ≡ opened → (E .fits m ≡ true) × (length r ≤ readingsMost)
+  accepted m r e =
+      split (E .fits m)
+      (λ f. (f, split (ltb readingsMost (length r)) (λ p. let z = I .long m r f (ltb-true _ _ p) .0 in impossible (cc)) (λ p. ltb-false _ _ p)))
+      (λ f. impossible (declined (sym (I .short-answer m (Open r) (start L r) f) ∙ e)))
+    where
+      declined : answer L (start L r) (record { enough = false; request = Open r }) ≡ opened → false ≡ true
+      declined z =
+          unfold onRequest onOpen in split (ltb readingsMost (length r))
+          (λ p. let y = rw (p, answer) at z in (cc)) (λ p. let y = rw (p, answer) at z in (cc))
+
+  -- Memory that is a cache, opened and kept.
+  pub record Cache (m : Memory) : Type 0 where
+    pub ok : E .Ok m
+    pub invariant : Invariant L H (E .holds m)
+
+  pub opens : (m : Memory) (r : List Reading) → E .fits m ≡ true → length r ≤ readingsMost → Sound r
+      → Cache (E .openMemory m r) × (E .holds (E .openMemory m r) ≡ start L r)
+  opens m r f h sound = let o = I .opening m r f h sound in let e = o .holds in (record { ok = o .ok; invariant = rw e (invariant-start L H r h sound) }, e)
+
+  -- One call.
+  pub record Agreed (m : Memory) (c : Sent E) : Type 0 where
+    pub answer : machine E .answer m c ≡ answer L (E .holds m) (told E c)
+    pub holds : E .holds (machine E .next m c) ≡ next L (E .holds m) (told E c)
+    pub cache : Cache (machine E .next m c)
+
+  pub agree : (m : Memory) (c : Sent E) → SoundRequest L (c .request) → Cache m → Agreed m c
+  agree m c sound k =
+      let x = go (c .lent) (c .request) sound in
+      let h = x .holds in
+      record {
+        answer = x .answer;
+        holds = h;
+        cache = record { ok = x .ok; invariant = rw h (invariant-next L H (E .holds m) (told E c) sound (k .invariant)) };
+      }
+    where
+      on-open : (r : List Reading) → Sound r
+          → Agrees E (respond L (E .holds m) (record { enough = true; request = Open r })) (E .openAnswer m r) (E .openMemory m r)
+      on-open r snd =
+          let f = I .kept-fits m (k .ok) in
+          split (ltb readingsMost (length r))
+          (λ p.
+          let l = ltb-true _ _ p in
+          let z = I .long m r f l in
+          let z₁ = z .1 in
+          rw (declines-open L (E .holds m) true r l) (record { answer = z .0; ok = rw z₁ (k .ok); holds = rw z₁ }))
+          (λ p. let l = ltb-false _ _ p in rw (accepts-open L (E .holds m) r l) (I .opening m r f l snd))
+
+      go : (l : Lent Cut) (q : Request L) → SoundRequest L q
+          → Agrees E (respond L (E .holds m) (record { enough = isWhole E l; request = q }))
+          (says E (lendTo E l m) q) (takeBack E l m (leaves E (lendTo E l m) q))
+      go whole (Open r) sq = on-open r sq
+      go whole (Edit ps t) sq = unfold onRequest in I .edit m ps t (k .ok) (k .invariant)
+      go whole (Preview n a) sq = unfold onRequest in I .preview m n a (k .ok) (k .invariant)
+      go (part d) q sq =
+          let e = I .short-memory (E .lend d m) q (I .short d m) in
+          let z = I .restored d m in
+          record {
+            answer = I .short-answer (E .lend d m) q (E .holds m) (I .short d m);
+            ok = rw (e, z) (k .ok);
+            holds = rw (e, z) (sym (short-next L (E .holds m) q));
+          }
+
+  filled : (m : Memory) (q : Request L) → fills E m q ≡ placesAfter L q (says E m q)
+  filled m (Open r) = refl
+  filled m (Edit ps t) = I .places m ps t
+  filled m (Preview n a) = refl
+
+  -- A run of calls.
+  pub record Carried (m : Memory) (cs : List (Sent E)) : Type 0 where
+    pub answers : answers (machine E) m cs ≡ answers (model L) (E .holds m) (map (told E) cs)
+    pub places : placesLeft (machine E) m cs ≡ placesLeft (model L) (E .holds m) (map (told E) cs)
+    pub holds : E .holds (after (machine E) m cs) ≡ after (model L) (E .holds m) (map (told E) cs)
+    pub cache : Cache (after (machine E) m cs)
+
+  pub carry : (m : Memory) (cs : List (Sent E)) → Sendable L (map (told E) cs) → Cache m → Carried m cs
+  unfolding answers placesLeft after
+  carry m [] sent k = record { answers = refl; places = refl; holds = refl; cache = k }
+  carry m (c ∷ cs) sent k =
+      let one = agree m c (sent .0) k in
+      let h = one .holds in
+      let s = one .answer in
+      let f = filled (lendTo E (c .lent) m) (c .request) in
+      let more = carry (machine E .next m c) cs (sent .1) (one .cache) in
+      record {
+        answers = rw s (ap (λ (l : List (Answer L)). answer L (E .holds m) (told E c) ∷ l) (rw h at (more .answers)));
+        places = rw (f, s) (ap (λ (l : List (List ℕ)). placesAfter L (c .request) (answer L (E .holds m) (told E c)) ∷ l) (rw h at (more .places)));
+        holds = rw h at (more .holds);
+        cache = more .cache;
+      }
+
+  pub carry-log : (fs : List Form) (m : Memory) (cs : List (Sent E)) → Sendable L (map (told E) cs) → Cache m
+      → workLog (machine E) fs m cs ≡ workLog (model L) fs (E .holds m) (map (told E) cs)
+  unfolding workLog
+  carry-log fs m [] sent k = refl
+  carry-log fs m (c ∷ cs) sent k =
+      let one = agree m c (sent .0) k in
+      let h = one .holds in
+      let s = one .answer in
+      carry-log (cond (isOpening L (machine E .answer m c)) [] (fs ++ newlyMarked L (E .holds m .entries) (E .holds (machine E .next m c) .entries)))
+      (machine E .next m c) cs (sent .1) (one .cache)
+      ∙ rw (s, h)
+
+  pub carry-end : (times : ℕ) (m : Memory) (c : Sent E) → SoundRequest L (c .request) → Cache m
+      → inTheEnd (machine E) times m c ≡ inTheEnd (model L) times (E .holds m) (told E c)
+  unfolding inTheEnd
+  carry-end zero m c sound k = refl
+  carry-end (suc times) m c sound k =
+      let one = agree m c sound k in
+      let h = one .holds in
+      let s = one .answer in
+      let more = carry-end times (machine E .next m c) c sound (one .cache) in
+      rw (s, more, h)

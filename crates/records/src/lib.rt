@@ -1,0 +1,1 @@
+// The records that a text is read to: see specs/.

@@ -1,0 +1,52 @@
+-- 01, "Binding", and the paper's Figures 3 and 4 over entries: a text's records are bound one by one, found or appended.
+-- Assumes nothing: these are definitions.
+use mathlib.Core.Bool.{Bool, true, false, cond}
+use mathlib.Core.List.{List, [], _∷_, _++_, map}
+use Prim.Native.Nat.{ℕ, zero, suc, _+_, _*_}
+use lib.Dec.{ltb}
+use lib.ListN.{length, getD, set}
+use Rattle.table.specs.Memory.{Memory, Node, entryCount}
+use Rattle.table.specs.Nodes.{sameNode}
+
+-- the number of the entry equal to n; how many there are, where there is none
+unfoldable pub find : List Node → Node → ℕ
+find [] n = 0
+find (m ∷ ms) n = cond (sameNode m n) 0 (suc (find ms n))
+
+-- a record is a node whose dependencies are earlier records; bound, they are those records' entries
+abbrev pub relinked : List ℕ → ℕ → ℕ
+relinked numbers zero = 0
+relinked numbers (suc j) = suc (getD numbers j 0)
+
+unfoldable pub relink : List ℕ → Node → Node
+relink numbers n = record { kind = n .kind; key = n .key; first = relinked numbers (n .first); second = relinked numbers (n .second) }
+
+-- the entries, and the number of each record so far
+pub record Bound : Type 0 where
+  pub nodes : List Node
+  pub numbers : List ℕ
+
+unfoldable pub bindOne : Bound → Node → Bound
+bindOne b r =
+    let n : Node = relink (b .numbers) r in
+    let i : ℕ = find (b .nodes) n in
+    record { nodes = cond (ltb i (length (b .nodes))) (b .nodes) (b .nodes ++ (n ∷ [])); numbers = b .numbers ++ (i ∷ []) }
+
+unfoldable pub bindAll : Bound → List Node → Bound
+bindAll b [] = b
+bindAll b (r ∷ rs) = bindAll (bindOne b r) rs
+
+-- an entry appended to the memory: its links and its key, nothing kept, and one more entry
+unfoldable pub append : Memory → Node → Memory
+append m n =
+    let k : ℕ = entryCount m in
+    record {
+      readings = m .readings;
+      heads = set (m .heads) 0 (suc k);
+      links = set (set (set (m .links) (3 * k) (n .kind)) (3 * k + 1) (n .first)) (3 * k + 2) (n .second);
+      cells = set (set (set (set (m .cells) (4 * k) (n .key)) (4 * k + 1) 0) (4 * k + 2) 0) (4 * k + 3) 0;
+    }
+
+unfoldable pub appendAll : Memory → List Node → Memory
+appendAll m [] = m
+appendAll m (n ∷ ns) = appendAll (append m n) ns

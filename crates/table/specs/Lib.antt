@@ -1,0 +1,4 @@
+pub mod Memory
+pub mod Nodes
+pub mod WellFormed
+pub mod Bind

@@ -1,0 +1,69 @@
+-- The cache's memory as it is lent (docs/MEMORY.md), and the entries that it holds. Assumes nothing: these are definitions.
+use mathlib.Core.Bool.{Bool, _&&_}
+use mathlib.Core.List.{List, [], _∷_, map}
+use Prim.Native.Nat.{ℕ, zero, suc, _+_, _*_}
+use lib.Dec.{leb, eqb}
+use lib.IntN.{ℤ}
+use lib.ListN.{length, take, getD}
+use Rattle.language.specs.Limits.{tableEntries, tableReadings}
+
+-- four slices: the readings; the counts of entries and of readings; three links an entry; four cells an entry
+pub record Memory : Type 0 where
+  pub readings : List ℤ
+  pub heads : List ℕ
+  pub links : List ℕ
+  pub cells : List ℕ
+
+-- 01, refusal 3: is the cache lent whole
+unfoldable pub fits : Memory → Bool
+fits m = leb tableReadings (length (m .readings)) && (leb 2 (length (m .heads)) && (leb (3 * tableEntries) (length (m .links)) && leb (4 * tableEntries) (length (m .cells))))
+
+abbrev pub entryCount : Memory → ℕ
+entryCount m = getD (m .heads) 0 0
+
+abbrev pub readingCount : Memory → ℕ
+readingCount m = getD (m .heads) 1 0
+
+abbrev pub recordingOf : Memory → List ℤ
+recordingOf m = take (readingCount m) (m .readings)
+
+-- what an entry is: its kind; its number or name; its dependencies, each 0 for none or one more than the dependency's number
+pub record Node : Type 0 where
+  pub kind : ℕ
+  pub key : ℕ
+  pub first : ℕ
+  pub second : ℕ
+
+-- what it was worked out to: a packed value, 0 for not worked out, and the names that are shown
+pub record Kept : Type 0 where
+  pub value : ℕ
+  pub name : ℕ
+  pub other : ℕ
+
+pub record Entry : Type 0 where
+  pub node : Node
+  pub kept : Kept
+
+abbrev pub nothingKept : Kept
+nothingKept = record { value = 0; name = 0; other = 0 }
+
+-- entry i
+unfoldable pub nodeAt : List ℕ → List ℕ → ℕ → Node
+nodeAt links cells i = record { kind = getD links (3 * i) 0; key = getD cells (4 * i) 0; first = getD links (3 * i + 1) 0; second = getD links (3 * i + 2) 0 }
+
+unfoldable pub keptAt : List ℕ → ℕ → Kept
+keptAt cells i = record { value = getD cells (4 * i + 1) 0; name = getD cells (4 * i + 2) 0; other = getD cells (4 * i + 3) 0 }
+
+abbrev pub entryAt : List ℕ → List ℕ → ℕ → Entry
+entryAt links cells i = record { node = nodeAt links cells i; kept = keptAt cells i }
+
+-- n entries from number i on
+unfoldable pub entriesFrom : List ℕ → List ℕ → ℕ → ℕ → List Entry
+entriesFrom links cells i zero = []
+entriesFrom links cells i (suc n) = entryAt links cells i ∷ entriesFrom links cells (suc i) n
+
+abbrev pub entriesOf : Memory → List Entry
+entriesOf m = entriesFrom (m .links) (m .cells) 0 (entryCount m)
+
+abbrev pub nodesOf : List Entry → List Node
+nodesOf es = map (λ (e : Entry). e .node) es

@@ -1,0 +1,107 @@
+-- 01, refusal 4: when a cache is well-formed, clause by clause. Assumes nothing: these are definitions.
+use mathlib.Core.Bool.{Bool, true, false, cond, not, _&&_, _||_}
+use mathlib.Core.List.{List, [], _∷_, _++_}
+use Prim.Native.Nat.{ℕ, zero, suc, _-_, _^_}
+use lib.Dec.{leb, ltb, eqb}
+use lib.ListN.{length, getD}
+use Rattle.language.specs.Limits.{tableEntries, tableReadings}
+use Rattle.values.specs.Packing.{isPacked, isFunctionCell, isDelayedCell}
+use Rattle.meaning.specs.Evaluation.{joined, without}
+use Rattle.table.specs.Memory.{Memory, Node, Kept, Entry, entryCount, readingCount, entriesOf, nodesOf, nothingKept}
+use Rattle.table.specs.Nodes.{numberKind, variableKind, unboundKind, readingsKind, functionKind, worksKind, arity, kids, sameNode, isName}
+
+-- a test of every entry, with its number
+unfoldable pub every : {A : Type 0} → (ℕ → A → Bool) → ℕ → List A → Bool
+every p i [] = true
+every p i (x ∷ xs) = p i x && every p (suc i) xs
+
+-- unknown kind
+abbrev pub kindKnown : Node → Bool
+kindKnown n = ltb (n .kind) 21
+
+-- a name that is none, a number beyond 32 bits; the recording and the members have neither
+unfoldable pub keyRight : Node → Bool
+keyRight n =
+    cond (eqb (n .kind) numberKind) (ltb (n .key) (2 ^ 32))
+    (cond (eqb (n .kind) variableKind || (eqb (n .kind) unboundKind || eqb (n .kind) functionKind)) (isName (n .key))
+    (eqb (n .key) 0))
+
+-- wrong number of dependencies
+abbrev pub given : ℕ → Bool
+given link = leb 1 link
+
+unfoldable pub arityRight : Node → Bool
+arityRight n =
+    cond (eqb (arity (n .kind)) 0) (eqb (n .first) 0 && eqb (n .second) 0)
+    (cond (eqb (arity (n .kind)) 1) (given (n .first) && eqb (n .second) 0)
+    (given (n .first) && given (n .second)))
+
+-- dependency not lower
+abbrev pub lower : ℕ → Node → Bool
+lower i n = leb (n .first) i && leb (n .second) i
+
+-- equal entries twice
+unfoldable pub hasNode : Node → List Node → Bool
+hasNode n [] = false
+hasNode n (m ∷ ms) = sameNode m n || hasNode n ms
+
+unfoldable pub distinct : List Node → Bool
+distinct [] = true
+distinct (n ∷ ns) = not (hasNode n ns) && distinct ns
+
+-- the names that an entry awaits, from those of the entries before it
+unfoldable pub awaitedBy : List (List ℕ) → Node → List ℕ
+awaitedBy before n =
+    cond (eqb (n .kind) variableKind) (n .key ∷ [])
+    (cond (eqb (n .kind) functionKind) (without (n .key) (getD before (n .first - 1) []))
+    (cond (eqb (arity (n .kind)) 1) (getD before (n .first - 1) [])
+    (cond (eqb (arity (n .kind)) 2) (joined (getD before (n .first - 1) []) (getD before (n .second - 1) []))
+    [])))
+
+unfoldable pub awaitedAfter : List (List ℕ) → List Node → List (List ℕ)
+awaitedAfter before [] = before
+awaitedAfter before (n ∷ ns) = awaitedAfter (before ++ (awaitedBy before n ∷ [])) ns
+
+-- an entry awaiting over two names
+abbrev pub awaitsFew : List Node → Bool
+awaitsFew ns = every (λ i (names : List ℕ). leb (length names) 2) 0 (awaitedAfter [] ns)
+
+-- worked out: from the start, or by a preview
+abbrev pub isDone : Entry → Bool
+isDone e = not (worksKind (e .node .kind)) || leb 1 (e .kept .value)
+
+unfoldable pub doneAt : List Entry → ℕ → Bool
+doneAt [] i = false
+doneAt (e ∷ es) zero = isDone e
+doneAt (e ∷ es) (suc i) = doneAt es i
+
+unfoldable pub allDone : List Entry → List ℕ → Bool
+allDone es [] = true
+allDone es (i ∷ is) = doneAt es i && allDone es is
+
+-- an entry worked out with an unworked dependency
+abbrev pub settled : List Entry → Entry → Bool
+settled es e = eqb (e .kept .value) 0 || allDone es (kids (e .node))
+
+-- a kept number, window or reason outside its range; the names are those that the value shows
+unfoldable pub namesRight : Kept → Bool
+namesRight k =
+    cond (isFunctionCell (k .value)) (isName (k .name) && eqb (k .other) 0)
+    (cond (isDelayedCell (k .value)) (isName (k .name) && (eqb (k .other) 0 || isName (k .other)))
+    (eqb (k .name) 0 && eqb (k .other) 0))
+
+unfoldable pub keptRight : ℕ → Entry → Bool
+keptRight readings e = namesRight (e .kept) && (eqb (e .kept .value) 0 || (worksKind (e .node .kind) && isPacked (e .kept .value) readings))
+
+unfoldable pub wellFormed : Memory → Bool
+wellFormed m =
+    leb (entryCount m) tableEntries
+    && (leb (readingCount m) tableReadings
+    && (every (λ i (e : Entry). kindKnown (e .node)) 0 (entriesOf m)
+    && (every (λ i (e : Entry). keyRight (e .node)) 0 (entriesOf m)
+    && (every (λ i (e : Entry). arityRight (e .node)) 0 (entriesOf m)
+    && (every (λ i (e : Entry). lower i (e .node)) 0 (entriesOf m)
+    && (distinct (nodesOf (entriesOf m))
+    && (awaitsFew (nodesOf (entriesOf m))
+    && (every (λ i (e : Entry). settled (entriesOf m) e) 0 (entriesOf m)
+    && every (λ i (e : Entry). keptRight (readingCount m) e) 0 (entriesOf m)))))))))

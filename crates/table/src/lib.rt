@@ -1,0 +1,1 @@
+// The cache: its memory, entries, well-formedness, and binding.

@@ -1,0 +1,55 @@
+-- A value as one cell of memory, and back: a tag times 2^33, and below that the number plus 2^31 plus 1, or the window's fields, or the
+-- reason. 0 is no value: not worked out. Numbers come before windows, functions, delays and reasons. Assumes nothing: these are definitions.
+use mathlib.Core.Bool.{Bool, true, false, _&&_, _||_}
+use Prim.Native.Nat.{ℕ, suc, _+_, _-_, _*_, _/_, _%_}
+use lib.Dec.{leb, ltb, eqb}
+use lib.IntN.{ℤ, pos, natAbs, _+ℤ_, _-ℤ_}
+use Rattle.values.specs.declared.Value.{Value}
+use Rattle.values.specs.declared.Value.the-variants.{Number, Window, Function, Delayed, Missing}
+use Rattle.values.specs.Values.{pick}
+
+-- the least cell of each kind
+abbrev pub windowCell : ℕ
+windowCell = 8589934592
+
+abbrev pub functionCell : ℕ
+functionCell = 17179869184
+
+abbrev pub delayedCell : ℕ
+delayedCell = 25769803776
+
+abbrev pub missingCell : ℕ
+missingCell = 34359738368
+
+abbrev pub packOf : Value → ℕ
+packOf (Number z) = suc (natAbs (z +ℤ pos 2147483648))
+packOf (Window s l) = windowCell + (s * 65536 + l)
+packOf Function = functionCell
+packOf Delayed = delayedCell
+packOf (Missing r) = missingCell + r
+
+-- of any cell
+unfoldable pub unpackOf : ℕ → Value
+unpackOf c =
+    pick (ltb c windowCell) (Number (pos ((c - 1) % 4294967296) -ℤ pos 2147483648))
+    (pick (ltb c functionCell) (Window (c % windowCell / 65536 % 65536) (c % 65536))
+    (pick (ltb c delayedCell) Function
+    (pick (ltb c missingCell) Delayed
+    (Missing (c % 256)))))
+
+abbrev pub isFunctionCell : ℕ → Bool
+isFunctionCell c = eqb c functionCell
+
+abbrev pub isDelayedCell : ℕ → Bool
+isDelayedCell c = eqb c delayedCell
+
+-- the window lies within so many readings
+abbrev pub inside : ℕ → ℕ → Bool
+inside low readings = leb (low / 65536 + low % 65536) readings
+
+-- exactly the cells that are packed values: a number within signed 32 bits, a window within the recording, a reason from 1 to 5
+unfoldable pub isPacked : ℕ → ℕ → Bool
+isPacked c readings =
+    (leb 1 c && leb c 4294967296)
+    || ((leb windowCell c && (ltb c (windowCell + 4294967296) && inside (c - windowCell) readings))
+    || (isFunctionCell c || (isDelayedCell c || (leb (suc missingCell) c && leb c (missingCell + 5)))))
