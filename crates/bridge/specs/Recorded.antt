@@ -287,7 +287,7 @@ name-right x Σ Γ t h =
     (scoped-right x Σ Γ t h)
 
 -- a member that is known and given what it takes
-few-arguments : (m : Member) → row m .arguments ≤ 1
+pub few-arguments : (m : Member) → row m .arguments ≤ 1
 unfolding row
 few-arguments Add = omega arith
 few-arguments Sub = omega arith
@@ -306,7 +306,7 @@ few-arguments CountWhere = omega arith
 few-arguments LongestRun = omega arith
 few-arguments SumBy = omega arith
 
-given-right : (m : List ℕ) (k : ℕ) → isUnknown (memberOf m) ≡ false → k ≡ takes (memberOf m) → row (member m) .arguments ≡ k
+pub given-right : (m : List ℕ) (k : ℕ) → isUnknown (memberOf m) ≡ false → k ≡ takes (memberOf m) → row (member m) .arguments ≡ k
 unfolding member takes
 given-right m k u e = by (memberOf m) refl
   where

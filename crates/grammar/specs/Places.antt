@@ -48,3 +48,17 @@ place-rises start end (x ∷ xs) (suc i) (suc j) h l m = place-rises (suc (x .pl
 
 pub places-rise : (text : List ℕ) (i j : ℕ) → i < j → j ≤ length (tokens text) → placeOf text i < placeOf text j
 places-rise text i j = place-rises 0 (length text) (tokens text) i j (scan-rises text 0 0 (length text) (omega arith))
+
+-- and none lies beyond the end
+rises-end : (start end : ℕ) (xs : List Located) → Rises start end xs → start ≤ end
+rises-end start end [] h = h
+rises-end start end (x ∷ xs) h = let k = rises-end (suc (x .place)) end xs (h .1) in let l = h .0 in omega arith
+
+place-to : (start end : ℕ) (xs : List Located) (j : ℕ) → Rises start end xs → placeIn xs end j ≤ end
+unfolding placeIn
+place-to start end [] j h = omega arith
+place-to start end (x ∷ xs) zero h = let k = rises-end (suc (x .place)) end xs (h .1) in omega arith
+place-to start end (x ∷ xs) (suc j) h = place-to (suc (x .place)) end xs j (h .1)
+
+pub place-inside : (text : List ℕ) (j : ℕ) → placeOf text j ≤ length text
+place-inside text j = place-to 0 (length text) (tokens text) j (scan-rises text 0 0 (length text) (omega arith))

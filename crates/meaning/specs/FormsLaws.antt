@@ -153,7 +153,7 @@ within-self (call m f a) = rw (same-self (call m f a))
 within-self (function x b) = rw (same-self (function x b))
 
 -- a dependency of what lies within g lies within g
-dependency-within : (d f : Form) → dependency d f ≡ true → within d f ≡ true
+pub dependency-within : (d f : Form) → dependency d f ≡ true → within d f ≡ true
 unfolding dependency within
 dependency-within d (number z) h = no-way h
 dependency-within d (variable x) h = no-way h
@@ -168,7 +168,7 @@ dependency-within d (call m f a) h =
 dependency-within d (function x b) h = or-right (same d (function x b)) _ (rw (same-eq d b h) (within-self b))
 
 -- what lies within something within g lies within g
-within-trans : (d f g : Form) → within d f ≡ true → within f g ≡ true → within d g ≡ true
+pub within-trans : (d f g : Form) → within d f ≡ true → within f g ≡ true → within d g ≡ true
 unfolding within
 within-trans d f (number z) h k = rw (same-eq f (number z) k) at h
 within-trans d f (variable x) h k = rw (same-eq f (variable x) k) at h
