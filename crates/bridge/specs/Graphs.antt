@@ -135,11 +135,11 @@ build-ask m f φ e = build-member m (suc f) 0 φ ∙ rw (e, less-one f)
 pub build-call : (m : Member) (f a : ℕ) (φ : ℕ → Form) → row m .arguments ≡ 1 → build (node (memberKind m) 0 (suc f) (suc a)) φ ≡ call m (φ f) (φ a)
 build-call m f a φ e = build-member m (suc f) (suc a) φ ∙ rw (e, less-one f, less-one a)
 
-among-first : (i : ℕ) (l : List ℕ) → among i (i ∷ l) ≡ true
+pub among-first : (i : ℕ) (l : List ℕ) → among i (i ∷ l) ≡ true
 unfolding member
 among-first i l = rw (eq-eqb i i refl)
 
-among-second : (i j : ℕ) → among j (i ∷ j ∷ []) ≡ true
+pub among-second : (i j : ℕ) → among j (i ∷ j ∷ []) ≡ true
 unfolding member
 among-second i j = split (eqb i j) (λ e. rw e) (λ e. rw (e, eq-eqb j j refl))
 

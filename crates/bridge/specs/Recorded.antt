@@ -72,7 +72,7 @@ length-decode fs (n ∷ u) = let a = length-decode (fs ++ (build n (formAt formu
 pub length-forms : (t : List Node) → length (formsOf t) ≡ length t
 length-forms t = length-decode [] t ∙ omega arith
 
-decode-append : (fs : List Form) (t u : List Node) → decode formulas nodes fs (t ++ u) ≡ decode formulas nodes (decode formulas nodes fs t) u
+pub decode-append : (fs : List Form) (t u : List Node) → decode formulas nodes fs (t ++ u) ≡ decode formulas nodes (decode formulas nodes fs t) u
 unfolding decode
 decode-append fs [] u = refl
 decode-append fs (n ∷ t) u = decode-append (fs ++ (build n (formAt formulas nodes fs) ∷ [])) t u
@@ -330,7 +330,7 @@ function-placed : (x b i : ℕ) → b < i → Placed formulas nodes i (node func
 function-placed x b i h =
     record { fine = aFunction x b; lower = λ j a. let q = among-one j b (subst (λ (l : List ℕ). among j l ≡ true) (kids-function x b) a) in omega arith }
 
-build-function : (x b : ℕ) (φ : ℕ → Form) → build (node functionKind x (suc b) 0) φ ≡ function x (φ b)
+pub build-function : (x b : ℕ) (φ : ℕ → Form) → build (node functionKind x (suc b) 0) φ ≡ function x (φ b)
 unfolding build
 build-function x b φ = rw (less-one b)
 

@@ -87,8 +87,8 @@ module _ (L : Language) (G : Graph L) where
   module _ (relink : Node → (ℕ → ℕ) → Node) where
     pub record Relinks : Type 0 where
       pub fine : (n : Node) (ρ : ℕ → ℕ) → G .Fine n → G .Fine (relink n ρ)
-      pub form : (n : Node) (ρ : ℕ → ℕ) (φ : ℕ → Form) → build (relink n ρ) φ ≡ build n (λ (k : ℕ). φ (ρ k))
-      pub from : (n : Node) (ρ : ℕ → ℕ) (j : ℕ) → among j (links (relink n ρ)) ≡ true → (k : ℕ) × (among k (links n) ≡ true) × (ρ k ≡ j)
+      pub form : (n : Node) (ρ : ℕ → ℕ) (φ : ℕ → Form) → G .Fine n → build (relink n ρ) φ ≡ build n (λ (k : ℕ). φ (ρ k))
+      pub from : (n : Node) (ρ : ℕ → ℕ) (j : ℕ) → G .Fine n → among j (links (relink n ρ)) ≡ true → (k : ℕ) × (among k (links n) ≡ true) × (ρ k ≡ j)
 
     -- the table, and the number of each record so far
     pub record Bound : Type 0 where
@@ -152,7 +152,7 @@ module _ (L : Language) (G : Graph L) where
           let m = relink n (numberAt b) in
           let f = build n (formAt L G rf) in
           let q : build m (formAt L G fs) ≡ f =
-          R .form n (numberAt b) (formAt L G fs)
+          R .form n (numberAt b) (formAt L G fs) (h .fine)
           ∙ B .agree n (λ (k : ℕ). formAt L G fs (numberAt b k)) (formAt L G rf) (same-at h) in
           let st = bind-stands L G B T (b .nodes) fs (ft .stands) (ft .distinct) m (placed h) in
           let nu = bind-number L G B T (b .nodes) fs (ft .stands) (ft .distinct) m (placed h) in
@@ -169,7 +169,7 @@ module _ (L : Language) (G : Graph L) where
 
           lower : Placed L G (length rf) n → (j : ℕ) → among j (links (relink n (numberAt b))) ≡ true → j < length (b .nodes)
           lower p j a =
-              let k = R .from n (numberAt b) j a in
+              let k = R .from n (numberAt b) j (p .fine) a in
               let z = nth-has rf (k .0) (p .lower (k .0) (k .1)) in
               let l = nth-below fs (numberAt b (k .0)) (z .0) (ft .numbered (k .0) (z .0) (z .1)) in
               let s = ft .stands .size in

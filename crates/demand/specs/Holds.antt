@@ -1,0 +1,70 @@
+-- What a cache that was opened and kept holds, as a state of the reference model: its recording, the forms of its entries, and the kept
+-- results as marks; and how such a cache is arranged. Assumes nothing: these are definitions.
+use mathlib.Core.Path.{_≡_}
+use mathlib.Core.Bool.{Bool, true, false, cond}
+use mathlib.Core.List.{List, [], _∷_, map}
+use mathlib.Core.Option.{Option, none, some}
+use mathlib.Core.Logic.{_⊎_}
+use Prim.Native.Nat.{ℕ, zero, suc, _+_, _≤_, _<_, _^_}
+use lib.Dec.{eqb}
+use lib.IntN.{ℤ}
+use lib.Signed.{mag}
+use lib.ListN.{length, getD}
+use Rattle.language.specs.Limits.{tableReadings}
+use Rattle.values.specs.declared.Value.{Value}
+use Rattle.values.specs.declared.Value.the-variants.{Number, Window, Function, Delayed, Missing}
+use Rattle.values.specs.Packing.{packOf, unpackOf}
+use Rattle.meaning.specs.Forms.{Form}
+use Rattle.meaning.specs.Evaluation.{Shown, aNumber, aWindow, aFunction, aDelay, aReason}
+use Rattle.model.specs.Lists.{All}
+use Rattle.model.specs.Model as Model
+use Rattle.model.specs.Graph.{AllPlaced}
+use Rattle.table.specs.Memory.{Memory, Node, Kept, Entry, fits, entryCount, readingCount, recordingOf, entriesOf, nodesOf, nothingKept}
+use Rattle.formulas.specs.Formulas.{formulas}
+use Rattle.bridge.specs.Graphs.{nodes}
+use Rattle.bridge.specs.Recorded.{formsOf}
+
+-- what a kept result shows
+abbrev pub namesIn : Kept → List ℕ
+namesIn k = cond (eqb (k .other) 0) (k .name ∷ []) (k .name ∷ k .other ∷ [])
+
+abbrev pub shownBy : Kept → Value → Shown
+shownBy k (Number z) = aNumber z
+shownBy k (Window s l) = aWindow s l
+shownBy k Function = aFunction (k .name)
+shownBy k Delayed = aDelay (namesIn k)
+shownBy k (Missing r) = aReason r
+
+abbrev pub shownIn : Kept → Shown
+shownIn k = shownBy k (unpackOf (k .value))
+
+-- the mark of an entry: nothing is kept where the value is 0
+abbrev pub markOf : Kept → Option Shown
+markOf k = cond (eqb (k .value) 0) none (some (shownIn k))
+
+-- forms and entries, number by number
+unfoldable pub joined : List Form → List Entry → List (Model.Entry formulas)
+joined [] es = []
+joined (f ∷ fs) [] = []
+joined (f ∷ fs) (e ∷ es) = record { form = f; mark = markOf (e .kept) } ∷ joined fs es
+
+abbrev pub holds : Memory → Model.State formulas
+holds m = record { recording = recordingOf m; entries = joined (formsOf (nodesOf (entriesOf m))) (entriesOf m) }
+
+-- the cells of what is shown
+abbrev pub keptFor : Shown → Kept
+keptFor (aNumber z) = record { value = packOf (Number z); name = 0; other = 0 }
+keptFor (aWindow s l) = record { value = packOf (Window s l); name = 0; other = 0 }
+keptFor (aFunction x) = record { value = packOf Function; name = x; other = 0 }
+keptFor (aDelay xs) = record { value = packOf Delayed; name = getD xs 0 0; other = getD xs 1 0 }
+keptFor (aReason r) = record { value = packOf (Missing r); name = 0; other = 0 }
+
+-- an entry keeps nothing, or the cells of what it shows
+abbrev pub Written : Entry → Type 0
+Written e = (e .kept ≡ nothingKept) ⊎ ((v : Shown) × (e .kept ≡ keptFor v) × (markOf (keptFor v) ≡ some v))
+
+pub record Ok (m : Memory) : Type 0 where
+  pub whole : fits m ≡ true
+  pub readings : readingCount m ≤ tableReadings
+  pub placed : AllPlaced formulas nodes 0 (nodesOf (entriesOf m))
+  pub written : All Written (entriesOf m)

@@ -1,0 +1,5 @@
+pub mod Holds
+pub mod Bound
+pub mod Appended
+pub mod Standing
+pub mod Editing

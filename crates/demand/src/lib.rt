@@ -1,0 +1,1 @@
+// The engine does what the reference model does, over every list of calls: see specs/.

@@ -1,0 +1,1 @@
+// The engine: open, edit, preview and fetch over lent memory.
