@@ -13,7 +13,7 @@ use Rattle.grammar.specs.Reading.{Reading, tree, refused, placeIn, tokensOf}
 use Rattle.grammar.specs.Machine.{Frame, argument, State, at, expression, calls, arguments, over, Trees, Step, stop, go, step, uncalled, asArgument}
 use Rattle.grammar.specs.Machine.{End, tooEarly, finished, finish, Answer, whole, stopped, further, ended, unless, judge, readFrom, begin, alone, read, placed, readText}
 
-abbrev pub unlessAt : ℕ → ℕ → Reading → Reading
+unfoldable pub unlessAt : ℕ → ℕ → Reading → Reading
 unlessAt zero p r = r
 unlessAt (suc n) p r = refused (suc n) p
 
@@ -41,6 +41,7 @@ answered-further place f h (whole a) = refl
 answered-further place f h (stopped n j) = refl
 
 answered-unless : {A : Type 0} (place : ℕ → ℕ) (h : A → Expression) (n : ℕ) (r : Unit {0} → Answer A) → answered place h (unless n r) ≡ unlessAt n (place 0) (answered place h (r tt))
+unfolding unlessAt
 answered-unless place h zero r = refl
 answered-unless place h (suc n) r = refl
 

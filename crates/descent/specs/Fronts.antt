@@ -18,7 +18,7 @@ use Rattle.descent.specs.Cursor.{letKind, inKind, equalsKind, lambdaKind
 use Rattle.descent.specs.Continued.{unlessAt, judgeAt, endedAt, readOn, uncalled-step, uncalled-end, argument-step}
 
 -- the token is due, and anything else refused
-abbrev due : ℕ → Reading → ℕ → List Located → Reading
+abbrev pub due : ℕ → Reading → ℕ → List Located → Reading
 due k r end rest = when (isAt k rest) (λ _. r) (λ _. refused 5 (headPlace end rest))
 
 module _ (end : ℕ) (w : Bool) (d : Around) (F : List Frame) (h : Trees (at (expression w d) F) → Expression) (c : ℕ) where
@@ -32,7 +32,7 @@ module _ (end : ℕ) (w : Bool) (d : Around) (F : List Frame) (h : Trees (at (ex
       (λ _. due digitsKind (unlessAt (fault c (note (literalFault w (headValue rest)) true)) (headPlace end rest) (readOn end (at (calls d) F) (λ q. h (literal (headValue rest) (q .0), q .1)) (suc c) (behindHead rest))) end rest))))
 
   at-expression : (t : Token) (p : ℕ) (xs : List Located) → ExpressionFront (record { token = t; place = p } ∷ xs)
-  unfolding readOn judgeAt endedAt Rattle.grammar.specs.Machine.step finish headKind headWord headValue headPlace behindHead kindOf wordOf valueOf when fault faultNumber counted
+  unfolding readOn unlessAt judgeAt endedAt Rattle.grammar.specs.Machine.step finish headKind headWord headValue headPlace behindHead kindOf wordOf valueOf when fault faultNumber counted
   at-expression kLet p xs = refl
   at-expression kIn p xs = refl
   at-expression kEquals p xs = refl
@@ -47,7 +47,7 @@ module _ (end : ℕ) (w : Bool) (d : Around) (F : List Frame) (h : Trees (at (ex
   at-expression (other b) p xs = refl
 
   pub front-expression : (rest : List Located) → ExpressionFront rest
-  unfolding readOn judgeAt endedAt Rattle.grammar.specs.Machine.step finish headKind headWord headValue headPlace behindHead kindOf wordOf valueOf when fault faultNumber counted
+  unfolding readOn unlessAt judgeAt endedAt Rattle.grammar.specs.Machine.step finish headKind headWord headValue headPlace behindHead kindOf wordOf valueOf when fault faultNumber counted
   front-expression [] = refl
   front-expression (x ∷ xs) = at-expression (x .token) (x .place) xs
 
@@ -58,7 +58,7 @@ module _ (end : ℕ) (d : Around) (F : List Frame) (h : Trees (at (letName d) F)
       due wordKind (unlessAt (fault c (note (letNameFault (headWord rest)) false)) (headPlace end rest) (readOn end (at (letEquals (headWord rest) d) F) (λ q. h ((headWord rest, q .0 .0, q .0 .1), q .1)) c (behindHead rest))) end rest
 
   at-letName : (t : Token) (p : ℕ) (xs : List Located) → LetNameFront (record { token = t; place = p } ∷ xs)
-  unfolding readOn judgeAt endedAt Rattle.grammar.specs.Machine.step finish headKind headWord headValue headPlace behindHead kindOf wordOf valueOf when fault faultNumber counted
+  unfolding readOn unlessAt judgeAt endedAt Rattle.grammar.specs.Machine.step finish headKind headWord headValue headPlace behindHead kindOf wordOf valueOf when fault faultNumber counted
   at-letName kLet p xs = refl
   at-letName kIn p xs = refl
   at-letName kEquals p xs = refl
@@ -73,7 +73,7 @@ module _ (end : ℕ) (d : Around) (F : List Frame) (h : Trees (at (letName d) F)
   at-letName (other b) p xs = refl
 
   pub front-letName : (rest : List Located) → LetNameFront rest
-  unfolding readOn judgeAt endedAt Rattle.grammar.specs.Machine.step finish headKind headWord headValue headPlace behindHead kindOf wordOf valueOf when fault faultNumber counted
+  unfolding readOn unlessAt judgeAt endedAt Rattle.grammar.specs.Machine.step finish headKind headWord headValue headPlace behindHead kindOf wordOf valueOf when fault faultNumber counted
   front-letName [] = refl
   front-letName (x ∷ xs) = at-letName (x .token) (x .place) xs
 
@@ -84,7 +84,7 @@ module _ (end : ℕ) (x : List ℕ) (d : Around) (F : List Frame) (h : Trees (at
       due equalsKind (readOn end (at (expression false (opened d)) (value x d ∷ F)) (λ q. h ((q .0, q .1 .0), q .1 .1)) c (behindHead rest)) end rest
 
   at-letEquals : (t : Token) (p : ℕ) (xs : List Located) → LetEqualsFront (record { token = t; place = p } ∷ xs)
-  unfolding readOn judgeAt endedAt Rattle.grammar.specs.Machine.step finish headKind headWord headValue headPlace behindHead kindOf wordOf valueOf when fault faultNumber counted
+  unfolding readOn unlessAt judgeAt endedAt Rattle.grammar.specs.Machine.step finish headKind headWord headValue headPlace behindHead kindOf wordOf valueOf when fault faultNumber counted
   at-letEquals kLet p xs = refl
   at-letEquals kIn p xs = refl
   at-letEquals kEquals p xs = refl
@@ -99,7 +99,7 @@ module _ (end : ℕ) (x : List ℕ) (d : Around) (F : List Frame) (h : Trees (at
   at-letEquals (other b) p xs = refl
 
   pub front-letEquals : (rest : List Located) → LetEqualsFront rest
-  unfolding readOn judgeAt endedAt Rattle.grammar.specs.Machine.step finish headKind headWord headValue headPlace behindHead kindOf wordOf valueOf when fault faultNumber counted
+  unfolding readOn unlessAt judgeAt endedAt Rattle.grammar.specs.Machine.step finish headKind headWord headValue headPlace behindHead kindOf wordOf valueOf when fault faultNumber counted
   front-letEquals [] = refl
   front-letEquals (x ∷ xs) = at-letEquals (x .token) (x .place) xs
 
@@ -110,7 +110,7 @@ module _ (end : ℕ) (d : Around) (F : List Frame) (h : Trees (at (lambdaName d)
       due wordKind (unlessAt (fault c (note (lambdaNameFault (headWord rest) d) false)) (headPlace end rest) (readOn end (at (lambdaArrow (headWord rest) d) F) (λ q. h ((headWord rest, q .0), q .1)) c (behindHead rest))) end rest
 
   at-lambdaName : (t : Token) (p : ℕ) (xs : List Located) → LambdaNameFront (record { token = t; place = p } ∷ xs)
-  unfolding readOn judgeAt endedAt Rattle.grammar.specs.Machine.step finish headKind headWord headValue headPlace behindHead kindOf wordOf valueOf when fault faultNumber counted
+  unfolding readOn unlessAt judgeAt endedAt Rattle.grammar.specs.Machine.step finish headKind headWord headValue headPlace behindHead kindOf wordOf valueOf when fault faultNumber counted
   at-lambdaName kLet p xs = refl
   at-lambdaName kIn p xs = refl
   at-lambdaName kEquals p xs = refl
@@ -125,7 +125,7 @@ module _ (end : ℕ) (d : Around) (F : List Frame) (h : Trees (at (lambdaName d)
   at-lambdaName (other b) p xs = refl
 
   pub front-lambdaName : (rest : List Located) → LambdaNameFront rest
-  unfolding readOn judgeAt endedAt Rattle.grammar.specs.Machine.step finish headKind headWord headValue headPlace behindHead kindOf wordOf valueOf when fault faultNumber counted
+  unfolding readOn unlessAt judgeAt endedAt Rattle.grammar.specs.Machine.step finish headKind headWord headValue headPlace behindHead kindOf wordOf valueOf when fault faultNumber counted
   front-lambdaName [] = refl
   front-lambdaName (x ∷ xs) = at-lambdaName (x .token) (x .place) xs
 
@@ -136,7 +136,7 @@ module _ (end : ℕ) (x : List ℕ) (d : Around) (F : List Frame) (h : Trees (at
       due arrowKind (readOn end (at (expression false (inLambda x d)) F) (λ q. h q) c (behindHead rest)) end rest
 
   at-lambdaArrow : (t : Token) (p : ℕ) (xs : List Located) → LambdaArrowFront (record { token = t; place = p } ∷ xs)
-  unfolding readOn judgeAt endedAt Rattle.grammar.specs.Machine.step finish headKind headWord headValue headPlace behindHead kindOf wordOf valueOf when fault faultNumber counted
+  unfolding readOn unlessAt judgeAt endedAt Rattle.grammar.specs.Machine.step finish headKind headWord headValue headPlace behindHead kindOf wordOf valueOf when fault faultNumber counted
   at-lambdaArrow kLet p xs = refl
   at-lambdaArrow kIn p xs = refl
   at-lambdaArrow kEquals p xs = refl
@@ -151,7 +151,7 @@ module _ (end : ℕ) (x : List ℕ) (d : Around) (F : List Frame) (h : Trees (at
   at-lambdaArrow (other b) p xs = refl
 
   pub front-lambdaArrow : (rest : List Located) → LambdaArrowFront rest
-  unfolding readOn judgeAt endedAt Rattle.grammar.specs.Machine.step finish headKind headWord headValue headPlace behindHead kindOf wordOf valueOf when fault faultNumber counted
+  unfolding readOn unlessAt judgeAt endedAt Rattle.grammar.specs.Machine.step finish headKind headWord headValue headPlace behindHead kindOf wordOf valueOf when fault faultNumber counted
   front-lambdaArrow [] = refl
   front-lambdaArrow (x ∷ xs) = at-lambdaArrow (x .token) (x .place) xs
 
@@ -162,7 +162,7 @@ module _ (end : ℕ) (d : Around) (F : List Frame) (h : Trees (at (member d) F) 
       due wordKind (unlessAt (fault c (note (callFault (isUnknown (memberOf (headWord rest)))) false)) (headPlace end rest) (readOn end (at (callOpen (takes (memberOf (headWord rest))) d) F) (λ q. h ((headWord rest, q .0), q .1)) c (behindHead rest))) end rest
 
   at-member : (t : Token) (p : ℕ) (xs : List Located) → MemberFront (record { token = t; place = p } ∷ xs)
-  unfolding readOn judgeAt endedAt Rattle.grammar.specs.Machine.step finish headKind headWord headValue headPlace behindHead kindOf wordOf valueOf when fault faultNumber counted
+  unfolding readOn unlessAt judgeAt endedAt Rattle.grammar.specs.Machine.step finish headKind headWord headValue headPlace behindHead kindOf wordOf valueOf when fault faultNumber counted
   at-member kLet p xs = refl
   at-member kIn p xs = refl
   at-member kEquals p xs = refl
@@ -177,7 +177,7 @@ module _ (end : ℕ) (d : Around) (F : List Frame) (h : Trees (at (member d) F) 
   at-member (other b) p xs = refl
 
   pub front-member : (rest : List Located) → MemberFront rest
-  unfolding readOn judgeAt endedAt Rattle.grammar.specs.Machine.step finish headKind headWord headValue headPlace behindHead kindOf wordOf valueOf when fault faultNumber counted
+  unfolding readOn unlessAt judgeAt endedAt Rattle.grammar.specs.Machine.step finish headKind headWord headValue headPlace behindHead kindOf wordOf valueOf when fault faultNumber counted
   front-member [] = refl
   front-member (x ∷ xs) = at-member (x .token) (x .place) xs
 
@@ -188,7 +188,7 @@ module _ (end : ℕ) (k : ℕ) (d : Around) (F : List Frame) (h : Trees (at (cal
       due openKind (unlessAt (fault c (note (deep d) false)) (headPlace end rest) (readOn end (at (arguments k d) F) (λ q. h q) c (behindHead rest))) end rest
 
   at-callOpen : (t : Token) (p : ℕ) (xs : List Located) → CallOpenFront (record { token = t; place = p } ∷ xs)
-  unfolding readOn judgeAt endedAt Rattle.grammar.specs.Machine.step finish headKind headWord headValue headPlace behindHead kindOf wordOf valueOf when fault faultNumber counted
+  unfolding readOn unlessAt judgeAt endedAt Rattle.grammar.specs.Machine.step finish headKind headWord headValue headPlace behindHead kindOf wordOf valueOf when fault faultNumber counted
   at-callOpen kLet p xs = refl
   at-callOpen kIn p xs = refl
   at-callOpen kEquals p xs = refl
@@ -203,7 +203,7 @@ module _ (end : ℕ) (k : ℕ) (d : Around) (F : List Frame) (h : Trees (at (cal
   at-callOpen (other b) p xs = refl
 
   pub front-callOpen : (rest : List Located) → CallOpenFront rest
-  unfolding readOn judgeAt endedAt Rattle.grammar.specs.Machine.step finish headKind headWord headValue headPlace behindHead kindOf wordOf valueOf when fault faultNumber counted
+  unfolding readOn unlessAt judgeAt endedAt Rattle.grammar.specs.Machine.step finish headKind headWord headValue headPlace behindHead kindOf wordOf valueOf when fault faultNumber counted
   front-callOpen [] = refl
   front-callOpen (x ∷ xs) = at-callOpen (x .token) (x .place) xs
 
@@ -214,7 +214,7 @@ module _ (end : ℕ) (x : List ℕ) (d : Around) (F : List Frame) (h : Trees (at
       due inKind (readOn end (at (expression false (inLet x d)) F) (λ q. h (tt, q)) c (behindHead rest)) end rest
 
   at-value : (t : Token) (p : ℕ) (xs : List Located) → ValueFront (record { token = t; place = p } ∷ xs)
-  unfolding readOn judgeAt endedAt Rattle.grammar.specs.Machine.step finish headKind headWord headValue headPlace behindHead kindOf wordOf valueOf when fault faultNumber counted
+  unfolding readOn unlessAt judgeAt endedAt Rattle.grammar.specs.Machine.step finish headKind headWord headValue headPlace behindHead kindOf wordOf valueOf when fault faultNumber counted
   at-value kLet p xs = refl
   at-value kIn p xs = refl
   at-value kEquals p xs = refl
@@ -229,7 +229,7 @@ module _ (end : ℕ) (x : List ℕ) (d : Around) (F : List Frame) (h : Trees (at
   at-value (other b) p xs = refl
 
   pub front-value : (rest : List Located) → ValueFront rest
-  unfolding readOn judgeAt endedAt Rattle.grammar.specs.Machine.step finish headKind headWord headValue headPlace behindHead kindOf wordOf valueOf when fault faultNumber counted
+  unfolding readOn unlessAt judgeAt endedAt Rattle.grammar.specs.Machine.step finish headKind headWord headValue headPlace behindHead kindOf wordOf valueOf when fault faultNumber counted
   front-value [] = refl
   front-value (x ∷ xs) = at-value (x .token) (x .place) xs
 
@@ -240,7 +240,7 @@ module _ (end : ℕ) (d : Around) (F : List Frame) (h : Trees (at over (brackets
       due shutKind (readOn end (at (calls d) F) (λ q. h (tt, q)) c (behindHead rest)) end rest
 
   at-brackets : (t : Token) (p : ℕ) (xs : List Located) → BracketsFront (record { token = t; place = p } ∷ xs)
-  unfolding readOn judgeAt endedAt Rattle.grammar.specs.Machine.step finish headKind headWord headValue headPlace behindHead kindOf wordOf valueOf when fault faultNumber counted
+  unfolding readOn unlessAt judgeAt endedAt Rattle.grammar.specs.Machine.step finish headKind headWord headValue headPlace behindHead kindOf wordOf valueOf when fault faultNumber counted
   at-brackets kLet p xs = refl
   at-brackets kIn p xs = refl
   at-brackets kEquals p xs = refl
@@ -255,7 +255,7 @@ module _ (end : ℕ) (d : Around) (F : List Frame) (h : Trees (at over (brackets
   at-brackets (other b) p xs = refl
 
   pub front-brackets : (rest : List Located) → BracketsFront rest
-  unfolding readOn judgeAt endedAt Rattle.grammar.specs.Machine.step finish headKind headWord headValue headPlace behindHead kindOf wordOf valueOf when fault faultNumber counted
+  unfolding readOn unlessAt judgeAt endedAt Rattle.grammar.specs.Machine.step finish headKind headWord headValue headPlace behindHead kindOf wordOf valueOf when fault faultNumber counted
   front-brackets [] = refl
   front-brackets (x ∷ xs) = at-brackets (x .token) (x .place) xs
 
@@ -267,7 +267,7 @@ module _ (end : ℕ) (k : ℕ) (d : Around) (F : List Frame) (h : Trees (at over
       (λ _. due commaKind (unlessAt (fault c (note (callFault (eqb k 0)) false)) (headPlace end rest) (readOn end (at (expression false (opened d)) (argument (k - 1) d ∷ F)) (λ q. h (tt, (next (q .0) (q .1 .0), q .1 .1))) c (behindHead rest))) end rest)
 
   at-more : (t : Token) (p : ℕ) (xs : List Located) → MoreFront (record { token = t; place = p } ∷ xs)
-  unfolding readOn judgeAt endedAt Rattle.grammar.specs.Machine.step finish headKind headWord headValue headPlace behindHead kindOf wordOf valueOf when fault faultNumber counted
+  unfolding readOn unlessAt judgeAt endedAt Rattle.grammar.specs.Machine.step finish headKind headWord headValue headPlace behindHead kindOf wordOf valueOf when fault faultNumber counted
   at-more kLet p xs = refl
   at-more kIn p xs = refl
   at-more kEquals p xs = refl
@@ -282,7 +282,7 @@ module _ (end : ℕ) (k : ℕ) (d : Around) (F : List Frame) (h : Trees (at over
   at-more (other b) p xs = refl
 
   pub front-more : (rest : List Located) → MoreFront rest
-  unfolding readOn judgeAt endedAt Rattle.grammar.specs.Machine.step finish headKind headWord headValue headPlace behindHead kindOf wordOf valueOf when fault faultNumber counted
+  unfolding readOn unlessAt judgeAt endedAt Rattle.grammar.specs.Machine.step finish headKind headWord headValue headPlace behindHead kindOf wordOf valueOf when fault faultNumber counted
   front-more [] = refl
   front-more (x ∷ xs) = at-more (x .token) (x .place) xs
 
@@ -294,7 +294,7 @@ module _ (end : ℕ) (d : Around) (F : List Frame) (h : Trees (at (calls d) F) �
       (λ _. readOn end (at over F) (λ o. h (done, o .1)) c rest)
 
   at-calls : (t : Token) (p : ℕ) (xs : List Located) → CallsFront (record { token = t; place = p } ∷ xs)
-  unfolding readOn judgeAt endedAt Rattle.grammar.specs.Machine.step finish headKind headWord headValue headPlace behindHead kindOf wordOf valueOf when fault faultNumber counted
+  unfolding readOn unlessAt judgeAt endedAt Rattle.grammar.specs.Machine.step finish headKind headWord headValue headPlace behindHead kindOf wordOf valueOf when fault faultNumber counted
   at-calls kLet p xs = uncalled-step end d F h c p kLet xs (stepOver F kLet)
   at-calls kIn p xs = uncalled-step end d F h c p kIn xs (stepOver F kIn)
   at-calls kEquals p xs = uncalled-step end d F h c p kEquals xs (stepOver F kEquals)
@@ -309,7 +309,7 @@ module _ (end : ℕ) (d : Around) (F : List Frame) (h : Trees (at (calls d) F) �
   at-calls (other b) p xs = uncalled-step end d F h c p (other b) xs (stepOver F (other b))
 
   pub front-calls : (rest : List Located) → CallsFront rest
-  unfolding readOn judgeAt endedAt Rattle.grammar.specs.Machine.step finish headKind headWord headValue headPlace behindHead kindOf wordOf valueOf when fault faultNumber counted
+  unfolding readOn unlessAt judgeAt endedAt Rattle.grammar.specs.Machine.step finish headKind headWord headValue headPlace behindHead kindOf wordOf valueOf when fault faultNumber counted
   front-calls [] = uncalled-end end d F h
   front-calls (x ∷ xs) = at-calls (x .token) (x .place) xs
 
@@ -321,7 +321,7 @@ module _ (end : ℕ) (k : ℕ) (d : Around) (F : List Frame) (h : Trees (at (arg
       (λ _. readOn end (at (expression (eqb k 0) (opened d)) (argument (k - 1) d ∷ F)) (λ q. h (first (q .0) (q .1 .0), q .1 .1)) c rest)
 
   at-arguments : (t : Token) (p : ℕ) (xs : List Located) → ArgumentsFront (record { token = t; place = p } ∷ xs)
-  unfolding readOn judgeAt endedAt Rattle.grammar.specs.Machine.step finish headKind headWord headValue headPlace behindHead kindOf wordOf valueOf when fault faultNumber counted
+  unfolding readOn unlessAt judgeAt endedAt Rattle.grammar.specs.Machine.step finish headKind headWord headValue headPlace behindHead kindOf wordOf valueOf when fault faultNumber counted
   at-arguments kLet p xs = argument-step end k d F h c p kLet xs (stepExpression (eqb k 0) (opened d) (argument (k - 1) d ∷ F) kLet)
   at-arguments kIn p xs = argument-step end k d F h c p kIn xs (stepExpression (eqb k 0) (opened d) (argument (k - 1) d ∷ F) kIn)
   at-arguments kEquals p xs = argument-step end k d F h c p kEquals xs (stepExpression (eqb k 0) (opened d) (argument (k - 1) d ∷ F) kEquals)
@@ -336,6 +336,6 @@ module _ (end : ℕ) (k : ℕ) (d : Around) (F : List Frame) (h : Trees (at (arg
   at-arguments (other b) p xs = argument-step end k d F h c p (other b) xs (stepExpression (eqb k 0) (opened d) (argument (k - 1) d ∷ F) (other b))
 
   pub front-arguments : (rest : List Located) → ArgumentsFront rest
-  unfolding readOn judgeAt endedAt Rattle.grammar.specs.Machine.step finish headKind headWord headValue headPlace behindHead kindOf wordOf valueOf when fault faultNumber counted
+  unfolding readOn unlessAt judgeAt endedAt Rattle.grammar.specs.Machine.step finish headKind headWord headValue headPlace behindHead kindOf wordOf valueOf when fault faultNumber counted
   front-arguments [] = refl
   front-arguments (x ∷ xs) = at-arguments (x .token) (x .place) xs

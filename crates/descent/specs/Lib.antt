@@ -6,3 +6,10 @@ pub mod Continued
 pub mod Fronts
 pub mod Moves
 pub mod Kept
+pub mod Scope
+pub mod Heads
+pub mod Wrote
+pub mod Fitting
+pub mod SameExpression
+pub mod SameCalls
+pub mod Same

@@ -4,3 +4,14 @@ pub mod Windows
 pub mod Runs
 pub mod Apply
 pub mod Packing
+pub mod Ranges
+pub mod WindowLaws
+pub mod Tallies
+pub mod TallyLaws
+pub mod Kept
+pub mod PackingLaws
+pub mod Shown
+pub mod Applied
+pub mod ApplyLaws
+pub mod KeptLaws
+pub mod KeptApply

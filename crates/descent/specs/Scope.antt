@@ -1,0 +1,189 @@
+-- The scope array with its depth, held against the names of Records and the binders of Faults: what is looked up, counted and refused is
+-- the same. Assumes nothing.
+use mathlib.Core.Path.{_≡_, refl, sym, ap, _∙_}
+use mathlib.Core.Bool.{Bool, true, false, cond, _&&_, _||_}
+use mathlib.Core.List.{List, [], _∷_}
+use Prim.Native.Nat.{ℕ, zero, suc, _+_, _*_, _<_}
+use native.Mathlib.Omega.{arith}
+use lib.Dec.{leb, eqb, eqb·suc-zero}
+use lib.IntN.{ℤ}
+use lib.ListN.{length, getD, set, length-set}
+use Rattle.language.specs.Names.{packed, sameName, isLong, isData}
+use Rattle.grammar.specs.Tokens.{when}
+use Rattle.grammar.specs.Faults.{Fault, fine, badCall, tooMany, manyLambdas, longName, dataBound, reusedName, outOfRange, faultNumber, ifSo, orMany}
+use Rattle.grammar.specs.Faults.{Around, Binder, byLet, byLambda, lambdasOf, lambdaNamed, deep, markFault, lambdaFault, letNameFault, lambdaNameFault}
+use Rattle.grammar.specs.Faults.{nameFault, literalFault, callFault, note, fault}
+use Rattle.table.specs.Memory.{Node}
+use Rattle.table.specs.Nodes.{unboundKind}
+use Rattle.records.specs.Records.{Named, stands, Recorded, node, newRecord, pickRecorded, linked, recordScoped}
+use Rattle.descent.specs.Cursor.{binderName, binderLink, binderOf, lambdasIn, lambdaIn, isOutside}
+use Rattle.descent.specs.Cursor.{atPart, atLet, atLambda, atBracket, atName, atNumber, atShut, atComma}
+use Rattle.descent.specs.Cells.{getD-set, getD-other}
+
+-- the cells below the depth hold these names, the innermost first
+abbrev pub Holds : List Named → ℕ → List ℕ → Type 0
+Holds [] zero scope = Unit {0}
+Holds [] (suc b) scope = ⊥
+Holds (e ∷ Σ) zero scope = ⊥
+Holds (e ∷ Σ) (suc b) scope = (binderName scope b ≡ packed (e .name)) × (binderLink scope b ≡ e .link) × Holds Σ b scope
+
+pub holds-kept : (Σ : List Named) (depth : ℕ) (scope scope' : List ℕ) → ((i : ℕ) → i < 2 * depth → getD scope' i 0 ≡ getD scope i 0) → Holds Σ depth scope → Holds Σ depth scope'
+holds-kept [] zero scope scope' f h = tt
+holds-kept [] (suc b) scope scope' f h = h
+holds-kept (e ∷ Σ) zero scope scope' f h = h
+holds-kept (e ∷ Σ) (suc b) scope scope' f h =
+    (f (2 * b) (omega arith) ∙ h .0, f (2 * b + 1) (omega arith) ∙ h .1, holds-kept Σ b scope scope' (λ i l. f i (omega arith)) (h .2))
+
+pub holds-entered : (Σ : List Named) (depth : ℕ) (scope x : List ℕ) (j : ℕ) → 2 * depth + 1 < length scope → Holds Σ depth scope → Holds (stands x j ∷ Σ) (suc depth) (set (set scope (2 * depth) (packed x)) (2 * depth + 1) j)
+holds-entered Σ depth scope x j l h =
+    let one = set scope (2 * depth) (packed x) in
+    let n : length one ≡ length scope = length-set scope (2 * depth) (packed x) in
+    (getD-other one (2 * depth + 1) (2 * depth) j (λ e. omega arith) ∙ getD-set scope (2 * depth) (packed x) (omega arith),
+      getD-set one (2 * depth + 1) j (omega arith),
+      holds-kept Σ depth scope (set one (2 * depth + 1) j)
+      (λ i m. getD-other one (2 * depth + 1) i j (λ e. omega arith) ∙ getD-other scope (2 * depth) i (packed x) (λ e. omega arith)) h)
+
+-- looked up: the record of a name in use
+abbrev pub foundAt : List ℕ → List ℕ → List Node → ℕ → Recorded
+foundAt scope x t zero = newRecord (node unboundKind (packed x) 0 0) t (length t ∷ [])
+foundAt scope x t (suc b) = linked (binderLink scope b) x t
+
+pub scoped-is : (x : List ℕ) (t : List Node) (Σ : List Named) (depth : ℕ) (scope : List ℕ) → Holds Σ depth scope → recordScoped x Σ t ≡ foundAt scope x t (binderOf scope (packed x) depth)
+unfolding recordScoped binderOf when
+scoped-is x t [] zero scope h = refl
+scoped-is x t [] (suc b) scope h = absurd h
+scoped-is x t (e ∷ Σ) zero scope h = absurd h
+scoped-is x t (e ∷ Σ) (suc b) scope h =
+    let n = h .0 in
+    let l = h .1 in
+    rw (n, ← l) (by (eqb (packed x) (packed (e .name))) (scoped-is x t Σ b scope (h .2)))
+  where
+    by : (q : Bool) → recordScoped x Σ t ≡ foundAt scope x t (binderOf scope (packed x) b) → pickRecorded q (linked (binderLink scope b) x t) (recordScoped x Σ t) ≡ foundAt scope x t (when q (λ _. suc b) (λ _. binderOf scope (packed x) b))
+    by true i = refl
+    by false i = i
+
+-- the names as Faults has them
+abbrev binderAs : ℕ → List ℕ → Binder
+binderAs zero x = byLambda x
+binderAs (suc j) x = byLet x
+
+unfoldable pub bindersOf : List Named → List Binder
+bindersOf [] = []
+bindersOf (e ∷ Σ) = binderAs (e .link) (e .name) ∷ bindersOf Σ
+
+abbrev pub around : ℕ → List Named → Around
+around marks Σ = record { marks = marks; binders = bindersOf Σ }
+
+pub lambdas-are : (Σ : List Named) (depth : ℕ) (scope : List ℕ) → Holds Σ depth scope → lambdasIn scope depth ≡ lambdasOf (bindersOf Σ)
+unfolding lambdasIn lambdasOf bindersOf
+lambdas-are [] zero scope h = refl
+lambdas-are [] (suc b) scope h = absurd h
+lambdas-are (e ∷ Σ) zero scope h = absurd h
+lambdas-are (e ∷ Σ) (suc b) scope h = let l = h .1 in rw (l, lambdas-are Σ b scope (h .2)) (by (e .link))
+  where
+    by : (j : ℕ) → cond (eqb j 0) (suc (lambdasOf (bindersOf Σ))) (lambdasOf (bindersOf Σ)) ≡ lambdasOf (binderAs j (e .name) ∷ bindersOf Σ)
+    by zero = refl
+    by (suc j) = rw (eqb·suc-zero j)
+
+pub lambda-is : (x : List ℕ) (Σ : List Named) (depth : ℕ) (scope : List ℕ) → Holds Σ depth scope → lambdaIn scope (packed x) depth ≡ lambdaNamed x (bindersOf Σ)
+unfolding lambdaIn lambdaNamed bindersOf
+lambda-is x [] zero scope h = refl
+lambda-is x [] (suc b) scope h = absurd h
+lambda-is x (e ∷ Σ) zero scope h = absurd h
+lambda-is x (e ∷ Σ) (suc b) scope h = let n = h .0 in let l = h .1 in rw (l, n, lambda-is x Σ b scope (h .2)) (by (e .link))
+  where
+    by : (j : ℕ) → cond (eqb j 0) (eqb (packed x) (packed (e .name)) || lambdaNamed x (bindersOf Σ)) (lambdaNamed x (bindersOf Σ)) ≡ lambdaNamed x (binderAs j (e .name) ∷ bindersOf Σ)
+    by zero = refl
+    by (suc j) = rw (eqb·suc-zero j)
+
+-- the refusals at a token are the numbers of Faults
+part-number : (c : ℕ) → atPart c ≡ orMany 0 (leb 128 c)
+unfolding atPart
+part-number c = by (leb 128 c)
+  where
+    by : (b : Bool) → cond b 12 0 ≡ orMany 0 b
+    by true = refl
+    by false = refl
+
+module _ (c marks : ℕ) (Σ : List Named) where
+  pub dot-number : atPart c ≡ fault c (note fine true)
+  unfolding fault faultNumber
+  dot-number = part-number c
+
+  pub let-number : (w : Bool) → atLet w marks c ≡ fault c (note (markFault w (around marks Σ)) true)
+  unfolding atLet fault markFault faultNumber
+  let-number w = rw part-number (by w (leb 16 marks))
+    where
+      by : (w a : Bool) → cond w 9 (cond a 12 (orMany 0 (leb 128 c))) ≡ orMany (faultNumber (ifSo w badCall (ifSo a tooMany fine))) (leb 128 c)
+      by true a = refl
+      by false true = refl
+      by false false = refl
+
+  pub lambda-number : (w : Bool) (depth : ℕ) (scope : List ℕ) → Holds Σ depth scope → atLambda w (lambdasIn scope depth) marks c ≡ fault c (note (lambdaFault w (around marks Σ)) true)
+  unfolding atLambda fault lambdaFault faultNumber
+  lambda-number w depth scope h = rw (part-number, lambdas-are Σ depth scope h) (by w (leb 2 (lambdasOf (bindersOf Σ))) (leb 16 marks))
+    where
+      by : (w l a : Bool) → cond w 9 (cond l 10 (cond a 12 (orMany 0 (leb 128 c)))) ≡ orMany (faultNumber (ifSo w badCall (ifSo l manyLambdas (ifSo a tooMany fine)))) (leb 128 c)
+      by true l a = refl
+      by false true a = refl
+      by false false true = refl
+      by false false false = refl
+
+  pub bracket-number : (w : Bool) → atBracket w marks ≡ fault c (note (markFault w (around marks Σ)) false)
+  unfolding atBracket fault markFault faultNumber
+  bracket-number w = by w (leb 16 marks)
+    where
+      by : (w a : Bool) → cond w 9 (cond a 12 0) ≡ orMany (faultNumber (ifSo w badCall (ifSo a tooMany fine))) false
+      by true a = refl
+      by false true = refl
+      by false false = refl
+
+  pub open-number : cond (leb 16 marks) 12 0 ≡ fault c (note (deep (around marks Σ)) false)
+  unfolding fault faultNumber
+  open-number = by (leb 16 marks)
+    where
+      by : (a : Bool) → cond a 12 0 ≡ orMany (faultNumber (ifSo a tooMany fine)) false
+      by true = refl
+      by false = refl
+
+  pub name-number : (w : Bool) (x : List ℕ) → atName w x c ≡ fault c (note (nameFault w x) true)
+  unfolding atName fault nameFault faultNumber
+  name-number w x = rw part-number (by (isLong x) w)
+    where
+      by : (l w : Bool) → cond l 7 (cond w 9 (orMany 0 (leb 128 c))) ≡ orMany (faultNumber (ifSo l longName (ifSo w badCall fine))) (leb 128 c)
+      by true w = refl
+      by false true = refl
+      by false false = refl
+
+  pub literal-number : (w : Bool) (z : ℤ) → atNumber w z c ≡ fault c (note (literalFault w z) true)
+  unfolding atNumber fault literalFault faultNumber
+  literal-number w z = rw part-number (by (isOutside z) w)
+    where
+      by : (l w : Bool) → cond l 6 (cond w 9 (orMany 0 (leb 128 c))) ≡ orMany (faultNumber (ifSo l outOfRange (ifSo w badCall fine))) (leb 128 c)
+      by true w = refl
+      by false true = refl
+      by false false = refl
+
+  pub let-name-number : (x : List ℕ) → cond (isLong x) 7 (cond (isData x) 8 0) ≡ fault c (note (letNameFault x) false)
+  unfolding fault letNameFault faultNumber
+  let-name-number x = by (isLong x) (isData x)
+    where
+      by : (l a : Bool) → cond l 7 (cond a 8 0) ≡ orMany (faultNumber (ifSo l longName (ifSo a dataBound fine))) false
+      by true a = refl
+      by false true = refl
+      by false false = refl
+
+  pub lambda-name-number : (x : List ℕ) (depth : ℕ) (scope : List ℕ) → Holds Σ depth scope → cond (isLong x) 7 (cond (isData x) 8 (cond (lambdaIn scope (packed x) depth) 11 0)) ≡ fault c (note (lambdaNameFault x (around marks Σ)) false)
+  unfolding fault lambdaNameFault faultNumber
+  lambda-name-number x depth scope h = rw (lambda-is x Σ depth scope h) (by (isLong x) (isData x) (lambdaNamed x (bindersOf Σ)))
+    where
+      by : (l a n : Bool) → cond l 7 (cond a 8 (cond n 11 0)) ≡ orMany (faultNumber (ifSo l longName (ifSo a dataBound (ifSo n reusedName fine)))) false
+      by true a n = refl
+      by false true n = refl
+      by false false true = refl
+      by false false false = refl
+
+pub call-number : (c : ℕ) (b : Bool) → cond b 9 0 ≡ fault c (note (callFault b) false)
+unfolding fault callFault faultNumber
+call-number c true = refl
+call-number c false = refl

@@ -1,0 +1,90 @@
+-- A signed local is kept as its bits: `ofZ w z` are the bits of z, and `toZ w` reads them. Where z is in the range of w, reading gives z
+-- back, so a test, a cast or an operation on locals says of the numbers what it says of the bits. Assumes nothing.
+use mathlib.Core.Path.{_≡_, refl, sym, ap, _∙_, subst}
+use mathlib.Core.Bool.{Bool, true, false}
+use Prim.Native.Nat.{zero, suc, _<_}
+use native.Mathlib.Nat.{lt-of-lt-of-le, lt-of-le-of-lt}
+use native.Mathlib.Omega.{arith}
+use borrow.Author.Tests.{eq-eqb, ne-eqb}
+use lib.Dec.{T, leb, lit<, lit≤}
+use lib.IntN.{ℤ, pos, negsuc, _+ℤ_, _-ℤ_, _*ℤ_}
+use lib.Signed.{ltZ}
+use mir.Syntax.{Width, w32, w64}
+use mir.Val.{SFits, toZ, ofZ, hbits}
+use mir.Facts.{sfits-widen, toZ-ofZ}
+use mir.ValLaws.{pow-bits}
+use Rattle.values.specs.Values.{sameℤ}
+use Rattle.values.specs.Numbers.{quotient}
+use Rattle.values.specs.Ranges.{sum-range, difference-range, product-range, quotient-range}
+
+-- ---- casts between signed widths
+
+module _ (w w′ : Width) {z : ℤ} (f : SFits w z) where
+  pub cast-fits : T (leb (hbits w) (hbits w′)) → SFits w′ (toZ w (ofZ w z))
+  cast-fits t = rw (toZ-ofZ f) (sfits-widen t f)
+
+  pub cast-is : SFits w′ z → toZ w′ (ofZ w′ (toZ w (ofZ w z))) ≡ z
+  cast-is g = ap (λ (y : ℤ). toZ w′ (ofZ w′ y)) (toZ-ofZ f) ∙ toZ-ofZ g
+
+pub widens : {z : ℤ} → SFits w32 z → SFits w64 (toZ w32 (ofZ w32 z))
+widens f = cast-fits w32 w64 f tt
+
+-- an i32 as an i64
+abbrev pub wide : ℤ → ℤ
+wide z = toZ w64 (ofZ w64 (toZ w32 (ofZ w32 z)))
+
+pub wide-is : {z : ℤ} → SFits w32 z → wide z ≡ z
+wide-is f = cast-is w32 w64 f (sfits-widen tt f)
+
+-- ---- an operation at 64 bits on two numbers of 32
+
+module _ (op : ℤ → ℤ → ℤ) {a b : ℤ} (fa : SFits w32 a) (fb : SFits w32 b) (f : SFits w64 (op a b)) where
+  operands : op (wide a) (wide b) ≡ op a b
+  operands = λ i. op (wide-is fa i) (wide-is fb i)
+
+  pub result-fits : SFits w64 (op (wide a) (wide b))
+  result-fits = rw operands f
+
+  pub result-is : toZ w64 (ofZ w64 (op (wide a) (wide b))) ≡ op a b
+  result-is = ap (λ (y : ℤ). toZ w64 (ofZ w64 y)) operands ∙ toZ-ofZ f
+
+module _ {a b : ℤ} (fa : SFits w32 a) (fb : SFits w32 b) where
+  pub sum-64 : SFits w64 (a +ℤ b)
+  sum-64 = record { sfits = lt-of-lt-of-le (sum-range 31 a b (fa .sfits) (fb .sfits)) (lit≤ tt) }
+
+  pub difference-64 : SFits w64 (a -ℤ b)
+  difference-64 = record { sfits = lt-of-lt-of-le (difference-range 31 a b (fa .sfits) (fb .sfits)) (lit≤ tt) }
+
+  pub product-64 : SFits w64 (a *ℤ b)
+  product-64 = record { sfits = lt-of-le-of-lt (product-range 31 a b (fa .sfits) (fb .sfits)) (lit< tt) }
+
+  pub quotient-64 : SFits w64 (quotient a b)
+  quotient-64 = record { sfits = lt-of-le-of-lt (quotient-range 31 a b (fa .sfits) (fb .sfits)) (lit< tt) }
+
+-- ---- tests of two signed locals
+
+module _ (w : Width) {a b : ℤ} (fa : SFits w a) (fb : SFits w b) where
+  pub read-lt : {t : Bool} → ltZ (toZ w (ofZ w a)) (toZ w (ofZ w b)) ≡ t → ltZ a b ≡ t
+  read-lt e = sym (λ i. ltZ (toZ-ofZ fa i) (toZ-ofZ fb i)) ∙ e
+
+  pub read-eq : ofZ w a ≡ ofZ w b → a ≡ b
+  read-eq e = sym (toZ-ofZ fa) ∙ ap (toZ w) e ∙ toZ-ofZ fb
+
+pub same-yes : (a b : ℤ) → a ≡ b → sameℤ a b ≡ true
+same-yes a b e = subst (λ (y : ℤ). sameℤ a y ≡ true) e (same a)
+  where
+    same : (a : ℤ) → sameℤ a a ≡ true
+    same (pos n) = eq-eqb n n refl
+    same (negsuc n) = eq-eqb n n refl
+
+pub same-no : (a b : ℤ) → (a ≡ b → ⊥) → sameℤ a b ≡ false
+same-no (pos m) (pos n) h = ne-eqb m n (λ e. h (ap pos e))
+same-no (pos m) (negsuc n) h = refl
+same-no (negsuc m) (pos n) h = refl
+same-no (negsuc m) (negsuc n) h = ne-eqb m n (λ e. h (ap negsuc e))
+
+-- the bits of a number other than 0 are not 0
+pub bits-above : (w : Width) (z : ℤ) → SFits w z → (z ≡ pos 0 → ⊥) → 0 < ofZ w z
+bits-above w (pos zero) f h = absurd (h refl)
+bits-above w (pos (suc n)) f h = omega arith
+bits-above w (negsuc n) f h = omega (arith, f .sfits, pow-bits w)

@@ -1,0 +1,198 @@
+-- What the proofs of the members on a window cite, in the shape that `search` finds: the laws of WindowLaws at the locals' bits.
+-- Assumes nothing.
+use mathlib.Core.Path.{_≡_, refl, sym, ap, _∙_, subst}
+use mathlib.Core.Bool.{true, false}
+use mathlib.Core.List.{List, [], _∷_}
+use Prim.Native.Nat.{ℕ, _+_, _-_, _≤_, _<_}
+use native.Mathlib.Omega.{arith}
+use borrow.Author.Needs.{needs}
+use borrow.Author.Tests.{lt-ltb, le-ltb, ltb-true}
+use lib.Dec.{T}
+use lib.IntN.{ℤ, pos, negsuc, natAbs, _+ℤ_}
+use lib.ListN.{length, take, drop, getD}
+use lib.Signed.{ltZ, nonNeg}
+use mir.Syntax.{w16, w32, w64}
+use mir.Val.{Fits, SFits, toZ, ofZ}
+use mir.Facts.{fits-natAbs, toZ-pos, toZ-ofZ}
+use types.Run.{OneOf}
+use Rattle.language.specs.declared.members.Member.{Member}
+use Rattle.language.specs.declared.members.Member.the-variants.{Skip, Take, Count, Sum, Min, Max, At}
+use Rattle.values.specs.declared.Value.{Value}
+use Rattle.values.specs.declared.Value.the-variants.{Number, Window, Missing}
+use Rattle.values.specs.Values.{ranged, wrongKind, outsideWindow}
+use Rattle.values.specs.Windows.{readingsIn, clipped, skipped, taken, reading, unlessNegative, total, lesser, greater, extreme, ofWindow, onWindow}
+use Rattle.values.specs.Ranges.{mag-abs}
+use Rattle.values.specs.WindowLaws.{readings-none, readings-rest, readings-short, Summed, summed-none, summed-more, summed-all, Folded, folded-one, folded-more, folded-all, folded-none}
+use Rattle.values.proofs.Tables.{tag, last-arm}
+use Rattle.values.proofs.Signed.{widens, wide, wide-is, read-lt}
+
+-- ---- the part of the recording
+
+module _ (xs : List ℤ) (s l : ℕ) where
+  pub part-none : length xs ≤ s → [] ≡ readingsIn xs s l
+  part-none h = sym (readings-none xs s l h)
+
+  pub part-rest : length xs - s ≤ l → take (length xs - s) (drop s xs) ≡ readingsIn xs s l
+  part-rest h = readings-rest xs s (length xs - s) (omega arith) ∙ sym (readings-rest xs s l h)
+
+  pub part-whole : take (s + l - s) (drop s xs) ≡ readingsIn xs s l
+  part-whole =
+      let e : s + l - s ≡ l = omega arith in
+      ap (λ (n : ℕ). readingsIn xs s n) e
+
+-- ---- a sum
+
+module _ (xs ys : List ℤ) (s l : ℕ) (e : ys ≡ readingsIn xs s l) where
+  pub sum-none : Fits w16 l → Summed ys (pos 0) 0
+  sum-none f = summed-none ys (rw e (omega (arith, readings-short xs s l, f .fits)))
+
+  pub sum-is : {r : Value} (t i : ℕ) → Summed ys (toZ w64 t) i → length ys ≤ i → r ≡ ranged (toZ w64 t) → r ≡ ofWindow Sum xs s l
+  unfolding ofWindow
+  sum-is t i h k q = q ∙ ap ranged (summed-all ys (toZ w64 t) i h k ∙ ap total e)
+
+module _ (ys : List ℤ) (t : ℤ) (i : ℕ) (h : Summed ys t i) (k : i < length ys) (f : SFits w32 (getD ys i (pos 0))) where
+  more : Summed ys (t +ℤ getD ys i (pos 0)) (i + 1)
+  more = summed-more ys t i h k (f .sfits)
+
+  more-fits : SFits w64 (t +ℤ getD ys i (pos 0))
+  more-fits = record { sfits = omega (arith, mag-abs (t +ℤ getD ys i (pos 0)), more .small, h .short) }
+
+  pub sum-fits : SFits w64 (t +ℤ wide (getD ys i (pos 0)))
+  sum-fits = rw (wide-is f) more-fits
+
+  pub sum-more : Summed ys (toZ w64 (ofZ w64 (t +ℤ wide (getD ys i (pos 0))))) (i + 1)
+  sum-more = rw (ap (λ (y : ℤ). toZ w64 (ofZ w64 (t +ℤ y))) (wide-is f) ∙ toZ-ofZ more-fits) more
+
+-- ---- a least and a greatest
+
+module _ (a b : ℤ) (fa : SFits w32 a) (fb : SFits w32 b) where
+  pub lesser-second : ltZ (toZ w32 (ofZ w32 b)) (toZ w32 (ofZ w32 a)) ≡ true → toZ w32 (ofZ w32 b) ≡ lesser a b
+  lesser-second h = simp (toZ-ofZ fb, read-lt w32 fb fa h)
+
+  pub lesser-first : ltZ (toZ w32 (ofZ w32 b)) (toZ w32 (ofZ w32 a)) ≡ false → toZ w32 (ofZ w32 a) ≡ lesser a b
+  lesser-first h = simp (toZ-ofZ fa, read-lt w32 fb fa h)
+
+  pub greater-second : ltZ (toZ w32 (ofZ w32 a)) (toZ w32 (ofZ w32 b)) ≡ true → toZ w32 (ofZ w32 b) ≡ greater a b
+  greater-second h = simp (toZ-ofZ fb, read-lt w32 fa fb h)
+
+  pub greater-first : ltZ (toZ w32 (ofZ w32 a)) (toZ w32 (ofZ w32 b)) ≡ false → toZ w32 (ofZ w32 a) ≡ greater a b
+  greater-first h = simp (toZ-ofZ fa, read-lt w32 fa fb h)
+
+module _ (f : ℤ → ℤ → ℤ) (ys : List ℤ) where
+  pub fold-one : (length ys ≡ 0 → ⊥) → SFits w32 (getD ys 0 (pos 0)) → Folded f ys (toZ w32 (ofZ w32 (getD ys 0 (pos 0)))) 1
+  fold-one h g = rw (toZ-ofZ g) (folded-one f ys h)
+
+  pub fold-more : (b i : ℕ) (r : ℤ) → Folded f ys (toZ w32 b) i → i < length ys → SFits w32 (getD ys i (pos 0)) → SFits w32 r
+      → r ≡ f (toZ w32 b) (toZ w32 (ofZ w32 (getD ys i (pos 0)))) → Folded f ys (toZ w32 (ofZ w32 r)) (i + 1)
+  fold-more b i r h k g gr e = rw (toZ-ofZ gr ∙ e ∙ ap (f (toZ w32 b)) (toZ-ofZ g)) (folded-more f ys (toZ w32 b) i h k)
+
+module _ (xs ys : List ℤ) (s l : ℕ) (e : ys ≡ readingsIn xs s l) where
+  none : (f : ℤ → ℤ → ℤ) → length ys ≡ 0 → Missing outsideWindow ≡ extreme f (readingsIn xs s l)
+  unfolding extreme
+  none f h = ap (extreme f) (sym (folded-none f ys h) ∙ e)
+
+  pub least-none : length ys ≡ 0 → Missing outsideWindow ≡ ofWindow Min xs s l
+  unfolding ofWindow
+  least-none h = none lesser h
+
+  pub greatest-none : length ys ≡ 0 → Missing outsideWindow ≡ ofWindow Max xs s l
+  unfolding ofWindow
+  greatest-none h = none greater h
+
+  module _ (b i : ℕ) where
+    pub least-is : Folded lesser ys (toZ w32 b) i → length ys ≤ i → Number (toZ w32 b) ≡ ofWindow Min xs s l
+    unfolding ofWindow
+    least-is h k = folded-all lesser ys (toZ w32 b) i h k ∙ ap (extreme lesser) e
+
+    pub greatest-is : Folded greater ys (toZ w32 b) i → length ys ≤ i → Number (toZ w32 b) ≡ ofWindow Max xs s l
+    unfolding ofWindow
+    greatest-is h k = folded-all greater ys (toZ w32 b) i h k ∙ ap (extreme greater) e
+
+-- ---- a count or an index
+
+not-negative : (n : ℤ) → ltZ n (pos 0) ≡ false → T (nonNeg n)
+not-negative (pos n) h = tt
+not-negative (negsuc n) h = subst T h tt
+
+counted : (n : ℤ) (f : ℕ → Value) → ltZ n (pos 0) ≡ false → f (natAbs n) ≡ unlessNegative n f
+counted (pos n) f h = refl
+counted (negsuc n) f h = absurd (not-negative (negsuc n) h)
+
+negated : (n : ℤ) (f : ℕ → Value) → ltZ n (pos 0) ≡ true → Missing outsideWindow ≡ unlessNegative n f
+negated (pos n) f h = absurd (omega (arith, ltb-true n 0 h))
+negated (negsuc n) f h = refl
+
+module _ (n : ℤ) (g : SFits w32 n) where
+  pub negative-count : (f : ℕ → Value) → ltZ (toZ w32 (ofZ w32 n)) (pos 0) ≡ true → Missing outsideWindow ≡ unlessNegative n f
+  negative-count f h = negated n f (rw (toZ-ofZ g) at h)
+
+  module _ (h : ltZ (toZ w32 (ofZ w32 n)) (pos 0) ≡ false) where
+    pub count-cast : T (nonNeg (toZ w32 (ofZ w32 n))) × Fits w32 (natAbs (toZ w32 (ofZ w32 n)))
+    count-cast = (not-negative (toZ w32 (ofZ w32 n)) h, rw (toZ-ofZ g) (fits-natAbs tt g))
+
+    counts : (f : ℕ → Value) → f (natAbs (toZ w32 (ofZ w32 n))) ≡ unlessNegative n f
+    counts f = counted (toZ w32 (ofZ w32 n)) f h ∙ ap (λ (y : ℤ). unlessNegative y f) (toZ-ofZ g)
+
+    module _ (s l : ℕ) where
+      pub skip-is : (k : ℕ) → k ≡ clipped (natAbs (toZ w32 (ofZ w32 n))) l → Window (s + k) (l - k) ≡ unlessNegative n (skipped s l)
+      skip-is k e = ap (λ (j : ℕ). Window (s + j) (l - j)) e ∙ counts (skipped s l)
+
+      pub take-is : (k : ℕ) → k ≡ clipped (natAbs (toZ w32 (ofZ w32 n))) l → Window s k ≡ unlessNegative n (taken s l)
+      take-is k e = ap (Window s) e ∙ counts (taken s l)
+
+    module _ (xs ys : List ℤ) (s l : ℕ) (e : ys ≡ readingsIn xs s l) where
+      found : reading ys (natAbs (toZ w32 (ofZ w32 n))) ≡ onWindow At xs s l n
+      unfolding onWindow
+      found = counts (reading ys) ∙ ap (λ (zs : List ℤ). unlessNegative n (reading zs)) e
+
+      pub at-is : natAbs (toZ w32 (ofZ w32 n)) < length ys → SFits w32 (getD ys (natAbs (toZ w32 (ofZ w32 n))) (pos 0))
+          → Number (toZ w32 (ofZ w32 (getD ys (natAbs (toZ w32 (ofZ w32 n))) (pos 0)))) ≡ onWindow At xs s l n
+      at-is k f = simp (toZ-ofZ f) (sym (simp (lt-ltb _ _ k)) ∙ found)
+
+      pub at-none : length ys ≤ natAbs (toZ w32 (ofZ w32 n)) → Missing outsideWindow ≡ onWindow At xs s l n
+      at-none k = sym (simp (le-ltb _ _ k)) ∙ found
+
+pub at-negative : (xs : List ℤ) (s l : ℕ) (n : ℤ) → SFits w32 n → ltZ (toZ w32 (ofZ w32 n)) (pos 0) ≡ true → Missing outsideWindow ≡ onWindow At xs s l n
+unfolding onWindow
+at-negative xs s l n g h = negative-count n g (reading (readingsIn xs s l)) h
+
+pub index-cast : (n : ℤ) → SFits w32 n → Fits w64 (natAbs (toZ w32 (ofZ w32 n)))
+index-cast n g = rw (toZ-ofZ g) (fits-natAbs tt g)
+
+-- ---- an arm of a table, and the members that it leaves to the last one
+
+module _ (xs : List ℤ) (s l : ℕ) where
+  pub of-arm : {m k : Member} {r : Value} → m ≡ k → r ≡ ofWindow k xs s l → r ≡ ofWindow m xs s l
+  of-arm e h = h ∙ ap (λ (j : Member). ofWindow j xs s l) (sym e)
+
+  pub count-arm : (m : Member) → Fits w16 l → m ≡ Count → Number (toZ w32 l) ≡ ofWindow m xs s l
+  unfolding ofWindow
+  count-arm m f e = ap Number (toZ-pos w32 (omega (arith, f .fits))) ∙ ap (λ (j : Member). ofWindow j xs s l) (sym e)
+
+  module _ (n : ℤ) (g : SFits w32 n) {m : Member} {r : Value} where
+    pub skip-arm : m ≡ Skip → r ≡ unlessNegative (toZ w32 (ofZ w32 n)) (skipped s l) → r ≡ onWindow m xs s l n
+    unfolding onWindow
+    skip-arm e h = h ∙ (λ i. onWindow (sym e i) xs s l (toZ-ofZ g i))
+
+    pub take-arm : m ≡ Take → r ≡ unlessNegative (toZ w32 (ofZ w32 n)) (taken s l) → r ≡ onWindow m xs s l n
+    unfolding onWindow
+    take-arm e h = h ∙ (λ i. onWindow (sym e i) xs s l (toZ-ofZ g i))
+
+    pub at-arm : m ≡ At → r ≡ onWindow At xs s l (toZ w32 (ofZ w32 n)) → r ≡ onWindow m xs s l n
+    at-arm e h = h ∙ (λ i. onWindow (sym e i) xs s l (toZ-ofZ g i))
+
+abbrev of-rest : List ℕ
+of-rest = 0 ∷ 1 ∷ 2 ∷ 3 ∷ 4 ∷ 5 ∷ 6 ∷ 7 ∷ 12 ∷ 13 ∷ 14 ∷ 15 ∷ []
+
+pub of-others : (m : Member) (xs : List ℤ) (s l : ℕ) → OneOf of-rest (tag m) → Missing wrongKind ≡ ofWindow m xs s l
+unfolding ofWindow
+of-others m xs s l k = last-arm (λ j. ofWindow j xs s l) of-rest refl m k
+
+abbrev on-rest : List ℕ
+on-rest = 0 ∷ 1 ∷ 2 ∷ 3 ∷ 4 ∷ 5 ∷ 8 ∷ 9 ∷ 10 ∷ 11 ∷ 13 ∷ 14 ∷ 15 ∷ []
+
+pub on-others : (m : Member) (xs : List ℤ) (s l : ℕ) (n : ℤ) → OneOf on-rest (tag m) → Missing wrongKind ≡ onWindow m xs s l n
+unfolding onWindow
+on-others m xs s l n k = last-arm (λ j. onWindow j xs s l n) on-rest refl m k
+
+pub ruleset window-rules = (needs, widens, part-none, part-rest, part-whole, sum-none, sum-is, sum-fits, sum-more, lesser-second, lesser-first, greater-second, greater-first, fold-one, fold-more, least-none, greatest-none, least-is, greatest-is, negative-count, count-cast, index-cast, skip-is, take-is, at-is, at-none, at-negative, of-arm, count-arm, skip-arm, take-arm, at-arm, of-others, on-others)

@@ -1,0 +1,48 @@
+-- A member with one argument, up to the runs of a function: what it comes to, or the window to run the function over. Assumes nothing:
+-- these are definitions. That they come to apply1 is in ApplyLaws.
+use mathlib.Core.Bool.{Bool, true, false}
+use mathlib.Core.List.{List, map}
+use Prim.Native.Nat.{ℕ}
+use lib.IntN.{ℤ}
+use Rattle.language.specs.Members.{row}
+use Rattle.language.specs.declared.members.Member.{Member}
+use Rattle.values.specs.declared.Value.{Value}
+use Rattle.values.specs.declared.Value.the-variants.{Number, Window, Function, Delayed, Missing}
+use Rattle.values.specs.declared.apply.Applied.{Applied}
+use Rattle.values.specs.declared.apply.Applied.the-variants.{Done, Run}
+use Rattle.values.specs.Values.{wrongKind}
+use Rattle.values.specs.Windows.{readingsIn, onWindow}
+use Rattle.values.specs.Runs.{ofRuns}
+use Rattle.values.specs.Apply.{isKind, ruleNumber, isMissing, isDelayed}
+
+abbrev pub choose : Bool → Applied → Applied → Applied
+choose true a b = a
+choose false a b = b
+
+unfoldable pub ruledWindow : Member → List ℤ → ℕ → ℕ → Value → Applied
+ruledWindow m xs s l (Number n) = Done (onWindow m xs s l n)
+ruledWindow m xs s l Function = Run s l
+ruledWindow m xs s l (Window s′ l′) = Done (Missing wrongKind)
+ruledWindow m xs s l Delayed = Done (Missing wrongKind)
+ruledWindow m xs s l (Missing r) = Done (Missing wrongKind)
+
+unfoldable pub ruled1 : Member → List ℤ → Value → Value → Applied
+ruled1 m xs (Number a) w = Done (ruleNumber m a w)
+ruled1 m xs (Window s l) w = ruledWindow m xs s l w
+ruled1 m xs Function w = Done (Missing wrongKind)
+ruled1 m xs Delayed w = Done (Missing wrongKind)
+ruled1 m xs (Missing r) w = Done (Missing wrongKind)
+
+unfoldable pub applied1 : Member → List ℤ → Value → Value → Applied
+applied1 m xs v w =
+    choose (isMissing v) (Done v)
+    (choose (isMissing w) (Done w)
+    (choose (isDelayed v) (Done Delayed)
+    (choose (isDelayed w) (Done Delayed)
+    (choose (isKind v (row m .receiver)) (choose (isKind w (row m .argument)) (ruled1 m xs v w) (Done (Missing wrongKind)))
+    (Done (Missing wrongKind))))))
+
+-- with the results of the runs
+unfoldable pub completed : Member → List ℤ → (ℤ → Value) → Applied → Value
+completed m xs run (Done v) = v
+completed m xs run (Run s l) = ofRuns m (map run (readingsIn xs s l))

@@ -1,0 +1,146 @@
+-- A member on dependencies that have a property which the members' own results have comes to a value that has it: so windows stay inside the
+-- recording, and what may be kept stays so. By the tests of apply0 and apply1, in their order. Assumes nothing.
+use mathlib.Core.Bool.{Bool, true, false}
+use mathlib.Core.List.{List, [], _∷_, map}
+use Prim.Native.Nat.{ℕ, suc, _≤_, _<_}
+use native.Mathlib.Omega.{arith}
+use lib.IntN.{ℤ, pos}
+use lib.ListN.{length, getD, length-map}
+use lib.Signed.{mag}
+use Rattle.language.specs.Members.{row}
+use Rattle.language.specs.declared.members.Member.{Member}
+use Rattle.values.specs.declared.Value.{Value}
+use Rattle.values.specs.declared.Value.the-variants.{Number, Window, Function, Delayed, Missing}
+use Rattle.values.specs.declared.apply.Applied.{Applied}
+use Rattle.values.specs.declared.apply.Applied.the-variants.{Done, Run}
+use Rattle.values.specs.Windows.{readingsIn}
+use Rattle.values.specs.Apply.{isKind, rule0, isMissing, isDelayed, apply0, apply1}
+use Rattle.values.specs.Applied.{choose, ruledWindow, ruled1, applied1, completed}
+use Rattle.values.specs.ApplyLaws.{completed-is}
+use Rattle.values.specs.WindowLaws.{readings-short}
+use Rattle.values.specs.Kept.{Inside, Bounded, Kept}
+use Rattle.values.specs.KeptLaws.{Closed, Readings, Each, picked, wrong, readings-of, readings-small, closed-numbers, closed-of, closed-on, closed-runs}
+
+-- the property of what a member comes to, or of the window that it runs over
+abbrev pub Settled : (Value → Type 0) → Applied → Type 0
+Settled P (Done v) = P v
+Settled P (Run s l) = P (Window s l)
+
+module _ (P : Value → Type 0) (C : Closed P) (m : Member) (xs : List ℤ) (R : Readings P xs) where
+  closed-rule0 : (v : Value) → P v → P (rule0 m xs v)
+  unfolding rule0
+  closed-rule0 (Window s l) p = closed-of P C xs s l R p m
+  closed-rule0 (Number z) p = wrong P C
+  closed-rule0 Function p = wrong P C
+  closed-rule0 Delayed p = wrong P C
+  closed-rule0 (Missing r) p = wrong P C
+
+  pub closed-apply0 : (v : Value) → P v → P (apply0 m xs v)
+  unfolding apply0
+  closed-apply0 v p =
+      picked P C (isMissing v) _ _ (λ h. p)
+      (λ h. picked P C (isDelayed v) _ _ (λ h. C .delay)
+      (λ h. picked P C (isKind v (row m .receiver)) _ _ (λ h. closed-rule0 v p) (λ h. wrong P C)))
+
+  -- ---- up to the runs
+
+  settled-window : (s l : ℕ) (w : Value) → P (Window s l) → Settled P (ruledWindow m xs s l w)
+  unfolding ruledWindow
+  settled-window s l (Number n) p = closed-on P C xs s l R p m n
+  settled-window s l Function p = p
+  settled-window s l (Window s′ l′) p = wrong P C
+  settled-window s l Delayed p = wrong P C
+  settled-window s l (Missing r) p = wrong P C
+
+  settled-rule : (v w : Value) → P v → Settled P (ruled1 m xs v w)
+  unfolding ruled1
+  settled-rule (Number a) (Number b) p = closed-numbers P C m a b
+  settled-rule (Number a) (Window s l) p = wrong P C
+  settled-rule (Number a) Function p = wrong P C
+  settled-rule (Number a) Delayed p = wrong P C
+  settled-rule (Number a) (Missing r) p = wrong P C
+  settled-rule (Window s l) w p = settled-window s l w p
+  settled-rule Function w p = wrong P C
+  settled-rule Delayed w p = wrong P C
+  settled-rule (Missing r) w p = wrong P C
+
+  chosen : (b : Bool) (x y : Applied) → Settled P x → Settled P y → Settled P (choose b x y)
+  chosen true x y p q = p
+  chosen false x y p q = q
+
+  pub closed-applied1 : (v w : Value) → P v → P w → Settled P (applied1 m xs v w)
+  unfolding applied1
+  closed-applied1 v w p q =
+      chosen (isMissing v) _ _ p
+      (chosen (isMissing w) _ _ q
+      (chosen (isDelayed v) _ _ (C .delay)
+      (chosen (isDelayed w) _ _ (C .delay)
+      (chosen (isKind v (row m .receiver)) _ _ (chosen (isKind w (row m .argument)) _ _ (settled-rule v w p) (wrong P C)) (wrong P C)))))
+
+  -- ---- with the runs, each of which gives a value that has the property
+
+  module _ (run : ℤ → Value) (F : (x : ℤ) → P (Number x) → P (run x)) where
+    each : (ys : List ℤ) → Readings P ys → Each P (map run ys)
+    each [] Y = tt
+    each (y ∷ ys) Y = (F y (Y 0 (omega arith)), each ys (λ i h. Y (suc i) (omega arith)))
+
+    closed-completed : (a : Applied) → Settled P a → P (completed m xs run a)
+    unfolding completed
+    closed-completed (Done v) p = p
+    closed-completed (Run s l) p =
+        closed-runs P C s l p m (map run (readingsIn xs s l)) (simp length-map (readings-short xs s l)) (each (readingsIn xs s l) (readings-of P C xs s l R))
+
+    pub closed-apply1 : (v w : Value) → P v → P w → P (apply1 m xs v w run)
+    closed-apply1 v w p q = rw (← completed-is m xs run v w) (closed-completed (applied1 m xs v w) (closed-applied1 v w p q))
+
+-- ---- a window within k readings: in particular, whose end can be counted in 16 bits
+
+pub inside-closed : (k : ℕ) → Closed (Inside k)
+inside-closed k = record {
+  small = λ z h. tt;
+  reason = λ r h q. tt;
+  delay = tt;
+  part = λ s l s′ l′ h w. omega arith;
+  count = λ s l j h w. tt;
+}
+
+module _ (k : ℕ) (m : Member) (xs : List ℤ) where
+  pub inside-apply0 : (v : Value) → Inside k v → Inside k (apply0 m xs v)
+  inside-apply0 = closed-apply0 (Inside k) (inside-closed k) m xs (λ i h. tt)
+
+  pub inside-applied1 : (v w : Value) → Inside k v → Inside k w → Settled (Inside k) (applied1 m xs v w)
+  inside-applied1 = closed-applied1 (Inside k) (inside-closed k) m xs (λ i h. tt)
+
+  pub inside-apply1 : (run : ℤ → Value) → ((x : ℤ) → Inside k (run x)) → (v w : Value) → Inside k v → Inside k w → Inside k (apply1 m xs v w run)
+  inside-apply1 run h = closed-apply1 (Inside k) (inside-closed k) m xs (λ i h. tt) run (λ x p. h x)
+
+-- ---- what may be kept
+
+pub kept-closed : (n : ℕ) → n ≤ 65535 → Closed (Kept n)
+kept-closed n b = record {
+  small = λ z h. record { held = h; inside = tt; reasoned = tt };
+  reason = λ r h q. record { held = omega arith; inside = tt; reasoned = (h, q) };
+  delay = record { held = tt; inside = tt; reasoned = tt };
+  part = λ s l s′ l′ h w. record { held = (omega (arith, w .inside), omega (arith, w .inside)); inside = omega (arith, w .inside); reasoned = tt };
+  count = λ s l j h w. record { held = omega (arith, w .inside); inside = tt; reasoned = tt };
+}
+
+module _ (n : ℕ) (b : n ≤ 65535) (m : Member) (xs : List ℤ) (small : (i : ℕ) → i < length xs → mag (getD xs i (pos 0)) < 2147483648) where
+  readings : Readings (Kept n) xs
+  readings = readings-small (Kept n) (kept-closed n b) xs small
+
+  pub kept-apply0 : (v : Value) → Kept n v → Kept n (apply0 m xs v)
+  kept-apply0 = closed-apply0 (Kept n) (kept-closed n b) m xs readings
+
+  pub kept-applied1 : (v w : Value) → Kept n v → Kept n w → Settled (Kept n) (applied1 m xs v w)
+  kept-applied1 = closed-applied1 (Kept n) (kept-closed n b) m xs readings
+
+  pub kept-apply1 : (run : ℤ → Value) → ((x : ℤ) → Kept n (Number x) → Kept n (run x)) → (v w : Value) → Kept n v → Kept n w → Kept n (apply1 m xs v w run)
+  kept-apply1 = closed-apply1 (Kept n) (kept-closed n b) m xs readings
+
+pub kept-bounded : (n : ℕ) (v : Value) → n ≤ 65535 → Kept n v → Bounded v
+kept-bounded n (Number z) h k = tt
+kept-bounded n (Window s l) h k = omega (arith, k .inside)
+kept-bounded n Function h k = tt
+kept-bounded n Delayed h k = tt
+kept-bounded n (Missing r) h k = tt

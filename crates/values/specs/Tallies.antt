@@ -1,0 +1,86 @@
+-- The runs of a function, result by result: what is kept of the results so far, from which any of the members that run a function is
+-- concluded. Nothing changes any more once a result was no number. Assumes nothing: these are definitions.
+use mathlib.Core.Path.{_≡_}
+use mathlib.Core.Bool.{Bool, true, false, cond}
+use mathlib.Core.List.{List, [], _∷_}
+use Prim.Native.Nat.{ℕ, _+_, _*_, max, _≤_}
+use lib.IntN.{ℤ, pos, natAbs, _+ℤ_}
+use Rattle.language.specs.declared.members.Member.{Member}
+use Rattle.language.specs.declared.members.Member.the-variants.{Add, Sub, Mul, Div, Gt, Eq, Skip, Take, Count, Sum, Min, Max, At, CountWhere, LongestRun, SumBy}
+use Rattle.values.specs.declared.Value.{Value}
+use Rattle.values.specs.declared.Value.the-variants.{Number, Window, Function, Delayed, Missing}
+use Rattle.values.specs.declared.runs.Tally.{Tally}
+use Rattle.values.specs.Values.{pick, ranged, wrongKind}
+use Rattle.values.specs.Runs.{holds}
+
+abbrev pub begun : Tally
+begun = record { stopped = false; reason = 0; count = 0; stretch = 0; longest = 0; total = pos 0 }
+
+-- the stretch that ends with z
+abbrev pub stretched : Tally → ℤ → ℕ
+stretched t z = cond (holds z) (t .stretch + 1) 0
+
+unfoldable pub noted : Tally → ℤ → Tally
+noted t z = record {
+  stopped = false;
+  reason = 0;
+  count = t .count + cond (holds z) 1 0;
+  stretch = stretched t z;
+  longest = max (t .longest) (stretched t z);
+  total = t .total +ℤ z;
+}
+
+abbrev pub halted : ℕ → Tally
+halted r = record { stopped = true; reason = r; count = 0; stretch = 0; longest = 0; total = pos 0 }
+
+unfoldable pub entered : Tally → Value → Tally
+entered t (Number z) = noted t z
+entered t (Window s l) = halted wrongKind
+entered t Function = halted wrongKind
+entered t Delayed = halted wrongKind
+entered t (Missing r) = halted r
+
+abbrev pub choose : Bool → Tally → Tally → Tally
+choose true t u = t
+choose false t u = u
+
+-- one more result
+unfoldable pub stepped : Tally → Value → Tally
+stepped t v = choose (t .stopped) t (entered t v)
+
+unfoldable pub gathered : Tally → List Value → Tally
+gathered t [] = t
+gathered t (v ∷ vs) = gathered (stepped t v) vs
+
+unfoldable pub ofTally : Member → Tally → Value
+ofTally CountWhere t = Number (pos (t .count))
+ofTally LongestRun t = Number (pos (t .longest))
+ofTally SumBy t = ranged (t .total)
+ofTally Add t = Missing wrongKind
+ofTally Sub t = Missing wrongKind
+ofTally Mul t = Missing wrongKind
+ofTally Div t = Missing wrongKind
+ofTally Gt t = Missing wrongKind
+ofTally Eq t = Missing wrongKind
+ofTally Skip t = Missing wrongKind
+ofTally Take t = Missing wrongKind
+ofTally Count t = Missing wrongKind
+ofTally Sum t = Missing wrongKind
+ofTally Min t = Missing wrongKind
+ofTally Max t = Missing wrongKind
+ofTally At t = Missing wrongKind
+
+unfoldable pub finished : Member → Tally → Value
+finished m t = pick (t .stopped) (Missing (t .reason)) (ofTally m t)
+
+-- what k results of signed 32 bits can come to
+pub record Within (k : ℕ) (t : Tally) : Type 0 where
+  pub count : t .count ≤ k
+  pub stretch : t .stretch ≤ k
+  pub longest : t .longest ≤ k
+  pub total : natAbs (t .total) ≤ k * 2147483648
+
+-- what a step promises: its result, and that the bound moves on with it
+pub record Steps (t : Tally) (v : Value) (r : Tally) : Type 0 where
+  pub same : r ≡ stepped t v
+  pub bound : (k : ℕ) → Within k t → Within (k + 1) r

@@ -1,0 +1,129 @@
+-- What the definitions of Windows come to: which readings a window has, what clipping leaves of them, and how a sum, a least or a greatest
+-- is worked out reading by reading. Each holds by induction on the readings, or by laws of `take` and `drop`. Assumes nothing.
+use mathlib.Core.Path.{_≡_, refl, sym, ap, _∙_}
+use mathlib.Core.List.{List, [], _∷_}
+use Prim.Native.Nat.{ℕ, zero, suc, _+_, _-_, _*_, _≤_, _<_}
+use native.Mathlib.Numerals.{add-one}
+use native.Mathlib.Omega.{arith}
+use lib.IntN.{ℤ, pos, natAbs, _+ℤ_, +ℤ-idl, +ℤ-idr, +ℤ-assoc}
+use lib.ListN.{length, take, drop, getD, length-take, length-drop, drop-of-length-le}
+use lib.Seq.{take-all, take-nil, drop-nil, drop-drop, drop-cons}
+use lib.Signed.{mag}
+use Rattle.values.specs.declared.Value.the-variants.{Number}
+use Rattle.values.specs.Windows.{readingsIn, clipped, total, foldFrom, extreme}
+use Rattle.values.specs.Ranges.{abs-sum, abs-mag}
+
+-- ---- the readings of a window
+
+pub readings-within : (xs : List ℤ) (s l : ℕ) → s + l ≤ length xs → length (readingsIn xs s l) ≡ l
+readings-within xs s l h = simp (length-take, length-drop) (omega arith)
+
+pub readings-short : (xs : List ℤ) (s l : ℕ) → length (readingsIn xs s l) ≤ l
+readings-short xs s l = simp length-take (omega arith)
+
+-- past the recording there are none; past its end, those that are there
+pub readings-none : (xs : List ℤ) (s l : ℕ) → length xs ≤ s → readingsIn xs s l ≡ []
+readings-none xs s l h = ap (take l) (drop-of-length-le xs h) ∙ take-nil l
+
+pub readings-rest : (xs : List ℤ) (s l : ℕ) → length xs - s ≤ l → readingsIn xs s l ≡ drop s xs
+readings-rest xs s l h = take-all l (drop s xs) (simp length-drop h)
+
+-- ---- the clipping rule
+
+pub clipped-within : (n l : ℕ) → clipped n l ≤ l
+clipped-within n l = omega arith
+
+-- what is skipped and what is left are the whole window
+pub clipped-parts : (s n l : ℕ) → s + clipped n l + (l - clipped n l) ≡ s + l
+clipped-parts s n l = omega arith
+
+-- skip leaves out the first n readings, take keeps just those
+skip-list : (ys : List ℤ) (n l : ℕ) → take (l - clipped n l) (drop (clipped n l) ys) ≡ drop n (take l ys)
+skip-list ys zero l =
+    let a : clipped 0 l ≡ 0 = omega arith in
+    let b : l - clipped 0 l ≡ l = omega arith in
+    λ i. take (b i) (drop (a i) ys)
+skip-list ys (suc n) zero =
+    let b : 0 - clipped (suc n) 0 ≡ 0 = omega arith in
+    ap (λ (k : ℕ). take k (drop (clipped (suc n) 0) ys)) b
+skip-list [] (suc n) (suc l) = simp (drop-nil, take-nil)
+skip-list (y ∷ ys) (suc n) (suc l) =
+    let a : clipped (suc n) (suc l) ≡ suc (clipped n l) = omega arith in
+    let b : suc l - clipped (suc n) (suc l) ≡ l - clipped n l = omega arith in
+    (λ i. take (b i) (drop (a i) (y ∷ ys))) ∙ skip-list ys n l
+
+pub readings-skipped : (xs : List ℤ) (s l n : ℕ) → readingsIn xs (s + clipped n l) (l - clipped n l) ≡ drop n (readingsIn xs s l)
+readings-skipped xs s l n = ap (take (l - clipped n l)) (sym (drop-drop (clipped n l) s xs)) ∙ skip-list (drop s xs) n l
+
+pub readings-taken : (xs : List ℤ) (s l n : ℕ) → readingsIn xs s (clipped n l) ≡ take n (readingsIn xs s l)
+readings-taken xs s l n = take-list (drop s xs) n l
+  where
+    take-list : (ys : List ℤ) (n l : ℕ) → take (clipped n l) ys ≡ take n (take l ys)
+    take-list ys zero l =
+        let a : clipped 0 l ≡ 0 = omega arith in
+        ap (λ (k : ℕ). take k ys) a
+    take-list ys (suc n) zero =
+        let a : clipped (suc n) 0 ≡ 0 = omega arith in
+        ap (λ (k : ℕ). take k ys) a
+    take-list [] (suc n) (suc l) = take-nil (clipped (suc n) (suc l))
+    take-list (y ∷ ys) (suc n) (suc l) =
+        let a : clipped (suc n) (suc l) ≡ suc (clipped n l) = omega arith in
+        ap (λ (k : ℕ). take k (y ∷ ys)) a ∙ ap (_∷_ y) (take-list ys n l)
+
+-- ---- the readings from i on
+
+next : (xs : List ℤ) (i : ℕ) → i < length xs → getD xs i (pos 0) ∷ drop (i + 1) xs ≡ drop i xs
+next xs i h = rw (add-one, ← drop-cons xs i (pos 0) h)
+
+-- ---- a sum, after i readings
+
+pub record Summed (xs : List ℤ) (t : ℤ) (i : ℕ) : Type 0 where
+  pub short : length xs < 65536
+  pub within : i ≤ length xs
+  pub small : natAbs t ≤ i * 2147483648
+  pub rest : t +ℤ total (drop i xs) ≡ total xs
+
+pub summed-none : (xs : List ℤ) → length xs < 65536 → Summed xs (pos 0) 0
+summed-none xs h = record { short = h; within = omega arith; small = omega arith; rest = +ℤ-idl (total xs) }
+
+pub summed-more : (xs : List ℤ) (t : ℤ) (i : ℕ) → Summed xs t i → i < length xs → mag (getD xs i (pos 0)) < 2147483648 → Summed xs (t +ℤ getD xs i (pos 0)) (i + 1)
+unfolding total
+summed-more xs t i s h k = record {
+  short = s .short;
+  within = omega arith;
+  small = omega (arith, abs-sum t (getD xs i (pos 0)), abs-mag (getD xs i (pos 0)));
+  rest =
+      +ℤ-assoc t (getD xs i (pos 0)) (total (drop (i + 1) xs))
+      ∙ ap (λ (ys : List ℤ). t +ℤ total ys) (next xs i h)
+      ∙ s .rest;
+}
+
+pub summed-all : (xs : List ℤ) (t : ℤ) (i : ℕ) → Summed xs t i → length xs ≤ i → t ≡ total xs
+unfolding total
+summed-all xs t i s h = sym (ap (λ (ys : List ℤ). t +ℤ total ys) (drop-of-length-le xs h) ∙ +ℤ-idr t) ∙ s .rest
+
+-- ---- a least or greatest, after i readings
+
+pub record Folded (f : ℤ → ℤ → ℤ) (xs : List ℤ) (b : ℤ) (i : ℕ) : Type 0 where
+  pub within : i ≤ length xs
+  pub rest : Number (foldFrom f b (drop i xs)) ≡ extreme f xs
+
+pub folded-one : (f : ℤ → ℤ → ℤ) (xs : List ℤ) → (length xs ≡ 0 → ⊥) → Folded f xs (getD xs 0 (pos 0)) 1
+unfolding extreme
+folded-one f [] h = absurd (h refl)
+folded-one f (x ∷ xs) h = record { within = omega arith; rest = refl }
+
+pub folded-more : (f : ℤ → ℤ → ℤ) (xs : List ℤ) (b : ℤ) (i : ℕ) → Folded f xs b i → i < length xs → Folded f xs (f b (getD xs i (pos 0))) (i + 1)
+unfolding foldFrom
+folded-more f xs b i s h = record {
+  within = omega arith;
+  rest = ap (λ (ys : List ℤ). Number (foldFrom f b ys)) (next xs i h) ∙ s .rest;
+}
+
+pub folded-all : (f : ℤ → ℤ → ℤ) (xs : List ℤ) (b : ℤ) (i : ℕ) → Folded f xs b i → length xs ≤ i → Number b ≡ extreme f xs
+unfolding foldFrom
+folded-all f xs b i s h = ap (λ (ys : List ℤ). Number (foldFrom f b ys)) (sym (drop-of-length-le xs h)) ∙ s .rest
+
+pub folded-none : (f : ℤ → ℤ → ℤ) (xs : List ℤ) → length xs ≡ 0 → xs ≡ []
+folded-none f [] h = refl
+folded-none f (x ∷ xs) h = absurd (omega arith)

@@ -1,0 +1,83 @@
+// The members on a number. Each works at 64 bits, where nothing is lost, and tests the range once, at the end.
+use crate::Value;
+use language::members::Member;
+ghost use mathlib.Core.Path.{_≡_};
+ghost use Rattle.language.specs.declared.members.Member.the-variants as Members;
+ghost use Rattle.values.specs.Values.{ranged};
+ghost use Rattle.values.specs.Numbers.{onNumbers};
+
+// A whole number as a value: reason 4 beyond signed 32 bits.
+pub fn number(z: i64) -> Value
+    ensures { λ r. ⌜ r ≡ ranged z ⌝ }
+{
+    if z < -2147483648 {
+        return Value::Missing(4);
+    }
+    if 2147483647 < z {
+        return Value::Missing(4);
+    }
+    Value::Number(z as i32)
+}
+
+pub fn add(a: i32, b: i32) -> Value
+    ensures { λ r. ⌜ r ≡ onNumbers Members.Add a b ⌝ }
+{
+    number(a as i64 + b as i64)
+}
+
+pub fn sub(a: i32, b: i32) -> Value
+    ensures { λ r. ⌜ r ≡ onNumbers Members.Sub a b ⌝ }
+{
+    number(a as i64 - b as i64)
+}
+
+pub fn mul(a: i32, b: i32) -> Value
+    ensures { λ r. ⌜ r ≡ onNumbers Members.Mul a b ⌝ }
+{
+    number(a as i64 * b as i64)
+}
+
+// Towards zero; reason 3 for a zero divisor.
+pub fn div(a: i32, b: i32) -> Value
+    ensures { λ r. ⌜ r ≡ onNumbers Members.Div a b ⌝ }
+{
+    if b == 0 {
+        return Value::Missing(3);
+    }
+    number(a as i64 / b as i64)
+}
+
+pub fn gt(a: i32, b: i32) -> Value
+    ensures { λ r. ⌜ r ≡ onNumbers Members.Gt a b ⌝ }
+{
+    if b < a {
+        Value::Number(1)
+    } else {
+        Value::Number(0)
+    }
+}
+
+pub fn eq(a: i32, b: i32) -> Value
+    ensures { λ r. ⌜ r ≡ onNumbers Members.Eq a b ⌝ }
+{
+    if a == b {
+        Value::Number(1)
+    } else {
+        Value::Number(0)
+    }
+}
+
+// The member on two numbers: reason 2 where it is used on none.
+pub fn on_numbers(m: Member, a: i32, b: i32) -> Value
+    ensures { λ r. ⌜ r ≡ onNumbers m a b ⌝ }
+{
+    match m {
+        Member::Add => add(a, b),
+        Member::Sub => sub(a, b),
+        Member::Mul => mul(a, b),
+        Member::Div => div(a, b),
+        Member::Gt => gt(a, b),
+        Member::Eq => eq(a, b),
+        _ => Value::Missing(2),
+    }
+}

@@ -1,0 +1,75 @@
+// A value as one cell of memory, and back. Each kind has a range of cells of its own, in the order number, window, function, delayed,
+// missing; 0 is no value.
+use crate::Value;
+ghost use mathlib.Core.Path.{_≡_};
+ghost use Rattle.values.specs.Packing.{packOf, unpackOf, isPacked};
+ghost use Rattle.values.specs.PackingLaws.{numberIn};
+
+const WINDOW: u64 = 8589934592;
+
+const FUNCTION: u64 = 17179869184;
+
+const DELAYED: u64 = 25769803776;
+
+const MISSING: u64 = 34359738368;
+
+pub fn pack(v: Value) -> u64
+    ensures { λ r. ⌜ r ≡ packOf v ⌝ }
+{
+    match v {
+        Value::Number(z) => (z as i64 + 2147483648) as u64 + 1,
+        Value::Window { start, length } => WINDOW + (start as u64 * 65536 + length as u64),
+        Value::Function => FUNCTION,
+        Value::Delayed => DELAYED,
+        Value::Missing(r) => MISSING + r as u64,
+    }
+}
+
+fn number_in(cell: u64) -> i32
+    ensures { λ r. ⌜ r ≡ numberIn cell ⌝ }
+{
+    if cell == 0 {
+        return -2147483648;
+    }
+    (((cell - 1) % 4294967296) as i64 - 2147483648) as i32
+}
+
+// Of any cell: of one that is no packed value, some value.
+pub fn unpack(cell: u64) -> Value
+    ensures { λ r. ⌜ r ≡ unpackOf cell ⌝ }
+{
+    if cell < WINDOW {
+        return Value::Number(number_in(cell));
+    }
+    if cell < FUNCTION {
+        return Value::Window {
+            start: (cell % WINDOW / 65536 % 65536) as u16,
+            length: (cell % 65536) as u16,
+        };
+    }
+    if cell < DELAYED {
+        return Value::Function;
+    }
+    if cell < MISSING {
+        return Value::Delayed;
+    }
+    Value::Missing((cell % 256) as u8)
+}
+
+// Whether the cell is a packed value that may be kept beside so many readings: a number within signed 32 bits, a window within the
+// readings, a function, a delay, or a reason from 1 to 5.
+pub fn is_packed(cell: u64, readings: usize) -> bool
+    ensures { λ r. ⌜ r ≡ isPacked cell readings ⌝ }
+{
+    if cell < WINDOW {
+        return (1 <= cell) & (cell <= 4294967296);
+    }
+    if cell < FUNCTION {
+        let low = cell - WINDOW;
+        return (cell < WINDOW + 4294967296) & (low / 65536 + low % 65536 <= readings as u64);
+    }
+    if cell < MISSING {
+        return (cell == FUNCTION) | (cell == DELAYED);
+    }
+    (MISSING + 1 <= cell) & (cell <= MISSING + 5)
+}

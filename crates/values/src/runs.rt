@@ -1,0 +1,106 @@
+// The members that run a function, from the results of its runs, one at a time: the first result that is no number decides.
+use crate::Value;
+use crate::numbers::number;
+use language::members::Member;
+ghost use mathlib.Core.Path.{_≡_};
+ghost use Prim.Native.Nat.{max};
+ghost use Rattle.values.specs.Tallies.{begun, noted, halted, finished, Within, Steps};
+
+// What is kept of the results so far: how many were other than 0, the stretch of these at the end, the longest stretch, and the exact
+// total. Once stopped, the reason alone counts.
+pub struct Tally {
+    pub stopped: bool,
+    pub reason: u8,
+    pub count: u16,
+    pub stretch: u16,
+    pub longest: u16,
+    pub total: i64,
+}
+
+pub fn start() -> Tally
+    ensures { λ r. ⌜ r ≡ begun ⌝ }
+{
+    Tally {
+        stopped: false,
+        reason: 0,
+        count: 0,
+        stretch: 0,
+        longest: 0,
+        total: 0,
+    }
+}
+
+fn halt(reason: u8) -> Tally
+    ensures { λ r. ⌜ r ≡ halted reason ⌝ }
+{
+    Tally {
+        stopped: true,
+        reason,
+        count: 0,
+        stretch: 0,
+        longest: 0,
+        total: 0,
+    }
+}
+
+fn longer(a: u16, b: u16) -> u16
+    ensures { λ r. ⌜ r ≡ max a b ⌝ }
+{
+    if a < b { b } else { a }
+}
+
+fn note(t: Tally, z: i32) -> Tally
+    requires { ⌜ Within 65534 t ⌝ }
+    ensures { λ r. ⌜ r ≡ noted t z ⌝ }
+{
+    let total = t.total + z as i64;
+    if z == 0 {
+        return Tally {
+            stopped: false,
+            reason: 0,
+            count: t.count,
+            stretch: 0,
+            longest: t.longest,
+            total,
+        };
+    }
+    let stretch = t.stretch + 1;
+    Tally {
+        stopped: false,
+        reason: 0,
+        count: t.count + 1,
+        stretch,
+        longest: longer(t.longest, stretch),
+        total,
+    }
+}
+
+// One more result. At most 65,535 of them can be taken from the start.
+pub fn step(t: Tally, v: Value) -> Tally
+    requires { ⌜ Within 65534 t ⌝ }
+    ensures { λ r. ⌜ Steps t v r ⌝ }
+{
+    if t.stopped {
+        return t;
+    }
+    match v {
+        Value::Number(z) => note(t, z),
+        Value::Missing(r) => halt(r),
+        _ => halt(2),
+    }
+}
+
+// What the member comes to after the last result.
+pub fn finish(m: Member, t: Tally) -> Value
+    ensures { λ r. ⌜ r ≡ finished m t ⌝ }
+{
+    if t.stopped {
+        return Value::Missing(t.reason);
+    }
+    match m {
+        Member::CountWhere => Value::Number(t.count as i32),
+        Member::LongestRun => Value::Number(t.longest as i32),
+        Member::SumBy => number(t.total),
+        _ => Value::Missing(2),
+    }
+}

@@ -1,0 +1,164 @@
+// The members on a window of a lent recording that run no function. A window may reach past the recording: its readings are those that
+// are there.
+use crate::Value;
+use crate::numbers::number;
+use language::members::Member;
+ghost use mathlib.Core.Path.{_≡_};
+ghost use Prim.Native.Nat.{_+_, _≤_};
+ghost use Rattle.language.specs.declared.members.Member.the-variants as Members;
+ghost use Rattle.values.specs.Windows.{readingsIn, clipped, skipped, taken, unlessNegative, lesser, greater, ofWindow, onWindow};
+
+// The readings of a window, as that very part of the recording.
+pub fn part(xs: &[i32], start: u16, length: u16) -> &[i32]
+    ensures { λ r. ⌜ now r ≡ readingsIn (now (xs .entry)) start length ⌝ }
+{
+    let from = start as usize;
+    let count = length as usize;
+    if xs.len() <= from {
+        return &xs[0..0];
+    }
+    if xs.len() - from <= count {
+        return &xs[from..];
+    }
+    let to = from + count;
+    &xs[from..to]
+}
+
+// Exact: only the final total is tested for its range.
+pub fn sum(xs: &[i32], start: u16, length: u16) -> Value
+    ensures { λ r. ⌜ r ≡ ofWindow Members.Sum (now (xs .entry)) start length ⌝ }
+{
+    let readings = part(xs, start, length);
+    let mut total: i64 = 0;
+    let mut i: usize = 0;
+    while i < readings.len() {
+        total = total + readings[i] as i64;
+        i += 1;
+    }
+    number(total)
+}
+
+fn lesser_of(a: i32, b: i32) -> i32
+    ensures { λ r. ⌜ r ≡ lesser a b ⌝ }
+{
+    if b < a { b } else { a }
+}
+
+fn greater_of(a: i32, b: i32) -> i32
+    ensures { λ r. ⌜ r ≡ greater a b ⌝ }
+{
+    if a < b { b } else { a }
+}
+
+// Reason 5 for an empty window, here and in greatest.
+pub fn least(xs: &[i32], start: u16, length: u16) -> Value
+    ensures { λ r. ⌜ r ≡ ofWindow Members.Min (now (xs .entry)) start length ⌝ }
+{
+    let readings = part(xs, start, length);
+    if readings.len() == 0 {
+        return Value::Missing(5);
+    }
+    let mut best = readings[0];
+    let mut i: usize = 1;
+    while i < readings.len() {
+        best = lesser_of(best, readings[i]);
+        i += 1;
+    }
+    Value::Number(best)
+}
+
+pub fn greatest(xs: &[i32], start: u16, length: u16) -> Value
+    ensures { λ r. ⌜ r ≡ ofWindow Members.Max (now (xs .entry)) start length ⌝ }
+{
+    let readings = part(xs, start, length);
+    if readings.len() == 0 {
+        return Value::Missing(5);
+    }
+    let mut best = readings[0];
+    let mut i: usize = 1;
+    while i < readings.len() {
+        best = greater_of(best, readings[i]);
+        i += 1;
+    }
+    Value::Number(best)
+}
+
+// The member on a window: reason 2 where it is used on none, or takes an argument.
+pub fn of_window(m: Member, xs: &[i32], start: u16, length: u16) -> Value
+    ensures { λ r. ⌜ r ≡ ofWindow m (now (xs .entry)) start length ⌝ }
+{
+    match m {
+        Member::Count => Value::Number(length as i32),
+        Member::Sum => sum(xs, start, length),
+        Member::Min => least(xs, start, length),
+        Member::Max => greatest(xs, start, length),
+        _ => Value::Missing(2),
+    }
+}
+
+// How many of length readings a count takes or skips: past the end, all there is.
+fn clip(count: u32, length: u16) -> u16
+    ensures { λ r. ⌜ r ≡ clipped count length ⌝ }
+{
+    if count < length as u32 {
+        count as u16
+    } else {
+        length
+    }
+}
+
+// Reason 5 for a negative count, here and in take; the start moves on by what is skipped.
+pub fn skip(start: u16, length: u16, n: i32) -> Value
+    requires { ⌜ start + length ≤ 65535 ⌝ }
+    ensures { λ r. ⌜ r ≡ unlessNegative n (skipped start length) ⌝ }
+{
+    if n < 0 {
+        return Value::Missing(5);
+    }
+    let gone = clip(n as u32, length);
+    Value::Window {
+        start: start + gone,
+        length: length - gone,
+    }
+}
+
+pub fn take(start: u16, length: u16, n: i32) -> Value
+    ensures { λ r. ⌜ r ≡ unlessNegative n (taken start length) ⌝ }
+{
+    if n < 0 {
+        return Value::Missing(5);
+    }
+    Value::Window {
+        start,
+        length: clip(n as u32, length),
+    }
+}
+
+// The reading at an index from 0: reason 5 outside the window.
+pub fn at(xs: &[i32], start: u16, length: u16, n: i32) -> Value
+    ensures { λ r. ⌜ r ≡ onWindow Members.At (now (xs .entry)) start length n ⌝ }
+{
+    if n < 0 {
+        return Value::Missing(5);
+    }
+    let readings = part(xs, start, length);
+    let i = n as u32 as usize;
+    if i < readings.len() {
+        Value::Number(readings[i])
+    } else {
+        Value::Missing(5)
+    }
+}
+
+// The member on a window and a number: reason 2 where it takes no number.
+pub fn on_window(m: Member, xs: &[i32], start: u16, length: u16, n: i32) -> Value
+    requires { ⌜ start + length ≤ 65535 ⌝ }
+    ensures { λ r. ⌜ r ≡ onWindow m (now (xs .entry)) start length n ⌝ }
+{
+    match m {
+        Member::Skip => skip(start, length, n),
+        Member::Take => take(start, length, n),
+        Member::At => at(xs, start, length, n),
+        _ => Value::Missing(2),
+    }
+}
