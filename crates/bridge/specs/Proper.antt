@@ -63,17 +63,43 @@ nodup-joined xs [] n = n
 nodup-joined xs (y ∷ ys) n = split (hasName y xs) (λ e. rw e (nodup-joined xs ys n)) (λ e. rw e (nodup-joined (xs ++ (y ∷ [])) ys (nodup-snoc y xs n e)))
 
 -- a name of two lists joined is one of the first or of the second
-pub has-joined : (z : ℕ) (xs ys ns : List ℕ) → ((y : ℕ) → Has y xs → Has y ns) → ((y : ℕ) → Has y ys → Has y ns) → Has z (joined xs ys) → Has z ns
+pub joined-cases : {A : Type 0} (z : ℕ) (xs ys : List ℕ) → Has z (joined xs ys) → (Has z xs → A) → (Has z ys → A) → A
 unfolding joined hasName
-has-joined z xs [] ns p q h = p z h
-has-joined z xs (y ∷ ys) ns p q h =
+joined-cases z xs [] h p q = p h
+joined-cases z xs (y ∷ ys) h p q =
     split (hasName y xs)
-    (λ e. has-joined z xs ys ns p (λ w i. q w (or-right (eqb w y) _ i)) (rw e at h))
+    (λ e. joined-cases z xs ys (rw e at h) p (λ i. q (or-right (eqb z y) _ i)))
     (λ e.
-    has-joined z (xs ++ (y ∷ [])) ys ns
-    (λ w i. split (hasName w xs) (λ u. p w u) (λ u. let k : y ≡ w = has-snoc w y xs i (λ v. no-way (sym u ∙ v)) in rw (← k) (q y (rw (eq-eqb y y refl)))))
-    (λ w i. q w (or-right (eqb w y) _ i))
-    (rw e at h))
+    joined-cases z (xs ++ (y ∷ [])) ys (rw e at h)
+    (λ i. split (hasName z xs) p (λ u. let k : y ≡ z = has-snoc z y xs i (λ v. no-way (sym u ∙ v)) in q (rw (eq-eqb z y (sym k)))))
+    (λ i. q (or-right (eqb z y) _ i)))
+
+pub has-joined : (z : ℕ) (xs ys ns : List ℕ) → ((y : ℕ) → Has y xs → Has y ns) → ((y : ℕ) → Has y ys → Has y ns) → Has z (joined xs ys) → Has z ns
+has-joined z xs ys ns p q h = joined-cases z xs ys h (p z) (q z)
+
+-- and the other way round
+has-left : (z x : ℕ) (xs : List ℕ) → Has z xs → Has z (xs ++ (x ∷ []))
+unfolding hasName
+has-left z x [] h = no-way h
+has-left z x (y ∷ xs) h = split (eqb z y) (λ e. rw e) (λ e. rw e (has-left z x xs (rw e at h)))
+
+has-last : (x : ℕ) (xs : List ℕ) → Has x (xs ++ (x ∷ []))
+unfolding hasName
+has-last x [] = rw (eq-eqb x x refl)
+has-last x (y ∷ xs) = let i = has-last x xs in split (eqb x y) (λ e. rw e) (λ e. rw e i)
+
+pub joined-left : (z : ℕ) (xs ys : List ℕ) → Has z xs → Has z (joined xs ys)
+unfolding joined
+joined-left z xs [] h = h
+joined-left z xs (y ∷ ys) h = split (hasName y xs) (λ e. rw e (joined-left z xs ys h)) (λ e. rw e (joined-left z (xs ++ (y ∷ [])) ys (has-left z y xs h)))
+
+pub joined-right : (z : ℕ) (xs ys : List ℕ) → Has z ys → Has z (joined xs ys)
+unfolding joined hasName
+joined-right z xs [] h = no-way h
+joined-right z xs (y ∷ ys) h =
+    split (hasName y xs)
+    (λ e. rw e (split (eqb z y) (λ u. joined-left z xs ys (rw (eqb-true z y u) e)) (λ u. joined-right z xs ys (rw u at h))))
+    (λ e. rw e (split (eqb z y) (λ u. joined-left z (xs ++ (y ∷ [])) ys (rw (eqb-true z y u) (has-last y xs))) (λ u. joined-right z (xs ++ (y ∷ [])) ys (rw u at h))))
 
 pub has-without : (z x : ℕ) (ys : List ℕ) → Has z (without x ys) → Has z ys × (eqb x z ≡ false)
 unfolding without hasName
@@ -115,7 +141,7 @@ unfolding without hasName
 without-less x [] h = no-way h
 without-less x (y ∷ ys) h = split (eqb x y) (λ e. let r = without-short x ys in rw e (omega arith)) (λ e. let r = without-less x ys (rw e at h) in rw e (omega arith))
 
-has-kept : (z x : ℕ) (ys : List ℕ) → Has z ys → eqb x z ≡ false → Has z (without x ys)
+pub has-kept : (z x : ℕ) (ys : List ℕ) → Has z ys → eqb x z ≡ false → Has z (without x ys)
 unfolding without hasName
 has-kept z x [] h e = no-way h
 has-kept z x (y ∷ ys) h e =

@@ -3,3 +3,7 @@ pub mod Bound
 pub mod Appended
 pub mod Standing
 pub mod Editing
+pub mod Opening
+pub mod Delays
+pub mod Fitting
+pub mod Cells

@@ -52,7 +52,7 @@ due-unless false n p r = refl
 pub due-by : (n m k end : ℕ) (rest : List Located) (r r' : Reading) → n ≡ m → r ≡ due k (unlessAt m (headPlace end rest) r') end rest → r ≡ unlessAt (cond (isAt k rest) n 5) (headPlace end rest) r'
 due-by n m k end rest r r' e h = unless-by _ _ _ r r' (ap (λ i. cond (isAt k rest) i 5) e) (h ∙ due-unless (isAt k rest) m (headPlace end rest) r')
 
-due-zero : (k end : ℕ) (rest : List Located) (r r' : Reading) → r ≡ due k r' end rest → r ≡ unlessAt (cond (isAt k rest) 0 5) (headPlace end rest) r'
+pub due-zero : (k end : ℕ) (rest : List Located) (r r' : Reading) → r ≡ due k r' end rest → r ≡ unlessAt (cond (isAt k rest) 0 5) (headPlace end rest) r'
 unfolding unlessAt
 due-zero k end rest r r' h = h ∙ due-unless (isAt k rest) 0 (headPlace end rest) r'
 

@@ -318,3 +318,10 @@ pub run-keeps : (end f : ℕ) → Keeps (run end f)
 unfolding run
 run-keeps end zero m s = kept-refused end (depthOf m) (passes m) 0 (owed m) 0 s
 run-keeps end (suc f) m s = step-keeps end (run end f) (run-keeps end f) m s
+
+-- so does the whole reading
+pub ended-keeps : (end d : ℕ) (s a : State) → Kept d 1 0 0 s a → Kept d 1 0 0 s (ended end a)
+unfolding ended
+ended-keeps end d s a h =
+    kept-then d 1 0 0 0 0 0 s a _ h
+    (kept-moved d 0 0 a _ (moved-judge end _ 0 0 (a .cursor) _ (λ _. record { count = refl; root = refl; parts = omega arith; most = omega arith; rest = omega arith; went = λ _. (omega arith, omega arith) })))

@@ -13,3 +13,7 @@ pub mod Fitting
 pub mod SameExpression
 pub mod SameCalls
 pub mod Same
+pub mod PartPlaces
+pub mod Linked
+pub mod Decoding
+pub mod Theorems

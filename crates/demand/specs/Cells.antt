@@ -1,0 +1,160 @@
+-- The cells of what a form shows pass the tests of refusal 4, and show it again. Assumes nothing.
+use mathlib.Core.Path.{_≡_, refl, sym, ap, _∙_, subst}
+use mathlib.Core.Bool.{Bool, true, false, cond, not, _&&_, _||_}
+use mathlib.Core.List.{List, [], _∷_}
+use mathlib.Core.Option.{Option, none, some}
+use Prim.Native.Nat.{ℕ, zero, suc, _+_, _<_, _≤_}
+use native.Mathlib.Omega.{arith}
+use borrow.Author.Tests.{eqb-true, eq-eqb, ne-eqb}
+use lib.Dec.{eqb}
+use lib.IntN.{ℤ, pos, natAbs}
+use lib.ListN.{length, getD}
+use lib.Signed.{mag}
+use Rattle.language.specs.Members.{row}
+use Rattle.language.specs.declared.members.Member.{Member}
+use Rattle.values.specs.declared.Value.{Value}
+use Rattle.values.specs.declared.Value.the-variants.{Number, Window, Function, Delayed, Missing}
+use Rattle.values.specs.Values.{pick, wrongKind}
+use Rattle.values.specs.Apply.{isKind, isMissing, isDelayed, rule0, rule1, apply0, apply1}
+use Rattle.values.specs.Kept.{Held, Kept}
+use Rattle.values.specs.Packing.{packOf, unpackOf, isPacked, functionCell, delayedCell, isFunctionCell, isDelayedCell}
+use Rattle.values.specs.PackingLaws.{round, packed-above, kept-passes}
+use Rattle.meaning.specs.Forms.{Form, number, variable, unbound, readings, ask, call, function, works, nameOf}
+use Rattle.meaning.specs.FormsLaws.{within-self, no-way}
+use Rattle.meaning.specs.Evaluation.{Result, plain, runs, valueOf, nowhere, lookup, evaluate, hasName, awaited, Shown, aNumber, aWindow, aFunction, aDelay, aReason, shownAs, shows}
+use Rattle.model.specs.Cases.{impossible, split}
+use Rattle.table.specs.Memory.{Kept as Cells}
+use Rattle.table.specs.Nodes.{isName, wordNumber}
+use Rattle.table.specs.WellFormed.{namesRight}
+use Rattle.bridge.specs.Proper.{Proper, Has}
+use Rattle.demand.specs.Holds.{keptFor, markOf, namesIn, shownIn, shownBy}
+use Rattle.demand.specs.Delays.{isPlain, plain-pick, plain-rule0, plain-rule1}
+use Rattle.demand.specs.Fitting.{Deep, shown-fits, name-of, delayed-awaits}
+
+pub record Keeps (n : ℕ) (v : Shown) : Type 0 where
+  pub names : namesRight (keptFor v) ≡ true
+  pub packed : isPacked (keptFor v .value) n ≡ true
+  pub above : 1 ≤ keptFor v .value
+  pub mark : markOf (keptFor v) ≡ some v
+
+-- a cell of one value is not another's
+cell-not : (v u : Value) (c : ℕ) → Held v → unpackOf c ≡ u → (v ≡ u → ⊥) → eqb (packOf v) c ≡ false
+cell-not v u c h q out = ne-eqb (packOf v) c (λ e. out (sym (round v h) ∙ ap unpackOf e ∙ q))
+
+at-function : unpackOf functionCell ≡ Function
+unfolding unpackOf
+at-function = refl
+
+at-delayed : unpackOf delayedCell ≡ Delayed
+unfolding unpackOf
+at-delayed = refl
+
+-- a value that shows no names
+keeps-plain : (n : ℕ) (v : Value) (w : Shown) → Kept n v → (v ≡ Function → ⊥) → (v ≡ Delayed → ⊥) → keptFor w ≡ record { value = packOf v; name = 0; other = 0 }
+    → shownBy (record { value = packOf v; name = 0; other = 0 }) v ≡ w → Keeps n w
+unfolding namesRight
+keeps-plain n v w k nf nd e s =
+    let a = packed-above v in
+    let f : isFunctionCell (packOf v) ≡ false = cell-not v Function functionCell (k .held) at-function nf in
+    let d : isDelayedCell (packOf v) ≡ false = cell-not v Delayed delayedCell (k .held) at-delayed nd in
+    let z : eqb (packOf v) 0 ≡ false = ne-eqb (packOf v) 0 (λ q. omega arith) in
+    let c : Cells = record { value = packOf v; name = 0; other = 0 } in
+    let names : namesRight c ≡ true = rw (f, d) in
+    let mark : markOf c ≡ some w = rw (z, round v (k .held)) (ap some s) in
+    record {
+      names = subst (λ (x : Cells). namesRight x ≡ true) (sym e) names;
+      packed = subst (λ (x : Cells). isPacked (x .value) n ≡ true) (sym e) (kept-passes n v k);
+      above = subst (λ (x : Cells). 1 ≤ x .value) (sym e) a;
+      mark = subst (λ (x : Cells). markOf x ≡ some w) (sym e) mark
+    }
+
+never : {A : Type 0} → _≡_ {A = ℕ} 0 1 → A
+never z = absurd (omega arith)
+
+-- functions come from functions alone
+abbrev isFun : Value → Bool
+isFun Function = true
+isFun (Number z) = false
+isFun (Window s l) = false
+isFun Delayed = false
+isFun (Missing r) = false
+
+plain-fun : (v : Value) → isPlain v ≡ true → isFun v ≡ false
+plain-fun (Number z) h = refl
+plain-fun (Window s l) h = refl
+plain-fun Function h = impossible h
+plain-fun Delayed h = impossible h
+plain-fun (Missing r) h = refl
+
+missing-fun : (v : Value) → isMissing v ≡ true → isFun v ≡ false
+missing-fun (Number z) h = impossible h
+missing-fun (Window s l) h = impossible h
+missing-fun Function h = impossible h
+missing-fun Delayed h = impossible h
+missing-fun (Missing r) h = refl
+
+fun-pick : (b : Bool) (v w : Value) → (b ≡ true → isFun v ≡ false) → isFun w ≡ false → isFun (pick b v w) ≡ false
+fun-pick true v w p q = p refl
+fun-pick false v w p q = q
+
+fun0 : (m : Member) (xs : List ℤ) (v : Value) → isFun (apply0 m xs v) ≡ false
+unfolding apply0
+fun0 m xs v =
+    fun-pick (isMissing v) v (pick (isDelayed v) Delayed (pick (isKind v (row m .receiver)) (rule0 m xs v) (Missing wrongKind))) (missing-fun v)
+    (fun-pick (isDelayed v) Delayed (pick (isKind v (row m .receiver)) (rule0 m xs v) (Missing wrongKind)) (λ e. refl)
+    (plain-fun (pick (isKind v (row m .receiver)) (rule0 m xs v) (Missing wrongKind)) (plain-pick (isKind v (row m .receiver)) (rule0 m xs v) (Missing wrongKind) (plain-rule0 m xs v) refl)))
+
+fun1 : (m : Member) (xs : List ℤ) (v w : Value) (run : ℤ → Value) → isFun (apply1 m xs v w run) ≡ false
+unfolding apply1
+fun1 m xs v w run =
+    let r = pick (isKind v (row m .receiver) && isKind w (row m .argument)) (rule1 m xs v w run) (Missing wrongKind) in
+    fun-pick (isMissing v) v (pick (isMissing w) w (pick (isDelayed v || isDelayed w) Delayed r)) (missing-fun v)
+    (fun-pick (isMissing w) w (pick (isDelayed v || isDelayed w) Delayed r) (missing-fun w)
+    (fun-pick (isDelayed v || isDelayed w) Delayed r (λ e. refl)
+    (plain-fun r (plain-pick (isKind v (row m .receiver) && isKind w (row m .argument)) (rule1 m xs v w run) (Missing wrongKind) (plain-rule1 m xs v w run) refl))))
+
+function-name : (xs : List ℤ) (f : Form) → Deep f → isFun (valueOf (evaluate xs nowhere f)) ≡ true → isName (nameOf f) ≡ true
+unfolding evaluate valueOf lookup nameOf
+function-name xs (number z) d h = impossible h
+function-name xs (variable x) d h = impossible h
+function-name xs (unbound x) d h = impossible h
+function-name xs readings d h = impossible h
+function-name xs (ask m f) d h = impossible (sym (fun0 m xs _) ∙ h)
+function-name xs (call m f a) d h = impossible (sym (fun1 m xs _ _ _) ∙ h)
+function-name xs (function x b) d h = d (function x b) (within-self (function x b)) .shape
+
+-- a name is not 0
+name-some : (y : ℕ) → isName y ≡ true → eqb y 0 ≡ false
+unfolding isName wordNumber
+name-some y h = ne-eqb y 0 (λ e. no-way (rw e at h))
+
+-- one name or two
+keeps-delay : (n : ℕ) (xs : List ℕ) → length xs ≤ 2 → (y : ℕ) → Has y xs → ((z : ℕ) → Has z xs → isName z ≡ true) → Kept n Delayed → Keeps n (aDelay xs)
+unfolding namesRight hasName
+keeps-delay n [] l y h g k = no-way h
+keeps-delay n (a ∷ []) l y h g k =
+    let p = g a (rw (eq-eqb a a refl)) in
+    record { names = rw p; packed = kept-passes n Delayed k; above = packed-above Delayed; mark = rw (round Delayed tt) }
+keeps-delay n (a ∷ b ∷ []) l y h g k =
+    let p = g a (rw (eq-eqb a a refl)) in
+    let q = g b (split (eqb b a) (λ e. rw e) (λ e. rw (e, eq-eqb b b refl))) in
+    let z = name-some b q in
+    record { names = rw (p, q, z); packed = kept-passes n Delayed k; above = packed-above Delayed; mark = rw (round Delayed tt, z) }
+keeps-delay n (a ∷ b ∷ c ∷ xs) l y h g k = absurd (omega arith)
+
+keeps-function : (n x : ℕ) → isName x ≡ true → Kept n Function → Keeps n (aFunction x)
+unfolding namesRight
+keeps-function n x p k = record { names = rw p; packed = kept-passes n Function k; above = packed-above Function; mark = rw (round Function tt) }
+
+-- what a proper form shows
+module _ (xs : List ℤ) (short : length xs ≤ 1024) (small : (i : ℕ) → i < length xs → mag (getD xs i (pos 0)) < 2147483648) (f : Form) (d : Deep f) where
+  by : (v : Value) → valueOf (evaluate xs nowhere f) ≡ v → Kept (length xs) v → Keeps (length xs) (shownAs f v)
+  by (Number z) e k = keeps-plain (length xs) (Number z) (aNumber z) k (λ q. never (cc)) (λ q. never (cc)) refl refl
+  by (Window s l) e k = keeps-plain (length xs) (Window s l) (aWindow s l) k (λ q. never (cc)) (λ q. never (cc)) refl refl
+  by (Missing r) e k = keeps-plain (length xs) (Missing r) (aReason r) k (λ q. never (cc)) (λ q. never (cc)) refl refl
+  by Delayed e k = let a = delayed-awaits xs f nowhere (ap isDelayed e) in keeps-delay (length xs) (awaited f) (d f (within-self f) .few) (a .name) (a .free) (name-of f d) k
+  by Function e k = keeps-function (length xs) (nameOf f) (function-name xs f d (ap isFun e)) k
+
+  pub keeps : Keeps (length xs) (shows xs f)
+  unfolding shows
+  keeps = by (valueOf (evaluate xs nowhere f)) refl (shown-fits xs short small f d)
