@@ -68,7 +68,7 @@ mutual
   orderM-length (last r) f Γ u = let q = orderC-length r f Γ u in omega arith
   orderM-length (next e x) f Γ u = let p = orderE-length e Γ (orderM x f Γ u) in let q = orderM-length x f Γ u in omega arith
 
-tests : Tests formulas
+pub tests : Tests formulas
 tests =
     record {
       equality = record { equal = same-eq; self = same-self };
@@ -85,7 +85,7 @@ no-parts h = let z : _≡_ {A = ℕ} 0 1 = cc in absurd (never z)
     never : _≡_ {A = ℕ} 0 1 → ⊥
     never z = omega arith
 
-readable : (text : List ℕ) (order places : List Form) (whole : Form) → parsed (readText text) ≡ parts order places whole → Readable formulas Proper order places whole
+pub readable : (text : List ℕ) (order places : List Form) (whole : Form) → parsed (readText text) ≡ parts order places whole → Readable formulas Proper order places whole
 unfolding parsed
 readable text order places whole h = by (readText text) refl h
   where
@@ -111,7 +111,7 @@ readable text order places whole h = by (readText text) refl h
         rw (← a, ← b, ← c) (of e g)
     by (refused n p) g q = no-parts q
 
-refused-right : (text : List ℕ) (m at : ℕ) → parsed (readText text) ≡ rejected m at → Rejected text m at
+pub refused-right : (text : List ℕ) (m at : ℕ) → parsed (readText text) ≡ rejected m at → Rejected text m at
 unfolding parsed
 refused-right text m at h = by (readText text) refl h
   where
@@ -125,7 +125,7 @@ refused-right text m at h = by (readText text) refl h
     by (tree e) g q = no-parts (sym q)
     by (refused n p) g q = let a : n ≡ m = cc in let b : p ≡ at = cc in rw (← a, ← b) (of n p g)
 
-pub formula-laws : Laws formulas
+unfoldable pub formula-laws : Laws formulas
 formula-laws =
     record {
       tests = tests;

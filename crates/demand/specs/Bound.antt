@@ -49,7 +49,7 @@ form-relinked _ ρ φ (aFunction x b) = build-function x (ρ b) φ ∙ sym (buil
 form-relinked _ ρ φ (anAsk m f e) = build-ask m (ρ f) φ e ∙ sym (build-ask m f (λ (k : ℕ). φ (ρ k)) e)
 form-relinked _ ρ φ (aCall m f a e) = build-call m (ρ f) (ρ a) φ e ∙ sym (build-call m f a (λ (k : ℕ). φ (ρ k)) e)
 
-among-by : (j : ℕ) (l k : List ℕ) → l ≡ k → among j k ≡ true → among j l ≡ true
+pub among-by : (j : ℕ) (l k : List ℕ) → l ≡ k → among j k ≡ true → among j l ≡ true
 among-by j l k e h = rw e h
 
 from-relinked : (n : Node) (ρ : ℕ → ℕ) (j : ℕ) → Fine n → among j (kids (relinkBy n ρ)) ≡ true → (k : ℕ) × (among k (kids n) ≡ true) × (ρ k ≡ j)

@@ -7,3 +7,4 @@ pub mod Opening
 pub mod Delays
 pub mod Fitting
 pub mod Cells
+pub mod Accepted

@@ -1,12 +1,11 @@
 -- grammar's machine over the tokens with their places, with what is made of its trees: a continuation, so that a reader by descent can be
 -- held against it part by part. It reads what readText reads. Assumes nothing.
 use mathlib.Core.Path.{_≡_, refl, sym, ap, _∙_}
-use mathlib.Core.Bool.{Bool}
 use mathlib.Core.List.{List, [], _∷_, map}
 use Prim.Native.Nat.{ℕ, zero, suc, _-_}
 use lib.Dec.{eqb}
 use lib.ListN.{length}
-use Rattle.grammar.specs.Tokens.{Token, kLet, kIn, kEquals, kLambda, kArrow, kDot, kOpen, kShut, kComma, word, number, other, Located, tokens}
+use Rattle.grammar.specs.Tokens.{Token, Located, tokens}
 use Rattle.grammar.specs.Grammar.{Expression, done, first}
 use Rattle.grammar.specs.Faults.{Around, opened, fault, counted}
 use Rattle.grammar.specs.Reading.{Reading, tree, refused, placeIn, tokensOf}

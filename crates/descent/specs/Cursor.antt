@@ -1,7 +1,7 @@
 -- The reader's cursor: the tokens that are left, what has been counted, and the tests at each token in the order of 01's refusals.
 -- This is in the shape of the code: a cursor is a struct by value, and where its number is not 0 nothing more is done.
 -- Assumes nothing: these are definitions.
-use mathlib.Core.Bool.{Bool, true, false, cond, _||_}
+use mathlib.Core.Bool.{Bool, false, cond, _||_}
 use mathlib.Core.List.{List, [], _∷_}
 use Prim.Native.Nat.{ℕ, zero, suc, _+_, _*_}
 use lib.Dec.{leb, eqb}

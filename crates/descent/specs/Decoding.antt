@@ -1,5 +1,5 @@
 -- A record is read back from its two words, where its kind is below 32 and its first link below 256. Assumes nothing.
-use mathlib.Core.Path.{_≡_, refl, ap, _∙_}
+use mathlib.Core.Path.{_≡_, refl}
 use mathlib.Core.List.{List, [], _∷_, _++_}
 use Prim.Native.Nat.{ℕ, zero, suc, _+_, _*_, _/_, _%_, _≤_, _<_}
 use native.Mathlib.Omega.{arith}
@@ -8,7 +8,7 @@ use Rattle.table.specs.Memory.{Node}
 use Rattle.records.specs.Records.{node}
 use Rattle.descent.specs.Descent.{linkWord}
 use Rattle.descent.specs.Cells.{words}
-use Rattle.descent.specs.Linked.{EarlierAt, Earlier}
+use Rattle.descent.specs.Linked.{Earlier}
 
 abbrev pub nodeOf : ℕ → ℕ → Node
 nodeOf w key = node (w % 32) key (w / 32 % 256) (w / 8192)

@@ -1,8 +1,8 @@
 -- The reader in the shape of its code: recursive descent that writes records, places and binders into three scratch arrays as it goes.
 -- Each reader takes the readers it calls as an argument, and run ties them with fuel; so a function of the code is one equation here.
 -- Assumes nothing: these are definitions. That they read what the grammar says is in Theorems.
-use mathlib.Core.Bool.{Bool, true, false}
-use mathlib.Core.List.{List, [], _∷_}
+use mathlib.Core.Bool.{Bool, false}
+use mathlib.Core.List.{List}
 use Prim.Native.Nat.{ℕ, zero, suc, _+_, _*_, _-_}
 use lib.Dec.{eqb}
 use lib.ListN.{length, getD, set}

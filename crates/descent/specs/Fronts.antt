@@ -1,17 +1,17 @@
 -- What grammar's machine does at the front of the tokens, for each phase in the shape of the reader's tests: one table of tokens a phase.
 -- Assumes nothing.
 use mathlib.Core.Path.{_≡_, refl}
-use mathlib.Core.Bool.{Bool, true, false, cond}
+use mathlib.Core.Bool.{Bool, true, false}
 use mathlib.Core.List.{List, [], _∷_}
-use Prim.Native.Nat.{ℕ, zero, suc, _-_}
+use Prim.Native.Nat.{ℕ, suc, _-_}
 use lib.Dec.{leb, eqb}
 use Rattle.language.specs.Members.{memberOf, isUnknown, takes}
 use Rattle.grammar.specs.Tokens.{Token, kLet, kIn, kEquals, kLambda, kArrow, kDot, kOpen, kShut, kComma, word, number, other, when, Located}
-use Rattle.grammar.specs.Grammar.{Expression, Calls, Arguments, More, letIn, lambda, name, literal, bracket, done, call, none, first, last, next}
+use Rattle.grammar.specs.Grammar.{Expression, letIn, lambda, name, literal, bracket, done, call, none, first, last, next}
 use Rattle.grammar.specs.Faults.{fine, Around, opened, inLet, inLambda, deep, markFault, lambdaFault, letNameFault, lambdaNameFault}
 use Rattle.grammar.specs.Faults.{nameFault, literalFault, callFault, note, fault, faultNumber, counted}
 use Rattle.grammar.specs.Reading.{Reading, refused}
-use Rattle.grammar.specs.Machine.{Frame, value, brackets, argument, State, at, Trees, Outer, uncalled, asArgument, finish, stepOver, stepExpression}
+use Rattle.grammar.specs.Machine.{Frame, value, brackets, argument, at, Trees, finish, stepOver, stepExpression}
 use Rattle.grammar.specs.Machine.{expression, letName, letEquals, lambdaName, lambdaArrow, calls, member, callOpen, arguments, over}
 use Rattle.descent.specs.Cursor.{kindOf, wordOf, valueOf, headKind, headWord, headValue, headPlace, behindHead, isAt}
 use Rattle.descent.specs.Cursor.{letKind, inKind, equalsKind, lambdaKind, arrowKind, dotKind, openKind, shutKind, commaKind, wordKind, digitsKind}

@@ -2,22 +2,22 @@
 -- refused the machine goes on from the same tokens. Assumes nothing.
 use mathlib.Core.Path.{_≡_, refl, sym, ap, _∙_}
 use mathlib.Core.Bool.{Bool, true, false, cond}
-use mathlib.Core.List.{List, [], _∷_}
+use mathlib.Core.List.{List, _∷_}
 use Prim.Native.Nat.{ℕ, zero, suc, _<_}
 use native.Mathlib.Omega.{arith}
 use lib.Dec.{leb, eqb}
 use borrow.Author.Tests.{leb-false, eqb-true, eqb-false}
-use Rattle.language.specs.Names.{packed, isLong, isData}
+use Rattle.language.specs.Names.{packed}
 use Rattle.language.specs.Members.{memberOf, isUnknown, takes}
 use Rattle.grammar.specs.Tokens.{when, Located}
-use Rattle.grammar.specs.Grammar.{Expression, letIn, lambda, call}
-use Rattle.grammar.specs.Faults.{Around, opened, inLambda, markFault, lambdaFault, letNameFault, lambdaNameFault, callFault, deep, fine, note, fault}
+use Rattle.grammar.specs.Grammar.{Expression}
+use Rattle.grammar.specs.Faults.{opened, inLambda, markFault, lambdaFault, fine, note, fault}
 use Rattle.grammar.specs.Reading.{Reading, refused}
-use Rattle.grammar.specs.Machine.{Frame, value, at, Trees, expression, letName, letEquals, lambdaName, lambdaArrow, calls, member as memberPhase, callOpen, arguments}
+use Rattle.grammar.specs.Machine.{Frame, value, at, Trees, expression, letName, lambdaName, member as memberPhase, arguments}
 use Rattle.meaning.specs.Binding.{member}
 use Rattle.table.specs.Nodes.{memberKind}
 use Rattle.records.specs.Records.{Named}
-use Rattle.descent.specs.Cursor.{Cursor, equalsKind, arrowKind, wordKind, openKind, headPlace, headWord, behindHead, isAt, lambdasIn, lambdaIn}
+use Rattle.descent.specs.Cursor.{Cursor, equalsKind, arrowKind, wordKind, openKind, headPlace, headWord, behindHead, isAt, lambdasIn}
 use Rattle.descent.specs.Cursor.{atPart, atLet, atLambda, atMark, atLetName, atLambdaName, atMember, atCallOpen}
 use Rattle.descent.specs.Cursor.{pass, passPart, passName, passMember, refuse, judge, next, need, letHead, lambdaHead, callHead}
 use Rattle.descent.specs.Continued.{unlessAt, readOn}
@@ -80,11 +80,11 @@ module _ (end : ℕ) where
   fits-pass n c d k P r r' z e f =
       by-test (λ x. Fits (next end x k) P r) (eqb n 0) d (λ _. refuse end n c)
       (λ y. by-test (λ x. Fits x P r) (eqb (d tt .number) 0) (λ _. k (d tt)) (λ _. d tt)
-        (λ _. let m = eqb-true n 0 y in f m (unless-passed n _ r r' m e))
-        (λ x. absurd (eqb-false (d tt .number) 0 x z)))
+      (λ _. let m = eqb-true n 0 y in f m (unless-passed n _ r r' m e))
+      (λ x. absurd (eqb-false (d tt .number) 0 x z)))
       (λ y. by-test (λ x. Fits x P r) (eqb n 0) (λ _. k (refuse end n c)) (λ _. refuse end n c)
-        (λ x. absurd (eqb-false n 0 y (eqb-true n 0 x)))
-        (λ _. record { goes = λ x. absurd (eqb-false n 0 y x); stops = λ _. unless-refused n (headPlace end (c .rest)) r r' (eqb-false n 0 y) e }))
+      (λ x. absurd (eqb-false n 0 y (eqb-true n 0 x)))
+      (λ _. record { goes = λ x. absurd (eqb-false n 0 y x); stops = λ _. unless-refused n (headPlace end (c .rest)) r r' (eqb-false n 0 y) e }))
 
   pub fits-need : (k : ℕ) (c : Cursor) (P : Cursor → Type 0) (r r' : Reading) → r ≡ due k r' end (c .rest) → (r ≡ r' → Fits (pass c) P r) → Fits (need end k c) P r
   unfolding need atMark

@@ -1,24 +1,22 @@
 -- What reading keeps, for every fuel, state and array: the arrays' lengths, the scope's cells below the depth, and how the counts move.
 -- Where nothing is refused, tokens are passed, and there are no more new records than new parts. Assumes nothing.
 use mathlib.Core.Path.{_≡_, refl, _∙_}
-use mathlib.Core.Bool.{Bool, true, false, cond}
-use mathlib.Core.List.{List}
+use mathlib.Core.Bool.{Bool, true, false}
 use Prim.Native.Nat.{ℕ, zero, suc, _+_, _*_, _≤_, _<_, max}
 use native.Mathlib.Omega.{arith}
 use lib.Dec.{eqb, lit<}
 use lib.ListN.{length, getD, set, length-set}
 use borrow.Author.Tests.{eqb-true, eqb-false}
-use Rattle.language.specs.Names.{packed, isLong, dataWord}
-use Rattle.grammar.specs.Tokens.{when, Located}
+use Rattle.language.specs.Names.{dataWord}
 use Rattle.table.specs.Memory.{Node}
 use Rattle.descent.specs.Cursor.{Cursor, inKind, dotKind, shutKind, wordKind, openKind, letKind, lambdaKind, commaKind, digitsKind}
-use Rattle.descent.specs.Cursor.{headWord, headValue, behindHead, isAt, isOutside, binderOf, atPart, atName, atNumber, atShut, atComma, atBracket}
-use Rattle.descent.specs.Cursor.{pass, passPart, refuse, judge, need, letHead, lambdaHead, callHead}
+use Rattle.descent.specs.Cursor.{headWord, headValue, behindHead, isAt}
+use Rattle.descent.specs.Cursor.{refuse}
 use Rattle.descent.specs.Descent.{State, moved, then, counted, rooted, put, link, mark, enter, putBound, putScoped, putName, Call, Mode, Reader}
 use Rattle.descent.specs.Descent.{inExpression, inCalls, inArguments, inMore, readName, readNumber, readShut, readLet, readLambda, readBracket}
 use Rattle.descent.specs.Descent.{readExpression, readCalls, readArguments, readMore, step, run, ended}
 use Rattle.descent.specs.Cells.{getD-other}
-use Rattle.descent.specs.Moves.{Moved, by-test, not-refused, behind-some, judged-part, moved-judge, moved-pass, moved-need, moved-let, moved-lambda, moved-call}
+use Rattle.descent.specs.Moves.{Moved, by-test, behind-some, moved-judge, moved-name-part, moved-number-part, moved-pass, moved-need, moved-let, moved-lambda, moved-call}
 
 -- depth d; where nothing is refused p tokens are passed, and with g parts more there were at most as many new records as new parts and o
 pub record Kept (d p g o : ℕ) (s s' : State) : Type 0 where
@@ -31,7 +29,7 @@ pub record Kept (d p g o : ℕ) (s s' : State) : Type 0 where
   pub count : s .cursor .count ≤ s' .cursor .count
   pub rest : length (s' .cursor .rest) ≤ length (s .cursor .rest)
   pub went : s' .cursor .number ≡ 0 →
-    (length (s' .cursor .rest) + p ≤ length (s .cursor .rest)) × (s' .cursor .count + s .cursor .parts + g ≤ s .cursor .count + s' .cursor .parts + o)
+      (length (s' .cursor .rest) + p ≤ length (s .cursor .rest)) × (s' .cursor .count + s .cursor .parts + g ≤ s .cursor .count + s' .cursor .parts + o)
 
 kept-less : (d p g o D P G O : ℕ) (s s' : State) → D ≤ d → P ≤ p → o + G ≤ O + g → Kept d p g o s s' → Kept D P G O s s'
 kept-less d p g o D P G O s s' l m n h =
@@ -61,7 +59,7 @@ kept-next d p g o p' g' o' s a b f h k =
       went = λ e. let z = h .went (f e) in let y = k .went e in (omega arith, omega arith);
     }
 
-kept-then : (d p g o p' g' o' : ℕ) (s a : State) (k : State → State) → Kept d p g o s a → Kept d p' g' o' a (k a) → Kept d (p + p') (g + g') (o + o') s (then a k)
+pub kept-then : (d p g o p' g' o' : ℕ) (s a : State) (k : State → State) → Kept d p g o s a → Kept d p' g' o' a (k a) → Kept d (p + p') (g + g') (o + o') s (then a k)
 unfolding then
 kept-then d p g o p' g' o' s a k h j =
     by-test (Kept d (p + p') (g + g') (o + o') s) (eqb (a .cursor .number) 0) (λ _. k a) (λ _. a)
@@ -78,7 +76,7 @@ kept-then d p g o p' g' o' s a k h j =
       went = λ z. absurd (eqb-false (a .cursor .number) 0 e z);
     })
 
-kept-moved : (d p g : ℕ) (s : State) (c : Cursor) → Moved p g (s .cursor) c → Kept d p g 0 s (moved s c)
+pub kept-moved : (d p g : ℕ) (s : State) (c : Cursor) → Moved p g (s .cursor) c → Kept d p g 0 s (moved s c)
 kept-moved d p g s c h =
     record {
       records = refl;
@@ -92,7 +90,7 @@ kept-moved d p g s c h =
       went = λ e. let z = h .went e in (z .0, omega (arith, h .count));
     }
 
-kept-put : (d p : ℕ) (n : Node) (s : State) → Kept d 0 0 1 s (put p n s)
+pub kept-put : (d p : ℕ) (n : Node) (s : State) → Kept d 0 0 1 s (put p n s)
 unfolding put counted
 kept-put d p n s =
     record {
@@ -122,7 +120,7 @@ kept-link d p j s =
       went = λ e. (omega arith, omega arith);
     }
 
-kept-mark : (d p : ℕ) (s : State) → Kept d 0 0 0 s (mark p s)
+pub kept-mark : (d p : ℕ) (s : State) → Kept d 0 0 0 s (mark p s)
 unfolding mark
 kept-mark d p s =
     record {
@@ -138,7 +136,7 @@ kept-mark d p s =
     }
 
 -- behind a binder that is entered at depth d
-kept-enter : (d p g o x j : ℕ) (a b : State) → Kept (suc d) p g o (enter d x j a) b → Kept d p g o a b
+pub kept-enter : (d p g o x j : ℕ) (a b : State) → Kept (suc d) p g o (enter d x j a) b → Kept d p g o a b
 unfolding enter
 kept-enter d p g o x j a b h =
     record {
@@ -167,7 +165,7 @@ kept-same d s =
       went = λ e. (omega arith, omega arith);
     }
 
-kept-name : (d p x depth : ℕ) (s : State) → Kept d 0 0 1 s (putName p x depth s)
+pub kept-name : (d p x depth : ℕ) (s : State) → Kept d 0 0 1 s (putName p x depth s)
 unfolding putName putScoped putBound dataWord
 kept-name d p x depth s =
     by-test (Kept d 0 0 1 s) _ _ _ (λ _. kept-put d p _ s) (λ _.
@@ -215,23 +213,23 @@ module _ (end : ℕ) (d : ℕ) (s : State) where
   some : (k : ℕ) → 0 < k → isAt k (s .cursor .rest) ≡ true → length (behindHead (s .cursor .rest)) + 1 ≤ length (s .cursor .rest)
   some k l e = behind-some k (s .cursor .rest) l e
 
-  kept-atom : (w : Bool) → isAt wordKind (s .cursor .rest) ≡ true → Kept d 1 0 0 s (readName end w d s)
-  unfolding readName atName
+  pub kept-atom : (w : Bool) → isAt wordKind (s .cursor .rest) ≡ true → Kept d 1 0 0 s (readName end w d s)
+  unfolding readName
   kept-atom w e =
       kept-less d 1 1 1 d 1 0 0 s _ (omega arith) (omega arith) (omega arith)
       (kept-then d 1 1 0 0 0 1 s _ _
-      (kept-moved d 1 1 s _ (judged-part end _ (s .cursor) (λ e. not-refused w 8 _ (not-refused (isLong (headWord (s .cursor .rest))) 6 _ e .1) .1) (some wordKind (lit< tt) e)))
+      (kept-moved d 1 1 s _ (moved-name-part end w (headWord (s .cursor .rest)) (s .cursor) (some wordKind (lit< tt) e)))
       (kept-name d (s .cursor .parts) _ d _))
 
-  kept-number : (w : Bool) → isAt digitsKind (s .cursor .rest) ≡ true → Kept d 1 0 0 s (readNumber end w s)
-  unfolding readNumber atNumber
+  pub kept-number : (w : Bool) → isAt digitsKind (s .cursor .rest) ≡ true → Kept d 1 0 0 s (readNumber end w s)
+  unfolding readNumber
   kept-number w e =
       kept-less d 1 1 1 d 1 0 0 s _ (omega arith) (omega arith) (omega arith)
       (kept-then d 1 1 0 0 0 1 s _ _
-      (kept-moved d 1 1 s _ (judged-part end _ (s .cursor) (λ e. not-refused w 8 _ (not-refused (isOutside (headValue (s .cursor .rest))) 5 _ e .1) .1) (some digitsKind (lit< tt) e)))
+      (kept-moved d 1 1 s _ (moved-number-part end w (headValue (s .cursor .rest)) (s .cursor) (some digitsKind (lit< tt) e)))
       (kept-put d (s .cursor .parts) _ _))
 
-  kept-shut : (k : Call) → isAt shutKind (s .cursor .rest) ≡ true → Kept d 1 0 1 s (readShut end k s)
+  pub kept-shut : (k : Call) → isAt shutKind (s .cursor .rest) ≡ true → Kept d 1 0 1 s (readShut end k s)
   unfolding readShut
   kept-shut k e =
       kept-then d 1 0 0 0 0 1 s _ _
@@ -283,7 +281,7 @@ module _ (end : ℕ) (d : ℕ) (s : State) where
     kept-calls =
         by-test (Kept d 0 0 0 s) _ _ _
         (λ e. kept-less d 4 1 1 d 0 0 0 s _ (omega arith) (omega arith) (omega arith)
-          (kept-then d 3 1 0 1 0 1 s _ _ (kept-moved d 3 1 s _ (moved-call end marks (s .cursor) (some dotKind (lit< tt) e))) (ih (inArguments _ marks d) _)))
+        (kept-then d 3 1 0 1 0 1 s _ _ (kept-moved d 3 1 s _ (moved-call end marks (s .cursor) (some dotKind (lit< tt) e))) (ih (inArguments _ marks d) _)))
         (λ _. kept-same d s)
 
     kept-shut-calls : (k : Call) → isAt shutKind (s .cursor .rest) ≡ true → Kept d 1 0 1 s (then (readShut end k s) (λ a. rd (inCalls marks d) a))
@@ -302,8 +300,8 @@ module _ (end : ℕ) (d : ℕ) (s : State) where
         by-test (Kept d 1 0 1 s) _ _ _ (kept-shut-calls k) (λ _.
         by-test (Kept d 1 0 1 s) _ _ _
         (λ e. kept-less d 3 0 1 d 1 0 1 s _ (omega arith) (omega arith) (omega arith)
-          (kept-then d 1 0 0 2 0 1 s _ _ (kept-moved d 1 0 s _ (moved-judge end _ 1 0 (s .cursor) _ (λ _. moved-pass end (s .cursor) (some commaKind (lit< tt) e))))
-          (kept-then d 1 0 0 1 0 1 _ _ _ (ih (inExpression false (suc marks) d) _) (ih (inMore _ marks d) _))))
+        (kept-then d 1 0 0 2 0 1 s _ _ (kept-moved d 1 0 s _ (moved-judge end _ 1 0 (s .cursor) _ (λ _. moved-pass end (s .cursor) (some commaKind (lit< tt) e))))
+        (kept-then d 1 0 0 1 0 1 _ _ _ (ih (inExpression false (suc marks) d) _) (ih (inMore _ marks d) _))))
         (λ _. kept-refused end d 1 0 1 4 s))
 
 -- a reader keeps what the readers it calls keep, and so does run

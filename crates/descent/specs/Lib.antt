@@ -17,3 +17,5 @@ pub mod PartPlaces
 pub mod Linked
 pub mod Decoding
 pub mod Theorems
+pub mod Fit
+pub mod FitRuns

@@ -1,17 +1,17 @@
 -- The records of a tree lead to earlier ones, and their kinds are below 32. Assumes nothing.
-use mathlib.Core.Path.{_≡_, refl, sym, ap}
+use mathlib.Core.Path.{_≡_}
 use mathlib.Core.Bool.{Bool, true, false}
 use mathlib.Core.List.{List, [], _∷_, _++_}
 use Prim.Native.Nat.{ℕ, zero, suc, _+_, _≤_, _<_}
 use native.Mathlib.Omega.{arith}
 use lib.Dec.{lit<}
 use lib.ListN.{length, length-append}
-use Rattle.language.specs.Names.{packed, sameName, isData}
+use Rattle.language.specs.Names.{sameName, isData}
 use Rattle.language.specs.MembersLaws.{number-below}
 use Rattle.grammar.specs.Grammar.{Expression, Calls, Arguments, More, letIn, lambda, name, literal, bracket, done, call, none, first, last, next}
 use Rattle.meaning.specs.Binding.{member}
 use Rattle.table.specs.Memory.{Node}
-use Rattle.table.specs.Nodes.{numberKind, variableKind, unboundKind, readingsKind, functionKind, memberKind}
+use Rattle.table.specs.Nodes.{numberKind, readingsKind, memberKind}
 use Rattle.records.specs.Records.{Named, stands, node, numberKey, Recorded, newRecord, recordName, recordScoped, pickRecorded, linked, recordE, recordC, recordA, recordM, recordsOf}
 
 -- record i: its kind, and its links, each 0 for none or one more than an earlier record's number
@@ -78,6 +78,7 @@ good-then t Z Z' ps g h = record { earlier = h .earlier; root = h .root; grows =
 
 mutual
   unfolding recordE
+
   good-E : (e : Expression) (Σ : List Named) (t : List Node) → Below Σ (length t) → Earlier 0 t → Good t (recordE e Σ t)
   good-E (letIn x a b) Σ t l h =
       let A = recordE a Σ t in

@@ -3,16 +3,16 @@
 use mathlib.Core.Path.{_≡_, refl, _∙_}
 use mathlib.Core.Bool.{Bool, true, false, cond}
 use mathlib.Core.List.{List, [], _∷_}
-use Prim.Native.Nat.{ℕ, zero, suc, _+_, _≤_, _<_, max}
+use Prim.Native.Nat.{ℕ, suc, _+_, _≤_, _<_, max}
 use native.Mathlib.Omega.{arith}
 use lib.Dec.{leb, eqb, lit<}
+use lib.IntN.{ℤ}
 use lib.ListN.{length}
 use borrow.Author.Tests.{leb-false, eqb-true, eqb-false}
-use Rattle.language.specs.Names.{packed, isLong, isData}
-use Rattle.language.specs.Members.{memberOf, isUnknown}
+use Rattle.language.specs.Names.{isLong}
 use Rattle.grammar.specs.Tokens.{when, Located}
-use Rattle.descent.specs.Cursor.{Cursor, wordKind, openKind, equalsKind, arrowKind, headKind, headWord, behindHead, isAt}
-use Rattle.descent.specs.Cursor.{lambdasIn, lambdaIn, atPart, atLet, atLambda, atMark, atLetName, atLambdaName, atMember, atCallOpen}
+use Rattle.descent.specs.Cursor.{Cursor, wordKind, openKind, equalsKind, arrowKind, headKind, behindHead, isAt, isOutside}
+use Rattle.descent.specs.Cursor.{lambdasIn, atPart, atLet, atLambda, atName, atNumber, atMark, atLetName, atLambdaName, atMember, atCallOpen}
 use Rattle.descent.specs.Cursor.{pass, passPart, passName, passMember, refuse, judge, next, need, letHead, lambdaHead, callHead}
 
 -- a choice, by its test
@@ -65,14 +65,14 @@ module _ (end : ℕ) where
   moved-next p g p' g' c a k h j =
       by-test (Moved (p + p') (g + g') c) (eqb (a .number) 0) (λ _. k a) (λ _. a)
       (λ e. let z = h .went (eqb-true (a .number) 0 e) in
-        record {
-          count = j .count ∙ h .count;
-          root = j .root ∙ h .root;
-          parts = omega arith;
-          most = omega arith;
-          rest = omega arith;
-          went = λ y. let u = j .went y in (omega arith, omega arith);
-        })
+      record {
+        count = j .count ∙ h .count;
+        root = j .root ∙ h .root;
+        parts = omega arith;
+        most = omega arith;
+        rest = omega arith;
+        went = λ y. let u = j .went y in (omega arith, omega arith);
+      })
       (λ e. record { count = h .count; root = h .root; parts = h .parts; most = h .most; rest = h .rest; went = λ z. absurd (eqb-false (a .number) 0 e z) })
 
   pub moved-pass : (c : Cursor) → length (behindHead (c .rest)) + 1 ≤ length (c .rest) → Moved 1 0 c (pass c)
@@ -92,12 +92,21 @@ module _ (end : ℕ) where
   moved-part c m l = record { count = refl; root = refl; parts = omega arith; most = omega arith; rest = omega arith; went = λ z. (l, omega arith) }
 
   -- a part whose refusal n ends in that of the 129th
-  pub judged-part : (n : ℕ) (c : Cursor) → (n ≡ 0 → atPart (c .parts) ≡ 0) → length (behindHead (c .rest)) + 1 ≤ length (c .rest) → Moved 1 1 c (judge end n c (λ _. passPart c))
+  judged-part : (n : ℕ) (c : Cursor) → (n ≡ 0 → atPart (c .parts) ≡ 0) → length (behindHead (c .rest)) + 1 ≤ length (c .rest) → Moved 1 1 c (judge end n c (λ _. passPart c))
   judged-part n c f l = moved-judge n 1 1 c (λ _. passPart c) (λ e. moved-part c (part-fits (c .parts) (f e)) l)
 
   pub moved-need : (k : ℕ) (c : Cursor) → 0 < k → Moved 1 0 c (need end k c)
   unfolding need atMark
   moved-need k c l = moved-judge (atMark k (c .rest)) 1 0 c (λ _. pass c) (λ e. moved-pass c (behind-some k (c .rest) l (was-due (isAt k (c .rest)) 0 4 e .0)))
+
+  -- a name in use, and a number
+  pub moved-name-part : (w : Bool) (x : List ℕ) (c : Cursor) → length (behindHead (c .rest)) + 1 ≤ length (c .rest) → Moved 1 1 c (judge end (atName w x (c .parts)) c (λ _. passPart c))
+  unfolding atName
+  moved-name-part w x c = judged-part (atName w x (c .parts)) c (λ e. not-refused w 8 _ (not-refused (isLong x) 6 _ e .1) .1)
+
+  pub moved-number-part : (w : Bool) (z : ℤ) (c : Cursor) → length (behindHead (c .rest)) + 1 ≤ length (c .rest) → Moved 1 1 c (judge end (atNumber w z (c .parts)) c (λ _. passPart c))
+  unfolding atNumber
+  moved-number-part w z c = judged-part (atNumber w z (c .parts)) c (λ e. not-refused w 8 _ (not-refused (isOutside z) 5 _ e .1) .1)
 
   pub moved-let : (w : Bool) (marks : ℕ) (c : Cursor) → length (behindHead (c .rest)) + 1 ≤ length (c .rest) → Moved 3 1 c (letHead end w marks c)
   unfolding letHead atLet atLetName

@@ -32,6 +32,7 @@ name-place x Σ t = picked-place (isData x) (newRecord (node readingsKind 0 0 0)
 
 mutual
   unfolding recordE partsE
+
   pub places-E : (e : Expression) (Σ : List Named) (t : List Node) → length (recordE e Σ t .places) ≡ partsE e
   places-E (letIn x a b) Σ t =
       let A = recordE a Σ t in

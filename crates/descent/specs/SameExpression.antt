@@ -1,36 +1,34 @@
 -- An expression, held against the machine: lets, lambdas, brackets, names and numbers.
 -- Assumes nothing.
-use mathlib.Core.Path.{_≡_, refl, sym, ap, _∙_}
+use mathlib.Core.Path.{_≡_, refl, ap, _∙_}
 use mathlib.Core.Bool.{Bool, true, false}
-use mathlib.Core.List.{List, [], _∷_, _++_}
-use Prim.Native.Nat.{ℕ, zero, suc, _+_, _*_, _-_, _≤_, _<_}
+use mathlib.Core.List.{List, [], _∷_}
+use Prim.Native.Nat.{ℕ, suc, _+_, _*_, _<_}
 use native.Mathlib.Omega.{arith}
-use lib.Dec.{leb, eqb, lit<}
-use lib.ListN.{length, length-append}
-use Rattle.language.specs.Names.{packed, isLong}
-use Rattle.grammar.specs.Tokens.{when, Located}
-use Rattle.grammar.specs.Grammar.{Expression, Calls, Arguments, More, letIn, lambda, name, literal, bracket, done, call, none, first, last, next}
-use Rattle.grammar.specs.Faults.{fine, opened, inLet, inLambda, markFault, lambdaFault, nameFault, literalFault, callFault, note, fault}
+use lib.Dec.{lit<}
+use lib.ListN.{length}
+use Rattle.language.specs.Names.{packed}
+use Rattle.grammar.specs.Grammar.{Expression, Calls, letIn, lambda, name, literal, bracket}
+use Rattle.grammar.specs.Faults.{opened, inLet, inLambda, markFault, lambdaFault, nameFault, literalFault, note, fault}
 use Rattle.grammar.specs.Reading.{Reading}
-use Rattle.grammar.specs.Machine.{Frame, value, brackets, argument, at, Outer, expression, letName, lambdaName, member as memberPhase, calls, arguments, over}
-use Rattle.meaning.specs.Binding.{member}
+use Rattle.grammar.specs.Machine.{Frame, value, brackets, at, Outer, expression, letName, lambdaName, calls}
 use Rattle.table.specs.Memory.{Node}
-use Rattle.table.specs.Nodes.{numberKind, functionKind, memberKind}
-use Rattle.records.specs.Records.{Named, stands, Recorded, node, newRecord, numberKey, behind, recordName, recordE, recordC, recordA, recordM}
-use Rattle.descent.specs.Cursor.{Cursor, letKind, inKind, lambdaKind, dotKind, openKind, shutKind, commaKind, wordKind, digitsKind}
-use Rattle.descent.specs.Cursor.{headPlace, headWord, headValue, behindHead, isAt, isOutside, atBracket, atName, atNumber, atShut, atComma}
-use Rattle.descent.specs.Cursor.{pass, passPart, judge, need, letHead, lambdaHead, callHead}
-use Rattle.descent.specs.Descent.{State, moved, then, put, counted, mark, enter, putName, Call, newCall, firstGiven, nextGiven, inExpression, inCalls, inArguments, inMore}
-use Rattle.descent.specs.Descent.{readName, readNumber, readShut, readLet, readLambda, readBracket, readExpression, readCalls, readArguments, readMore, step, run}
-use Rattle.descent.specs.Cells.{puts, puts-append}
+use Rattle.table.specs.Nodes.{numberKind, functionKind}
+use Rattle.records.specs.Records.{Named, stands, node, newRecord, numberKey, recordName, recordE}
+use Rattle.descent.specs.Cursor.{letKind, inKind, lambdaKind, openKind, shutKind, wordKind, digitsKind}
+use Rattle.descent.specs.Cursor.{headPlace, headWord, headValue, behindHead, isAt, atBracket, atName, atNumber}
+use Rattle.descent.specs.Cursor.{pass, passPart, judge, need, letHead, lambdaHead}
+use Rattle.descent.specs.Descent.{State, moved, then, put, counted, mark, enter, putName, inExpression, inCalls}
+use Rattle.descent.specs.Descent.{readName, readNumber, readLet, readLambda, readBracket, readExpression, run}
+use Rattle.descent.specs.Cells.{puts}
 use Rattle.descent.specs.Continued.{unlessAt, readOn}
-use Rattle.descent.specs.Fronts.{front-expression, front-value, front-brackets, front-calls, front-arguments, front-more}
-use Rattle.descent.specs.Moves.{behind-some, moved-judge, moved-pass, moved-need, moved-let, moved-lambda, moved-call, judged-part, not-refused}
+use Rattle.descent.specs.Fronts.{front-expression, front-value, front-brackets}
+use Rattle.descent.specs.Moves.{behind-some, moved-judge, moved-pass, moved-need, moved-let, moved-lambda, moved-name-part, moved-number-part}
 use Rattle.descent.specs.Kept.{run-keeps}
-use Rattle.descent.specs.Scope.{bindersOf, around, bracket-number, name-number, literal-number, call-number}
-use Rattle.descent.specs.Heads.{unless-by, due-by, fits-judge, fits-here, fits-need, fits-let, fits-lambda, fits-call}
-use Rattle.descent.specs.Wrote.{Ready, Wrote, ready-moved, ready-marks, ready-wrote, ready-entered, wrote-put, wrote-name, wrote-let, stays-name, node-as, wrote-at, wrote-moved}
-use Rattle.descent.specs.Fitting.{FitsAt, at-then, at-moved, at-map, at-here, at-choice, at-refused, Read, Same, Atom, calls-behind, atom-calls}
+use Rattle.descent.specs.Scope.{bindersOf, around, bracket-number, name-number, literal-number}
+use Rattle.descent.specs.Heads.{unless-by, fits-judge, fits-here, fits-need, fits-let, fits-lambda}
+use Rattle.descent.specs.Wrote.{Ready, ready-moved, ready-marks, ready-wrote, ready-entered, wrote-put, wrote-name, wrote-let, stays-name, node-as, wrote-at, wrote-moved}
+use Rattle.descent.specs.Fitting.{FitsAt, at-then, at-moved, at-map, at-here, at-choice, at-refused, Read, Same, calls-behind, atom-calls}
 
 module _ (end : ℕ) (R : List ℕ) (f : ℕ) (ih : Same end R f) (marks depth : ℕ) (s : State) (Σ : List Named) (t : List Node) (F : List Frame) (r : Reading) (ready : Ready R Σ t marks depth s) where
   same-let : (w : Bool) (h : Expression × Outer F → Expression) → isAt letKind (s .cursor .rest) ≡ true → r ≡ unlessAt (fault (s .cursor .parts) (note (markFault w (around marks Σ)) true)) (headPlace end (s .cursor .rest)) (readOn end (at (letName (around marks Σ)) F) (λ q. h (letIn (q .0 .0) (q .0 .1) (q .0 .2), q .1)) (suc (s .cursor .parts)) (behindHead (s .cursor .rest))) → 2 * length (s .cursor .rest) < suc f → FitsAt (readLet end (run end f) w marks depth s) (Read end R (s .places) (s .cursor .parts) (λ e. recordE e Σ t) F (λ e o. h (e, o)) r) r
@@ -93,8 +91,8 @@ module _ (end : ℕ) (R : List ℕ) (f : ℕ) (ih : Same end R f) (marks depth :
       (record {
         tree = lambda x (q .tree);
         wrote = wrote-put R Γ (B .records) (suc marks) (suc depth) W ready3 _ _ (s .places) (c .parts) (B .places)
-          (node-as functionKind functionKind (H .name) (packed x) (suc (W .cursor .root)) (suc (B .root)) 0 0 refl (L .name) (ap suc (q .wrote .root)) refl)
-          (q .wrote .places ∙ ap (λ i. puts (s .places) i (B .places)) g) (q .wrote .parts ∙ ap (λ i. i + length (B .places)) g);
+            (node-as functionKind functionKind (H .name) (packed x) (suc (W .cursor .root)) (suc (B .root)) 0 0 refl (L .name) (ap suc (q .wrote .root)) refl)
+            (q .wrote .places ∙ ap (λ i. puts (s .places) i (B .places)) g) (q .wrote .parts ∙ ap (λ i. i + length (B .places)) g);
         onward = q .onward;
       })))
 
@@ -131,14 +129,14 @@ module _ (end : ℕ) (R : List ℕ) (f : ℕ) (ih : Same end R f) (marks depth :
       })) (λ q. record { tree = bracket (v .tree) (q .tree); wrote = q .wrote; onward = q .onward }))))
 
   same-name : (w : Bool) (h : Expression × Outer F → Expression) → isAt wordKind (s .cursor .rest) ≡ true → r ≡ unlessAt (fault (s .cursor .parts) (note (nameFault w (headWord (s .cursor .rest))) true)) (headPlace end (s .cursor .rest)) (readOn end (at (calls (around marks Σ)) F) (λ q. h (name (headWord (s .cursor .rest)) (q .0), q .1)) (suc (s .cursor .parts)) (behindHead (s .cursor .rest))) → 2 * length (s .cursor .rest) < suc f → FitsAt (then (readName end w depth s) (λ a. run end f (inCalls marks depth) a)) (Read end R (s .places) (s .cursor .parts) (λ e. recordE e Σ t) F (λ e o. h (e, o)) r) r
-  unfolding readName recordE passPart atName
+  unfolding readName recordE passPart
   same-name w h b e l =
       let c = s .cursor in
       let x = headWord (c .rest) in
       let hc : Calls × Outer F → Expression = λ q. h (name x (q .0), q .1) in
       let n = atName w x (c .parts) in
       let H = judge end n c (λ _. passPart c) in
-      let M = judged-part end n c (λ e. not-refused w 8 _ (not-refused (isLong x) 6 _ e .1) .1) (behind-some wordKind (c .rest) (lit< tt) b) in
+      let M = moved-name-part end w x c (behind-some wordKind (c .rest) (lit< tt) b) in
       let one = moved s H in
       let Z = recordName x Σ t in
       at-map _ _ _ r
@@ -162,14 +160,14 @@ module _ (end : ℕ) (R : List ℕ) (f : ℕ) (ih : Same end R f) (marks depth :
       })))) (λ q. record { tree = name x (q .tree); wrote = q .wrote; onward = q .onward })
 
   same-number : (w : Bool) (h : Expression × Outer F → Expression) → isAt digitsKind (s .cursor .rest) ≡ true → r ≡ unlessAt (fault (s .cursor .parts) (note (literalFault w (headValue (s .cursor .rest))) true)) (headPlace end (s .cursor .rest)) (readOn end (at (calls (around marks Σ)) F) (λ q. h (literal (headValue (s .cursor .rest)) (q .0), q .1)) (suc (s .cursor .parts)) (behindHead (s .cursor .rest))) → 2 * length (s .cursor .rest) < suc f → FitsAt (then (readNumber end w s) (λ a. run end f (inCalls marks depth) a)) (Read end R (s .places) (s .cursor .parts) (λ e. recordE e Σ t) F (λ e o. h (e, o)) r) r
-  unfolding readNumber recordE passPart atNumber put counted puts
+  unfolding readNumber recordE passPart put counted puts
   same-number w h b e l =
       let c = s .cursor in
       let v = headValue (c .rest) in
       let hc : Calls × Outer F → Expression = λ q. h (literal v (q .0), q .1) in
       let n = atNumber w v (c .parts) in
       let H = judge end n c (λ _. passPart c) in
-      let M = judged-part end n c (λ e. not-refused w 8 _ (not-refused (isOutside v) 5 _ e .1) .1) (behind-some digitsKind (c .rest) (lit< tt) b) in
+      let M = moved-number-part end w v c (behind-some digitsKind (c .rest) (lit< tt) b) in
       let one = moved s H in
       let m = node numberKind (numberKey v) 0 0 in
       let Z = newRecord m t (length t ∷ []) in

@@ -1,8 +1,7 @@
 -- The definition runs: a text that is read, and refusals at their places, computed. Assumes nothing.
 use mathlib.Core.Path.{_≡_, refl}
-use mathlib.Core.Bool.{Bool, true, false, cond}
 use mathlib.Core.List.{List, [], _∷_, map}
-use Prim.Native.Nat.{ℕ, zero, suc}
+use Prim.Native.Nat.{ℕ}
 use Prim.Native.String.{String}
 use lib.ListN.{take, replicate}
 use Rattle.language.specs.Names.{bytes, letWord, inWord!, dataWord, isData, packOnto}
@@ -27,16 +26,16 @@ unfolding outcome onNines
 outcomes ts = map (λ t. outcome (onNines t)) ts
 
 samples : outcomes ("let x = 2 in data.skip(1).take(x)" ∷ "data." ∷ "\\a -> \\b -> \\c -> 1" ∷ "data.skip()" ∷ "heartrate" ∷ "((((((((((((((((1" ∷ "(((((((((((((((((1" ∷ "data.count(in" ∷ "data.count(a" ∷ [])
-  ≡ (0 ∷ 0 ∷ 7 ∷ 5 ∷ 4 ∷ [])
-  ∷ (5 ∷ 5 ∷ 2 ∷ 1 ∷ 0 ∷ [])
-  ∷ (10 ∷ 12 ∷ 2 ∷ 0 ∷ 0 ∷ [])
-  ∷ (9 ∷ 10 ∷ 2 ∷ 1 ∷ 0 ∷ [])
-  ∷ (7 ∷ 0 ∷ 0 ∷ 0 ∷ 0 ∷ [])
-  ∷ (5 ∷ 17 ∷ 1 ∷ 1 ∷ 0 ∷ [])
-  ∷ (12 ∷ 16 ∷ 0 ∷ 0 ∷ 0 ∷ [])
-  ∷ (5 ∷ 11 ∷ 2 ∷ 1 ∷ 0 ∷ [])
-  ∷ (9 ∷ 11 ∷ 2 ∷ 1 ∷ 0 ∷ [])
-  ∷ []
+    ≡ (0 ∷ 0 ∷ 7 ∷ 5 ∷ 4 ∷ [])
+    ∷ (5 ∷ 5 ∷ 2 ∷ 1 ∷ 0 ∷ [])
+    ∷ (10 ∷ 12 ∷ 2 ∷ 0 ∷ 0 ∷ [])
+    ∷ (9 ∷ 10 ∷ 2 ∷ 1 ∷ 0 ∷ [])
+    ∷ (7 ∷ 0 ∷ 0 ∷ 0 ∷ 0 ∷ [])
+    ∷ (5 ∷ 17 ∷ 1 ∷ 1 ∷ 0 ∷ [])
+    ∷ (12 ∷ 16 ∷ 0 ∷ 0 ∷ 0 ∷ [])
+    ∷ (5 ∷ 11 ∷ 2 ∷ 1 ∷ 0 ∷ [])
+    ∷ (9 ∷ 11 ∷ 2 ∷ 1 ∷ 0 ∷ [])
+    ∷ []
 unfolding outcomes outcome onNines bytes letWord inWord! dataWord isData packOnto row sameBytes namedIn memberOf takes member when leading decimalOnto wordToken wordAt digitsAt minusAt markToken tokenAt scan kindOf wordOf valueOf headKind headWord headValue headPlace behindHead binderOf lambdasIn lambdaIn atPart atLet atLambda atBracket atName atNumber atMark atLetName atLambdaName atMember atCallOpen atShut atComma pass passPart passName passMember refuse judge next need letHead lambdaHead callHead then linkWord counted rooted put link mark enter putBound putScoped putName readName readNumber readShut readLet readLambda readBracket readExpression readCalls readArguments readMore step run ended readWith
 samples = refl
 

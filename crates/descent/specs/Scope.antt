@@ -1,23 +1,23 @@
 -- The scope array with its depth, held against the names of Records and the binders of Faults: what is looked up, counted and refused is
 -- the same. Assumes nothing.
-use mathlib.Core.Path.{_≡_, refl, sym, ap, _∙_}
-use mathlib.Core.Bool.{Bool, true, false, cond, _&&_, _||_}
+use mathlib.Core.Path.{_≡_, refl, _∙_}
+use mathlib.Core.Bool.{Bool, true, false, cond, _||_}
 use mathlib.Core.List.{List, [], _∷_}
 use Prim.Native.Nat.{ℕ, zero, suc, _+_, _*_, _<_}
 use native.Mathlib.Omega.{arith}
 use lib.Dec.{leb, eqb, eqb·suc-zero}
 use lib.IntN.{ℤ}
 use lib.ListN.{length, getD, set, length-set}
-use Rattle.language.specs.Names.{packed, sameName, isLong, isData}
+use Rattle.language.specs.Names.{packed, isLong, isData}
 use Rattle.grammar.specs.Tokens.{when}
-use Rattle.grammar.specs.Faults.{Fault, fine, badCall, tooMany, manyLambdas, longName, dataBound, reusedName, outOfRange, faultNumber, ifSo, orMany}
+use Rattle.grammar.specs.Faults.{fine, badCall, tooMany, manyLambdas, longName, dataBound, reusedName, outOfRange, faultNumber, ifSo, orMany}
 use Rattle.grammar.specs.Faults.{Around, Binder, byLet, byLambda, lambdasOf, lambdaNamed, deep, markFault, lambdaFault, letNameFault, lambdaNameFault}
 use Rattle.grammar.specs.Faults.{nameFault, literalFault, callFault, note, fault}
 use Rattle.table.specs.Memory.{Node}
 use Rattle.table.specs.Nodes.{unboundKind}
 use Rattle.records.specs.Records.{Named, stands, Recorded, node, newRecord, pickRecorded, linked, recordScoped}
 use Rattle.descent.specs.Cursor.{binderName, binderLink, binderOf, lambdasIn, lambdaIn, isOutside}
-use Rattle.descent.specs.Cursor.{atPart, atLet, atLambda, atBracket, atName, atNumber, atShut, atComma}
+use Rattle.descent.specs.Cursor.{atPart, atLet, atLambda, atBracket, atName, atNumber}
 use Rattle.descent.specs.Cells.{getD-set, getD-other}
 
 -- the cells below the depth hold these names, the innermost first
@@ -37,11 +37,12 @@ holds-kept (e ∷ Σ) (suc b) scope scope' f h =
 pub holds-entered : (Σ : List Named) (depth : ℕ) (scope x : List ℕ) (j : ℕ) → 2 * depth + 1 < length scope → Holds Σ depth scope → Holds (stands x j ∷ Σ) (suc depth) (set (set scope (2 * depth) (packed x)) (2 * depth + 1) j)
 holds-entered Σ depth scope x j l h =
     let one = set scope (2 * depth) (packed x) in
-    let n : length one ≡ length scope = length-set scope (2 * depth) (packed x) in
-    (getD-other one (2 * depth + 1) (2 * depth) j (λ e. omega arith) ∙ getD-set scope (2 * depth) (packed x) (omega arith),
+    let n : length one ≡ length scope = length-set scope (2 * depth) (packed x) in (
+      getD-other one (2 * depth + 1) (2 * depth) j (λ e. omega arith) ∙ getD-set scope (2 * depth) (packed x) (omega arith),
       getD-set one (2 * depth + 1) j (omega arith),
       holds-kept Σ depth scope (set one (2 * depth + 1) j)
-      (λ i m. getD-other one (2 * depth + 1) i j (λ e. omega arith) ∙ getD-other scope (2 * depth) i (packed x) (λ e. omega arith)) h)
+          (λ i m. getD-other one (2 * depth + 1) i j (λ e. omega arith) ∙ getD-other scope (2 * depth) i (packed x) (λ e. omega arith)) h,
+    )
 
 -- looked up: the record of a name in use
 abbrev pub foundAt : List ℕ → List ℕ → List Node → ℕ → Recorded

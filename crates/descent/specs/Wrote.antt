@@ -1,19 +1,19 @@
 -- What stands in the arrays, in terms of Records: a state that is ready to read behind the records t with the names Σ around it, and a
 -- state in which a tree's records and places have been written. Assumes nothing.
-use mathlib.Core.Path.{_≡_, refl, sym, ap, _∙_}
+use mathlib.Core.Path.{_≡_, refl, sym, _∙_}
 use mathlib.Core.Bool.{Bool, true, false}
 use mathlib.Core.List.{List, [], _∷_, _++_}
 use Prim.Native.Nat.{ℕ, zero, suc, _+_, _*_, _-_, _≤_, _<_}
 use native.Mathlib.Omega.{arith}
 use lib.Dec.{eqb, eqb·suc-zero}
-use lib.ListN.{length, getD, set, length-set, length-append}
+use lib.ListN.{length, length-set, length-append}
 use Rattle.language.specs.Names.{packed, isData, dataWord}
 use Rattle.grammar.specs.Tokens.{when}
 use Rattle.table.specs.Memory.{Node}
-use Rattle.table.specs.Nodes.{variableKind, unboundKind, readingsKind}
+use Rattle.table.specs.Nodes.{readingsKind}
 use Rattle.records.specs.Records.{Named, stands, Recorded, node, newRecord, pickRecorded, linked, recordName, recordScoped, behind}
 use Rattle.descent.specs.Cursor.{Cursor, binderLink, binderOf}
-use Rattle.descent.specs.Descent.{State, moved, counted, rooted, put, link, mark, enter, putBound, putScoped, putName, linkWord}
+use Rattle.descent.specs.Descent.{State, moved, counted, rooted, put, link, mark, enter, putBound, putScoped, putName}
 use Rattle.descent.specs.Cells.{puts, puts-append, put-before, words, put-word}
 use Rattle.descent.specs.Moves.{Moved, by-test}
 use Rattle.descent.specs.Kept.{Kept}

@@ -1,0 +1,380 @@
+-- A cache that was opened and kept passes every test of refusal 4. Assumes nothing.
+use mathlib.Core.Path.{_≡_, refl, sym, ap, _∙_, subst}
+use mathlib.Core.Bool.{Bool, true, false, cond, not, _&&_, _||_}
+use mathlib.Core.List.{List, [], _∷_, _++_, map}
+use mathlib.Core.Logic.{_⊎_, inl, inr, ⊎-elim}
+use mathlib.Core.Option.{Option, none, some}
+use Prim.Native.Nat.{ℕ, zero, suc, _+_, _-_, _<_, _≤_, _^_}
+use native.Mathlib.Omega.{arith}
+use borrow.Author.Tests.{eqb-true, eq-eqb, ne-eqb, le-leb, lt-ltb, le-ltb, leb-true, ltb-true, ltb-false}
+use lib.Dec.{eqb, leb, ltb, leb→le}
+use lib.IntN.{ℤ, pos, negsuc, _-ℤ_}
+use lib.ListN.{length, getD, getElem?, take, length-take, length-map, length-append}
+use lib.Signed.{mag, _≤ℤ_}
+use Rattle.language.specs.Limits.{tableEntries, tableReadings}
+use Rattle.language.specs.Members.{row, memberNumber}
+use Rattle.language.specs.MembersLaws.{number-below}
+use Rattle.language.specs.declared.members.Member.{Member}
+use Rattle.values.specs.Packing.{isPacked, isFunctionCell, isDelayedCell}
+use Rattle.meaning.specs.Forms.{Form, number, variable, unbound, readings, ask, call, function, same, within, works}
+use Rattle.meaning.specs.FormsLaws.{same-eq, same-self}
+use Rattle.meaning.specs.Evaluation.{joined as join, without, awaited, Shown, shows}
+use Rattle.grammar.specs.KeptLimits.{InRange}
+use Rattle.model.specs.Lists.{All, member as isIn}
+use Rattle.model.specs.Cases.{impossible, split}
+use Rattle.model.specs.ListLaws.{nth-below, nth-has, nth-map, getD-nth, all-nth, map-append}
+use Rattle.model.specs.Model as Model
+use Rattle.model.specs.Forms.{below-held}
+use Rattle.model.specs.Invariant as Inv
+use Rattle.model.specs.Invariant.{Invariant}
+use Rattle.model.specs.Graph.{among, formAt, Placed, AllPlaced, Stands, decodes, decode}
+use Rattle.model.specs.Checks as Checks
+use Rattle.table.specs.Memory.{Memory, Node, Kept, Entry, fits, entryCount, readingCount, recordingOf, entriesOf, nodesOf, nothingKept}
+use Rattle.table.specs.Nodes.{numberKind, variableKind, unboundKind, readingsKind, functionKind, memberKind, worksKind, arity, memberOfKind, kids, sameNode, build, isName, numberOfKey}
+use Rattle.table.specs.WellFormed.{every, kindKnown, keyRight, given, arityRight, lower, hasNode, distinct, awaitedBy, awaitedAfter, awaitsFew, isDone, doneAt, allDone, settled, namesRight, keptRight, wellFormed}
+use Rattle.records.specs.Records.{node}
+use Rattle.formulas.specs.Formulas.{formulas, IsReading}
+use Rattle.bridge.specs.Graphs.{Fine, aNumber, aVariable, anUnbound, theReadings, aFunction, anAsk, aCall, nodes, graph-laws, equality, not-member, member-found, member-arity, build-ask, build-call, kids-function, kids-ask, kids-call, less-one, among-first, among-second}
+use Rattle.bridge.specs.Recorded.{formsOf, length-forms, build-function}
+use Rattle.bridge.specs.Proper.{Shape, Proper}
+use Rattle.bridge.specs.FormulaLaws.{formula-laws}
+use Rattle.demand.specs.Holds.{joined, holds, markOf, keptFor, Ok, Written}
+use Rattle.demand.specs.Bound.{among-by}
+use Rattle.demand.specs.Appended.{Lengths, lengths, entries-length}
+use Rattle.demand.specs.Standing.{forms-joined, size-held}
+use Rattle.demand.specs.Fitting.{Deep}
+use Rattle.demand.specs.Cells.{Keeps, keeps}
+
+-- a test of every entry, number by number
+every-nth : {A : Type 0} (p : ℕ → A → Bool) (i : ℕ) (xs : List A) → ((j : ℕ) (x : A) → getElem? xs j ≡ some x → p (i + j) x ≡ true) → every p i xs ≡ true
+unfolding every
+every-nth p i [] h = refl
+every-nth p i (x ∷ xs) h =
+    let z : i + 0 ≡ i = omega arith in
+    let a : p i x ≡ true = rw z at (h 0 x refl) in
+    rw a (every-nth p (suc i) xs (λ j y e. let q : i + suc j ≡ suc i + j = omega arith in rw q at (h (suc j) y e)))
+
+-- the tests of a node by itself
+kind-right : (n : Node) → Fine n → kindKnown n ≡ true
+kind-right _ (aNumber k) = refl
+kind-right _ (aVariable x) = refl
+kind-right _ (anUnbound x) = refl
+kind-right _ theReadings = refl
+kind-right _ (aFunction x b) = refl
+kind-right _ (anAsk m f e) = let l = number-below m in lt-ltb (memberKind m) 21 (omega arith)
+kind-right _ (aCall m f a e) = let l = number-below m in lt-ltb (memberKind m) 21 (omega arith)
+
+-- a number in range has a key of 32 bits
+key-small : (key : ℕ) → InRange (numberOfKey key) → key < 2 ^ 32
+key-small key h = split (ltb key 2147483648) (λ e. let l = ltb-true key 2147483648 e in omega arith) (λ e. let l = leb→le (key - 2147483648) 2147483647 (rw e at (h .1 .le)) in let m = ltb-false key 2147483648 e in omega arith)
+
+key-right : (n : Node) (φ : ℕ → Form) → Fine n → Shape (build n φ) → keyRight n ≡ true
+unfolding keyRight build
+key-right _ φ (aNumber key) s = lt-ltb key (2 ^ 32) (key-small key s)
+key-right _ φ (aVariable x) s = s
+key-right _ φ (anUnbound x) s = s
+key-right _ φ theReadings s = refl
+key-right _ φ (aFunction x b) s = s
+key-right _ φ (anAsk m f e) s = rw (not-member m 0 (omega arith), not-member m 1 (omega arith), not-member m 2 (omega arith), not-member m 4 (omega arith))
+key-right _ φ (aCall m f a e) s = rw (not-member m 0 (omega arith), not-member m 1 (omega arith), not-member m 2 (omega arith), not-member m 4 (omega arith))
+
+one-link : (b : ℕ) → given (suc b) ≡ true
+one-link b = le-leb 1 (suc b) (omega arith)
+
+arity-ask : (m : Member) (f : ℕ) → row m .arguments ≡ 0 → arityRight (node (memberKind m) 0 (suc f) 0) ≡ true
+unfolding arityRight
+arity-ask m f e = rw (member-arity m, e, one-link f)
+
+arity-call : (m : Member) (f a : ℕ) → row m .arguments ≡ 1 → arityRight (node (memberKind m) 0 (suc f) (suc a)) ≡ true
+unfolding arityRight
+arity-call m f a e = rw (member-arity m, e, one-link f, one-link a)
+
+arity-right : (n : Node) → Fine n → arityRight n ≡ true
+unfolding arityRight arity memberOfKind
+arity-right _ (aNumber k) = refl
+arity-right _ (aVariable x) = refl
+arity-right _ (anUnbound x) = refl
+arity-right _ theReadings = refl
+arity-right _ (aFunction x b) = rw (one-link b)
+arity-right _ (anAsk m f e) = arity-ask m f e
+arity-right _ (aCall m f a e) = arity-call m f a e
+
+none-lower : (i : ℕ) → leb 0 i ≡ true
+none-lower i = le-leb 0 i (omega arith)
+
+lower-by : (i : ℕ) (n : Node) → Fine n → ((j : ℕ) → among j (kids n) ≡ true → j < i) → lower i n ≡ true
+lower-by i _ (aNumber k) h = rw (none-lower i)
+lower-by i _ (aVariable x) h = rw (none-lower i)
+lower-by i _ (anUnbound x) h = rw (none-lower i)
+lower-by i _ theReadings h = rw (none-lower i)
+lower-by i _ (aFunction x b) h = let l = h b (among-by b _ _ (kids-function x b) (among-first b [])) in rw (le-leb (suc b) i (omega arith), none-lower i)
+lower-by i _ (anAsk m f e) h = let l = h f (among-by f _ _ (kids-ask m f e) (among-first f [])) in rw (le-leb (suc f) i (omega arith), none-lower i)
+lower-by i _ (aCall m f a e) h =
+    let l = h f (among-by f _ _ (kids-call m f a e) (among-first f (a ∷ []))) in
+    let k = h a (among-by a _ _ (kids-call m f a e) (among-second f a)) in
+    rw (le-leb (suc f) i (omega arith), le-leb (suc a) i (omega arith))
+
+-- no node twice
+has-at : (n : Node) (ns : List Node) → hasNode n ns ≡ true → (q : ℕ) × (getElem? ns q ≡ some n)
+unfolding hasNode
+has-at n [] h = impossible h
+has-at n (m ∷ ms) h =
+    split (sameNode m n)
+    (λ e. (0, ap some (equality .equal m n e)))
+    (λ e. let r = has-at n ms (rw e at h) in (suc (r .0), r .1))
+
+distinct-by : (ns : List Node) → ((p q : ℕ) (n : Node) → getElem? ns p ≡ some n → getElem? ns q ≡ some n → p ≡ q) → distinct ns ≡ true
+unfolding distinct
+distinct-by [] h = refl
+distinct-by (n ∷ ns) h =
+    split (hasNode n ns)
+    (λ e. let r = has-at n ns e in absurd (let z = h 0 (suc (r .0)) n refl (r .1) in omega arith))
+    (λ e. rw e (distinct-by ns (λ p q m a b. let z = h (suc p) (suc q) m a b in omega arith)))
+
+-- the names awaited are those of the forms
+getD-awaited : (fs : List Form) (j : ℕ) → j < length fs → getD (map awaited fs) j [] ≡ awaited (getD fs j readings)
+getD-awaited [] j h = absurd (omega arith)
+getD-awaited (f ∷ fs) zero h = refl
+getD-awaited (f ∷ fs) (suc j) h = getD-awaited fs j (omega arith)
+
+awaited-ask : (fs : List Form) (m : Member) (f : ℕ) → row m .arguments ≡ 0 → f < length fs → awaitedBy (map awaited fs) (node (memberKind m) 0 (suc f) 0) ≡ awaited (build (node (memberKind m) 0 (suc f) 0) (formAt formulas nodes fs))
+unfolding awaitedBy awaited
+awaited-ask fs m f e l = rw (build-ask m f (formAt formulas nodes fs) e, not-member m 1 (omega arith), not-member m 4 (omega arith), member-arity m, e, less-one f) (getD-awaited fs f l)
+
+awaited-call : (fs : List Form) (m : Member) (f a : ℕ) → row m .arguments ≡ 1 → f < length fs → a < length fs
+    → awaitedBy (map awaited fs) (node (memberKind m) 0 (suc f) (suc a)) ≡ awaited (build (node (memberKind m) 0 (suc f) (suc a)) (formAt formulas nodes fs))
+unfolding awaitedBy awaited
+awaited-call fs m f a e l k =
+    rw (build-call m f a (formAt formulas nodes fs) e, not-member m 1 (omega arith), not-member m 4 (omega arith), member-arity m, e, less-one f, less-one a)
+    (λ t. join (getD-awaited fs f l t) (getD-awaited fs a k t))
+
+awaited-by : (fs : List Form) (n : Node) → Fine n → ((j : ℕ) → among j (kids n) ≡ true → j < length fs) → awaitedBy (map awaited fs) n ≡ awaited (build n (formAt formulas nodes fs))
+unfolding awaitedBy awaited build arity memberOfKind
+awaited-by fs _ (aNumber k) h = refl
+awaited-by fs _ (aVariable x) h = refl
+awaited-by fs _ (anUnbound x) h = refl
+awaited-by fs _ theReadings h = refl
+awaited-by fs _ (aFunction x b) h = let l = h b (among-by b _ _ (kids-function x b) (among-first b [])) in rw (less-one b, getD-awaited fs b l)
+awaited-by fs _ (anAsk m f e) h = awaited-ask fs m f e (h f (among-by f _ _ (kids-ask m f e) (among-first f [])))
+awaited-by fs _ (aCall m f a e) h = awaited-call fs m f a e (h f (among-by f _ _ (kids-call m f a e) (among-first f (a ∷ [])))) (h a (among-by a _ _ (kids-call m f a e) (among-second f a)))
+
+awaited-after : (fs : List Form) (ns : List Node) → AllPlaced formulas nodes (length fs) ns → awaitedAfter (map awaited fs) ns ≡ map awaited (decode formulas nodes fs ns)
+unfolding awaitedAfter decode
+awaited-after fs [] p = refl
+awaited-after fs (n ∷ ns) p =
+    let f = build n (formAt formulas nodes fs) in
+    let e = awaited-by fs n (p .0 .fine) (p .0 .lower) in
+    let q : map awaited fs ++ (awaitedBy (map awaited fs) n ∷ []) ≡ map awaited (fs ++ (f ∷ [])) = ap (λ (x : List ℕ). map awaited fs ++ (x ∷ [])) e ∙ sym (map-append awaited fs (f ∷ [])) in
+    let l = length-append fs (f ∷ []) in
+    let z : length (fs ++ (f ∷ [])) ≡ suc (length fs) = omega arith in
+    ap (λ (b : List (List ℕ)). awaitedAfter b ns) q ∙ awaited-after (fs ++ (f ∷ [])) ns (rw z (p .1))
+
+-- entries and what they hold, number by number
+joined-nth : (fs : List Form) (es : List Entry) (p : ℕ) (e : Entry) → length fs ≡ length es → getElem? es p ≡ some e
+    → getElem? (joined fs es) p ≡ some (record { form = getD fs p readings; mark = markOf (e .kept) })
+unfolding joined
+joined-nth [] [] p e l h = impossible (cc)
+joined-nth [] (x ∷ es) p e l h = absurd (omega arith)
+joined-nth (f ∷ fs) [] p e l h = absurd (omega arith)
+joined-nth (f ∷ fs) (x ∷ es) zero e l h = let q : x ≡ e = cc in ap (λ (y : Entry). some (record { form = f; mark = markOf (y .kept) })) q
+joined-nth (f ∷ fs) (x ∷ es) (suc p) e l h = joined-nth fs es p e (omega arith) h
+
+works-kind : (n : Node) (φ : ℕ → Form) → Fine n → works (build n φ) ≡ worksKind (n .kind)
+unfolding works build
+works-kind _ φ (aNumber k) = refl
+works-kind _ φ (aVariable x) = refl
+works-kind _ φ (anUnbound x) = refl
+works-kind _ φ theReadings = refl
+works-kind _ φ (aFunction x b) = refl
+works-kind _ φ (anAsk m f e) = rw (build-ask m f φ e) (sym (le-leb 4 (memberKind m) (omega arith)))
+works-kind _ φ (aCall m f a e) = rw (build-call m f a φ e) (sym (le-leb 4 (memberKind m) (omega arith)))
+
+member-proper : (g : Form) (fs : List Form) → isIn same g fs ≡ true → All Proper fs → Proper g
+unfolding isIn
+member-proper g [] h p = impossible h
+member-proper g (f ∷ fs) h p = split (same f g) (λ e. subst Proper (same-eq f g e) (p .0)) (λ e. member-proper g fs (rw e at h) (p .1))
+
+nth-member : (fs : List Form) (p : ℕ) (f : Form) → getElem? fs p ≡ some f → isIn same f fs ≡ true
+unfolding isIn
+nth-member [] p f h = impossible (cc)
+nth-member (g ∷ fs) zero f h = let q : g ≡ f = cc in rw (q, same-self f)
+nth-member (g ∷ fs) (suc p) f h = let i = nth-member fs p f h in split (same g f) (λ e. rw e) (λ e. rw (e, i))
+
+reading-small : (r : List ℤ) → All IsReading r → (i : ℕ) → i < length r → mag (getD r i (pos 0)) < 2147483648
+reading-small [] h i l = absurd (omega arith)
+reading-small (x ∷ r) h zero l = h .0
+reading-small (x ∷ r) h (suc i) l = reading-small r (h .1) i (omega arith)
+
+all-done : (es : List Entry) (ks : List ℕ) → ((j : ℕ) → among j ks ≡ true → doneAt es j ≡ true) → allDone es ks ≡ true
+unfolding allDone isIn
+all-done es [] h = refl
+all-done es (k ∷ ks) h =
+    let a = h k (rw (eq-eqb k k refl)) in
+    rw a (all-done es ks (λ j i. h j (split (eqb k j) (λ e. rw e) (λ e. rw e i))))
+
+done-at : (es : List Entry) (j : ℕ) (e : Entry) → getElem? es j ≡ some e → isDone e ≡ true → doneAt es j ≡ true
+unfolding doneAt
+done-at [] j e h d = impossible (cc)
+done-at (x ∷ es) zero e h d = let q : x ≡ e = cc in rw q d
+done-at (x ∷ es) (suc j) e h d = done-at es j e h d
+
+or-true : (b : Bool) → (b || true) ≡ true
+or-true true = refl
+or-true false = refl
+
+not-zero : (k : ℕ) → eqb k 0 ≡ false → 1 ≤ k
+not-zero zero h = impossible (sym h)
+not-zero (suc k) h = omega arith
+
+or-not : (a b : Bool) → (a || not b) ≡ true → (a ≡ true → ⊥) → b ≡ false
+or-not true b h n = absurd (n refl)
+or-not false true h n = impossible h
+or-not false false h n = refl
+
+module _ (m : Memory) (o : Ok m) (i : Invariant formulas formula-laws (holds m)) where
+  abbrev es : List Entry
+  es = entriesOf m
+
+  abbrev ns : List Node
+  ns = nodesOf es
+
+  abbrev fs : List Form
+  fs = formsOf ns
+
+  held-forms : Model.forms formulas (holds m .entries) ≡ fs
+  held-forms = forms-joined fs es (size-held m)
+
+  stands : Stands formulas nodes ns (Model.forms formulas (holds m .entries))
+  stands = rw held-forms (decodes formulas nodes graph-laws ns (o .placed))
+
+  proper : All Proper fs
+  unfolding formula-laws
+  proper = rw held-forms at (i .proper)
+
+  -- an entry, its node, its form and its mark
+  record At (p : ℕ) (e : Entry) : Type 0 where
+    node : getElem? ns p ≡ some (e .node)
+    placed : Placed formulas nodes p (e .node)
+    form : build (e .node) (formAt formulas nodes fs) ≡ getD fs p readings
+    held : getElem? fs p ≡ some (getD fs p readings)
+    model : getElem? (holds m .entries) p ≡ some (record { form = getD fs p readings; mark = markOf (e .kept) })
+
+  at : (p : ℕ) (e : Entry) → getElem? es p ≡ some e → At p e
+  at p e h =
+      let n = nth-map (λ (x : Entry). x .node) es p e h in
+      let st = decodes formulas nodes graph-laws ns (o .placed) in
+      let f = st .form p (e .node) n in
+      let g = getD-nth fs p (build (e .node) (formAt formulas nodes fs)) readings f in
+      record { node = n; placed = st .placed p (e .node) n; form = sym g; held = f ∙ ap some (sym g); model = joined-nth fs es p e (size-held m) h }
+
+  right : (p : ℕ) (e : Entry) (a : At p e) → Checks.WellFormed formulas formula-laws nodes graph-laws (holds m) i ns stands p (e .node) (record { form = getD fs p readings; mark = markOf (e .kept) })
+  right p e a = Checks.well-formed formulas formula-laws nodes graph-laws (holds m) i ns stands p (e .node) _ (a .node) (a .model)
+
+  count : length (recordingOf m) ≡ readingCount m
+  count = let l = lengths m (o .whole) .readings in let r = o .readings in length-take (readingCount m) (m .readings) ∙ omega arith
+
+  deep : (p : ℕ) → getElem? fs p ≡ some (getD fs p readings) → Deep (getD fs p readings)
+  deep p h g w = member-proper g fs (below-held formulas (formula-laws .tests) fs (rw held-forms at (i .ordered)) (getD fs p readings) g (nth-member fs p (getD fs p readings) h) w) proper
+
+  works-at : (p : ℕ) (e : Entry) → At p e → works (getD fs p readings) ≡ worksKind (e .node .kind)
+  works-at p e a = ap works (sym (a .form)) ∙ works-kind (e .node) (formAt formulas nodes fs) (a .placed .fine)
+
+  kept-cells : (p : ℕ) (e : Entry) → worksKind (e .node .kind) ≡ true → (v : Shown) → e .kept ≡ keptFor v → Keeps (length (recordingOf m)) v → keptRight (readingCount m) e ≡ true
+  unfolding keptRight
+  kept-cells p e wk v q k =
+      let c = count in
+      let n = k .names in
+      let b : isPacked (keptFor v .value) (readingCount m) ≡ true = rw (← c) (k .packed) in
+      rw (q, n, wk, b) (or-true (eqb (keptFor v .value) 0))
+
+  kept : (p : ℕ) (e : Entry) → At p e → Written e → keptRight (readingCount m) e ≡ true
+  unfolding keptRight namesRight
+  kept p e a (inl q) = rw q
+  kept p e a (inr w) = by (right p e a .kept)
+    where
+      k : Keeps (length (recordingOf m)) (shows (recordingOf m) (getD fs p readings))
+      k = keeps (recordingOf m) (i .short) (reading-small (recordingOf m) (i .sound)) (getD fs p readings) (deep p (a .held))
+      marked : markOf (e .kept) ≡ some (w .0)
+      marked = ap markOf (w .1) ∙ w .2
+      by : Inv.Kept formulas (recordingOf m) (record { form = getD fs p readings; mark = markOf (e .kept) }) → keptRight (readingCount m) e ≡ true
+      by (Inv.bare q) = impossible (let z : none ≡ some (w .0) = sym q ∙ marked in cc)
+      by (Inv.holds x q) =
+          let s : some (w .0) ≡ some (shows (recordingOf m) (getD fs p readings)) = sym marked ∙ q in
+          let v : w .0 ≡ shows (recordingOf m) (getD fs p readings) = cc in
+          kept-cells p e (sym (works-at p e a) ∙ x) (shows (recordingOf m) (getD fs p readings)) (w .1 ∙ ap keptFor v) k
+
+  -- a kept value is worked out from dependencies that are
+  done-entry : (j : ℕ) (x : Entry) → At j x → Inv.done formulas (record { form = getD fs j readings; mark = markOf (x .kept) }) ≡ true → isDone x ≡ true
+  unfolding Inv.done
+  done-entry j x a h =
+      let w = works-at j x a in
+      split (worksKind (x .node .kind))
+      (λ e.
+      split (eqb (x .kept .value) 0)
+      (λ z. impossible (let u : worksKind (x .node .kind) ≡ false = sym w ∙ (or-not _ _ h (λ y. never-some z y)) in sym u ∙ e))
+      (λ z. rw e (le-leb 1 (x .kept .value) (not-zero (x .kept .value) z))))
+      (λ e. rw e)
+    where
+      never-some : eqb (x .kept .value) 0 ≡ true → Model.marked formulas (record { form = getD fs j readings; mark = markOf (x .kept) }) ≡ true → ⊥
+      never-some z y = absurd (impossible (rw z at y))
+
+  settled-at : (p : ℕ) (e : Entry) → At p e → settled es e ≡ true
+  settled-at p e a =
+      split (eqb (e .kept .value) 0)
+      (λ z. rw z)
+      (λ z.
+      rw z
+      (all-done es (kids (e .node))
+      (λ j k.
+      let r = right p e a .settled (rw z) j k in
+      let lo = a .placed .lower j k in
+      let here = nth-below ns p (e .node) (a .node) in
+      let size = length-map es (λ (y : Entry). y .node) in
+      let x = nth-has es j (omega arith) in
+      let b = at j (x .0) (x .1) in
+      let s : some (r .0) ≡ some (record { form = getD fs j readings; mark = markOf (x .0 .kept) }) = sym (r .1) ∙ b .model in
+      let q : r .0 ≡ record { form = getD fs j readings; mark = markOf (x .0 .kept) } = cc in
+      done-at es j (x .0) (x .1) (done-entry j (x .0) b (subst (λ (y : Model.Entry formulas). Inv.done formulas y ≡ true) q (r .2))))))
+
+  few-names : (j : ℕ) (names : List ℕ) → getElem? (awaitedAfter [] ns) j ≡ some names → leb (length names) 2 ≡ true
+  few-names j names h =
+      let e : awaitedAfter [] ns ≡ map awaited fs = awaited-after [] ns (o .placed) in
+      let h′ : getElem? (map awaited fs) j ≡ some names = rw e at h in
+      let l = nth-below (map awaited fs) j names h′ in
+      let n = length-map fs awaited in
+      let x = nth-has fs j (omega arith) in
+      let s : some names ≡ some (awaited (x .0)) = sym h′ ∙ nth-map awaited fs j (x .0) (x .1) in
+      let q : names ≡ awaited (x .0) = cc in
+      let k = all-nth Proper fs j (x .0) proper (x .1) .few in
+      rw q (le-leb (length (awaited (x .0))) 2 k)
+
+  alone : (p q : ℕ) (n : Node) → getElem? ns p ≡ some n → getElem? ns q ≡ some n → p ≡ q
+  alone p q n hp hq =
+      let l = nth-below ns p n hp in
+      let size = length-map es (λ (y : Entry). y .node) in
+      let x = nth-has es p (omega arith) in
+      let a = at p (x .0) (x .1) in
+      let s : some n ≡ some (x .0 .node) = sym hp ∙ a .node in
+      let e : n ≡ x .0 .node = cc in
+      sym (right p (x .0) a .alone q (hq ∙ ap some e))
+
+  -- an index counted from 0
+  from : {A : Type 0} (P : ℕ → A → Bool) (xs : List A) → ((j : ℕ) (x : A) → getElem? xs j ≡ some x → P j x ≡ true) → every P 0 xs ≡ true
+  from P xs h = every-nth P 0 xs (λ j x e. let z : 0 + j ≡ j = omega arith in rw z (h j x e))
+
+  pub accepted : wellFormed m ≡ true
+  unfolding wellFormed
+  accepted =
+      let few = i .few in
+      let size = sym (entries-length (m .links) (m .cells) 0 (entryCount m)) ∙ sym (size-held m) ∙ ap length (sym held-forms) ∙ length-map (holds m .entries) (λ (x : Model.Entry formulas). x .form) in
+      let c1 : leb (entryCount m) tableEntries ≡ true = le-leb (entryCount m) tableEntries (omega arith) in
+      let c2 : leb (readingCount m) tableReadings ≡ true = le-leb (readingCount m) tableReadings (o .readings) in
+      let c3 = from (λ k (e : Entry). kindKnown (e .node)) es (λ j e h. kind-right (e .node) (at j e h .placed .fine)) in
+      let c4 = from (λ k (e : Entry). keyRight (e .node)) es (λ j e h. let a = at j e h in key-right (e .node) (formAt formulas nodes fs) (a .placed .fine) (subst Shape (sym (a .form)) (all-nth Proper fs j (getD fs j readings) proper (a .held) .shape))) in
+      let c5 = from (λ k (e : Entry). arityRight (e .node)) es (λ j e h. arity-right (e .node) (at j e h .placed .fine)) in
+      let c6 = from (λ k (e : Entry). lower k (e .node)) es (λ j e h. lower-by j (e .node) (at j e h .placed .fine) (at j e h .placed .lower)) in
+      let c7 = distinct-by ns alone in
+      let c8 = from (λ k (names : List ℕ). leb (length names) 2) (awaitedAfter [] ns) few-names in
+      let c9 = from (λ k (e : Entry). settled es e) es (λ j e h. settled-at j e (at j e h)) in
+      let c10 = from (λ k (e : Entry). keptRight (readingCount m) e) es (λ j e h. kept j e (at j e h) (all-nth Written es j e (o .written) h)) in
+      rw (c1, c2, c3, c4, c5, c6, c7, c8, c9, c10)
