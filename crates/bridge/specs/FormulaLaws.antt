@@ -28,6 +28,7 @@ use Rattle.bridge.specs.ProperLaws.{all-proper}
 -- a place for each part, and at most as many forms in order
 mutual
   unfolding placesE partsE
+
   placesE-length : (e : Expression) (Γ : List Meaning) (u : List Form) → length (placesE e Γ u) ≡ partsE e + length u
   placesE-length (letIn x a b) Γ u = let p = placesE-length a Γ (placesE b (means x (formE a Γ) ∷ Γ) u) in let q = placesE-length b (means x (formE a Γ) ∷ Γ) u in omega arith
   placesE-length (lambda x b) Γ u = let q = placesE-length b (asLambda x Γ) u in omega arith
@@ -49,6 +50,7 @@ mutual
 
 mutual
   unfolding orderE partsE
+
   orderE-length : (e : Expression) (Γ : List Meaning) (u : List Form) → length (orderE e Γ u) ≤ partsE e + length u
   orderE-length (letIn x a b) Γ u = let p = orderE-length a Γ (orderE b (means x (formE a Γ) ∷ Γ) u) in let q = orderE-length b (means x (formE a Γ) ∷ Γ) u in omega arith
   orderE-length (lambda x b) Γ u = let q = orderE-length b (asLambda x Γ) (formE (lambda x b) Γ ∷ u) in omega arith
@@ -75,7 +77,7 @@ tests =
       reach-self = within-self;
       reach-dependency = dependency-within;
       reach-through = within-trans;
-      reach-only = within-only
+      reach-only = within-only;
     }
 
 -- a text that is read, and one that is refused
@@ -101,8 +103,9 @@ readable text order places whole h = by (readText text) refl h
           proper = all-proper e (r .1) (rw w (text-words text));
           bound = bound e;
           few = omega arith;
-          placed = omega arith
+          placed = omega arith;
         }
+
     by : (x : Reading) → readText text ≡ x → parsed x ≡ parts order places whole → Readable formulas Proper order places whole
     by (tree e) g q =
         let a : formsInOrder e ≡ order = cc in
@@ -121,6 +124,7 @@ refused-right text m at h = by (readText text) refl h
         let b = refusal-range (tokensOf text) n (r .0) (r .1) in
         let q = r .2 in
         record { least = b .0; most = b .1; inside = rw q (place-inside text (r .0)) }
+
     by : (x : Reading) → readText text ≡ x → parsed x ≡ rejected m at → Rejected text m at
     by (tree e) g q = no-parts (sym q)
     by (refused n p) g q = let a : n ≡ m = cc in let b : p ≡ at = cc in rw (← a, ← b) (of n p g)
@@ -131,5 +135,5 @@ formula-laws =
       tests = tests;
       Proper = Proper;
       readable = λ text order places whole l h. readable text order places whole h;
-      rejected = λ text m at l h. refused-right text m at h
+      rejected = λ text m at l h. refused-right text m at h;
     }

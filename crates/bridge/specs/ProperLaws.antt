@@ -68,6 +68,7 @@ Worded (aCall m n) d = Unit {0}
 
 mutual
   unfolding spellE
+
   wordedE : (e : Expression) (d : Around) (u : List Token) → All WordToken (spellE e u) → EverywhereE Worded e d × All WordToken u
   wordedE (letIn x a b) d u h = let A = wordedE a (opened d) (kIn ∷ spellE b u) (h .1 .1 .1) in let B = wordedE b (inLet x d) u (A .1 .1) in ((tt, A .0, B .0), B .1)
   wordedE (lambda x b) d u h = let B = wordedE b (inLambda x d) u (h .1 .1 .1) in ((h .1 .0, B .0), B .1)
@@ -195,6 +196,7 @@ one-argument x k h e = omega arith
 -- the forms in order, each proper; ns are the names of the lambdas around
 mutual
   unfolding orderE formE called lambdaNames opened inLet inLambda givenA givenM
+
   goodE : (e : Expression) (d : Around) (Γ : List Meaning) → EverywhereE Known e d → length (lambdaNames (d .binders)) ≤ 2 → GoodAll Γ (lambdaNames (d .binders))
       → (u : List Form) → All Proper u → Good (formE e Γ) (lambdaNames (d .binders)) × All Proper (orderE e Γ u)
   goodE (letIn x a b) d Γ k l g u p =

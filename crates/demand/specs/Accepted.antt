@@ -294,8 +294,10 @@ module _ (m : Memory) (o : Ok m) (i : Invariant formulas formula-laws (holds m))
     where
       k : Keeps (length (recordingOf m)) (shows (recordingOf m) (getD fs p readings))
       k = keeps (recordingOf m) (i .short) (reading-small (recordingOf m) (i .sound)) (getD fs p readings) (deep p (a .held))
+
       marked : markOf (e .kept) ≡ some (w .0)
       marked = ap markOf (w .1) ∙ w .2
+
       by : Inv.Kept formulas (recordingOf m) (record { form = getD fs p readings; mark = markOf (e .kept) }) → keptRight (readingCount m) e ≡ true
       by (Inv.bare q) = impossible (let z : none ≡ some (w .0) = sym q ∙ marked in cc)
       by (Inv.holds x q) =

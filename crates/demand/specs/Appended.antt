@@ -31,7 +31,7 @@ lengths m h =
       readings = leb-true _ _ (and-left _ _ h);
       heads = leb-true _ _ (and-left _ _ r);
       links = leb-true _ _ (and-left _ _ l);
-      cells = leb-true _ _ (and-right (leb (3 * tableEntries) (length (m .links))) _ l)
+      cells = leb-true _ _ (and-right (leb (3 * tableEntries) (length (m .links))) _ l);
     }
 
 pub long-enough : (m : Memory) → Lengths m → fits m ≡ true
@@ -101,9 +101,9 @@ module _ (l c : List ℕ) (k kind first second key : ℕ) where
               kind = three-before l (3 * k) kind first second (3 * i) (omega arith) t;
               key = cell-before (4 * i) (omega arith) t;
               first = three-before l (3 * k) kind first second (3 * i + 1) (omega arith) t;
-              second = three-before l (3 * k) kind first second (3 * i + 2) (omega arith) t
+              second = three-before l (3 * k) kind first second (3 * i + 2) (omega arith) t;
             };
-        kept = record { value = cell-before (4 * i + 1) (omega arith) t; name = cell-before (4 * i + 2) (omega arith) t; other = cell-before (4 * i + 3) (omega arith) t }
+        kept = record { value = cell-before (4 * i + 1) (omega arith) t; name = cell-before (4 * i + 2) (omega arith) t; other = cell-before (4 * i + 3) (omega arith) t };
       }
 
   cell-at : (j v : ℕ) → j < 4 * k + 3 → getD (three c (4 * k) key 0 0) j 0 ≡ v → getD cells′ j 0 ≡ v
@@ -121,14 +121,14 @@ module _ (l c : List ℕ) (k kind first second key : ℕ) where
               kind = three-first l (3 * k) kind first second hl t;
               key = cell-at (4 * k) key (omega arith) (three-first c (4 * k) key 0 0 (omega arith)) t;
               first = three-second l (3 * k) kind first second hl t;
-              second = three-third l (3 * k) kind first second hl t
+              second = three-third l (3 * k) kind first second hl t;
             };
         kept =
             record {
               value = cell-at (4 * k + 1) 0 (omega arith) (three-second c (4 * k) key 0 0 (omega arith)) t;
               name = cell-at (4 * k + 2) 0 (omega arith) (three-third c (4 * k) key 0 0 (omega arith)) t;
-              other = getD-set-same (three c (4 * k) key 0 0) (4 * k + 3) 0 0 (omega arith) t
-            }
+              other = getD-set-same (three c (4 * k) key 0 0) (4 * k + 3) 0 0 (omega arith) t;
+            };
       }
 
 abbrev pub unworked : Node → Entry
@@ -165,7 +165,7 @@ grown-one m n l h =
           ∙ (λ t.
           entries-same (links′ (m .links) (m .cells) k (n .kind) (n .first) (n .second) (n .key)) (cells′ (m .links) (m .cells) k (n .kind) (n .first) (n .second) (n .key)) (m .links) (m .cells) 0 k
           (λ j p q. old-entry (m .links) (m .cells) k (n .kind) (n .first) (n .second) (n .key) j (omega arith)) t
-          ++ (last-entry t ∷ []))
+          ++ (last-entry t ∷ []));
     }
   where
     last-entry : entryAt (links′ (m .links) (m .cells) (entryCount m) (n .kind) (n .first) (n .second) (n .key)) (cells′ (m .links) (m .cells) (entryCount m) (n .kind) (n .first) (n .second) (n .key)) (0 + entryCount m) ≡ unworked n
@@ -188,5 +188,5 @@ grown m (n ∷ ns) l h =
       count = omega arith;
       readings = b .readings ∙ a .readings;
       same = b .same ∙ a .same;
-      entries = b .entries ∙ ap (λ (es : List Entry). es ++ map unworked ns) (a .entries) ∙ append-assoc (entriesOf m) (unworked n ∷ []) (map unworked ns)
+      entries = b .entries ∙ ap (λ (es : List Entry). es ++ map unworked ns) (a .entries) ∙ append-assoc (entriesOf m) (unworked n ∷ []) (map unworked ns);
     }

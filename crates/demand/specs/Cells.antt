@@ -65,7 +65,7 @@ keeps-plain n v w k nf nd e s =
       names = subst (λ (x : Cells). namesRight x ≡ true) (sym e) names;
       packed = subst (λ (x : Cells). isPacked (x .value) n ≡ true) (sym e) (kept-passes n v k);
       above = subst (λ (x : Cells). 1 ≤ x .value) (sym e) a;
-      mark = subst (λ (x : Cells). markOf x ≡ some w) (sym e) mark
+      mark = subst (λ (x : Cells). markOf x ≡ some w) (sym e) mark;
     }
 
 never : {A : Type 0} → _≡_ {A = ℕ} 0 1 → A

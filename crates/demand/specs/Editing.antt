@@ -81,7 +81,7 @@ module _ (m : Memory) (o : Ok m) (i : Invariant formulas formula-laws (holds m))
         stands = decodes formulas nodes graph-laws ns (o .placed);
         distinct = rw held-forms at (i .distinct);
         size = refl;
-        numbered = λ j f h. impossible (let l = nth-below [] j f h in absurd (omega arith))
+        numbered = λ j f h. impossible (let l = nth-below [] j f h in absurd (omega arith));
       }
 
   record-forms : Binder.recordForms formulas nodes [] (map Binder.fresh (R .records)) ≡ formsOf (R .records)
@@ -176,7 +176,7 @@ module _ (m : Memory) (o : Ok m) (i : Invariant formulas formula-laws (holds m))
               whole = long-enough (appendAll m new) (G .long);
               readings = rw (G .readings) (o .readings);
               placed = rw gn (stands-placed (b .nodes) gs (fitted .stands));
-              written = rw ge (all-append Written (entriesOf m) (map unworked new) (o .written) (written-new new))
+              written = rw ge (all-append Written (entriesOf m) (map unworked new) (o .written) (written-new new));
             };
         holds =
             λ t.
@@ -185,8 +185,8 @@ module _ (m : Memory) (o : Ok m) (i : Invariant formulas formula-laws (holds m))
               entries =
                   ((λ j. joined (gf j) (ge j))
                   ∙ joined-append fs added (entriesOf m) new (size-held m) added-length
-                  ∙ sym entries-are) t
-            }
+                  ∙ sym entries-are) t;
+            };
       }
 
   done : Done (editedMemory m b) (Model.refuseIf formulas (ltb tableEntries (length es)) 13 (holds m) (Model.editedTo formulas (holds m) es (formsByPlace e) (formOf e))) (editedAs m R b)

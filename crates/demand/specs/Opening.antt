@@ -59,7 +59,7 @@ module _ (m : Memory) (r : List ℤ) (l : Lengths m) (short : length r ≤ table
       record {
         answer = refl;
         ok = record { whole = long-enough n longer; readings = rw c short; placed = rw e tt; written = rw e tt };
-        holds = λ t. record { recording = recorded t; entries = joined-none t }
+        holds = λ t. record { recording = recorded t; entries = joined-none t };
       }
     where
       joined-none : holds n .entries ≡ []

@@ -80,7 +80,8 @@ length-words [] = refl
 length-words (n ∷ ns) = let e = length-words ns in omega arith
 
 -- one more record
-pub put-word : (R : List ℕ) (t : List Node) (n : Node) → set (set (puts R 0 (words t)) (2 * length t) (linkWord n)) (2 * length t + 1) (n .key) ≡ puts R 0 (words (t ++ (n ∷ [])))
+pub put-word : (R : List ℕ) (t : List Node) (n : Node)
+    → set (set (puts R 0 (words t)) (2 * length t) (linkWord n)) (2 * length t + 1) (n .key) ≡ puts R 0 (words (t ++ (n ∷ [])))
 unfolding puts words
 put-word R t n =
     let e : 0 + length (words t) ≡ 2 * length t = omega (arith, length-words t) in

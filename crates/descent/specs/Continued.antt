@@ -34,12 +34,14 @@ abbrev answered : {A : Type 0} → (ℕ → ℕ) → (A → Expression) → Answ
 answered place h (whole a) = tree (h a)
 answered place h (stopped n j) = refused n (place j)
 
-answered-further : {A B : Type 0} (place : ℕ → ℕ) (f : A → B) (h : B → Expression) (r : Answer A) → answered place h (further f r) ≡ answered (λ j. place (suc j)) (λ q. h (f q)) r
+answered-further : {A B : Type 0} (place : ℕ → ℕ) (f : A → B) (h : B → Expression) (r : Answer A)
+    → answered place h (further f r) ≡ answered (λ j. place (suc j)) (λ q. h (f q)) r
 unfolding further
 answered-further place f h (whole a) = refl
 answered-further place f h (stopped n j) = refl
 
-answered-unless : {A : Type 0} (place : ℕ → ℕ) (h : A → Expression) (n : ℕ) (r : Unit {0} → Answer A) → answered place h (unless n r) ≡ unlessAt n (place 0) (answered place h (r tt))
+answered-unless : {A : Type 0} (place : ℕ → ℕ) (h : A → Expression) (n : ℕ) (r : Unit {0} → Answer A)
+    → answered place h (unless n r) ≡ unlessAt n (place 0) (answered place h (r tt))
 unfolding unlessAt
 answered-unless place h zero r = refl
 answered-unless place h (suc n) r = refl
@@ -53,7 +55,9 @@ on-end end s h tooEarly = refl
 on-end end s h (finished q p i) = refl
 
 module _ (end : ℕ) (s : State) (h : Trees s → Expression) (c : ℕ) (l : Located) (xs : List Located) where
-  on-step : (t : Token) (x : Step s t) (k : (b : State) → (Trees b → Expression) → ℕ → Reading) (k' : (b : State) → ℕ → Answer (Trees b)) → ((b : State) (h' : Trees b → Expression) (c' : ℕ) → k b h' c' ≡ answered (placeIn xs end) h' (k' b c')) → judgeAt c (l .place) x (λ b back c'. k b (λ q. h (back q)) c') ≡ answered (placeIn (l ∷ xs) end) h (judge c x k')
+  on-step : (t : Token) (x : Step s t) (k : (b : State) → (Trees b → Expression) → ℕ → Reading) (k' : (b : State) → ℕ → Answer (Trees b))
+      → ((b : State) (h' : Trees b → Expression) (c' : ℕ) → k b h' c' ≡ answered (placeIn xs end) h' (k' b c'))
+      → judgeAt c (l .place) x (λ b back c'. k b (λ q. h (back q)) c') ≡ answered (placeIn (l ∷ xs) end) h (judge c x k')
   unfolding judgeAt judge placeIn
   on-step t stop k k' ih = refl
   on-step t (go n b back p i) k k' ih =
@@ -75,18 +79,21 @@ unfolding readText read
 text-on text = sym (on-same (length text) begin (λ q. q .0) 0 (tokens text) ∙ answered-alone text (readFrom begin 0 (tokensOf text)))
 
 -- behind an atom that no call follows, the expression is over
-pub uncalled-step : (end : ℕ) (d : Around) (F : List Frame) (h : Trees (at (calls d) F) → Expression) (c p : ℕ) (t : Token) (xs : List Located) (x : Step (at over F) t) → judgeAt c p (uncalled d F t x) (λ b back c'. readOn end b (λ q. h (back q)) c' xs) ≡ judgeAt c p x (λ b back c'. readOn end b (λ q. h (done, back q .1)) c' xs)
+pub uncalled-step : (end : ℕ) (d : Around) (F : List Frame) (h : Trees (at (calls d) F) → Expression) (c p : ℕ) (t : Token) (xs : List Located) (x : Step (at over F) t)
+    → judgeAt c p (uncalled d F t x) (λ b back c'. readOn end b (λ q. h (back q)) c' xs) ≡ judgeAt c p x (λ b back c'. readOn end b (λ q. h (done, back q .1)) c' xs)
 unfolding judgeAt uncalled
 uncalled-step end d F h c p t xs stop = refl
 uncalled-step end d F h c p t xs (go n b back x y) = refl
 
-pub uncalled-end : (end : ℕ) (d : Around) (F : List Frame) (h : Trees (at (calls d) F) → Expression) → endedAt end h (finish (at (calls d) F)) ≡ endedAt end (λ o. h (done, o .1)) (finish (at over F))
+pub uncalled-end : (end : ℕ) (d : Around) (F : List Frame) (h : Trees (at (calls d) F) → Expression)
+    → endedAt end h (finish (at (calls d) F)) ≡ endedAt end (λ o. h (done, o .1)) (finish (at over F))
 unfolding endedAt finish
 uncalled-end end d [] h = refl
 uncalled-end end d (f ∷ F) h = refl
 
 -- the first argument is an expression in the frame of its call
-pub argument-step : (end k : ℕ) (d : Around) (F : List Frame) (h : Trees (at (arguments k d) F) → Expression) (c p : ℕ) (t : Token) (xs : List Located) (x : Step (at (expression (eqb k 0) (opened d)) (argument (k - 1) d ∷ F)) t) → judgeAt c p (asArgument k d F t x) (λ b back c'. readOn end b (λ q. h (back q)) c' xs) ≡ judgeAt c p x (λ b back c'. readOn end b (λ q. h (first (back q .0) (back q .1 .0), back q .1 .1)) c' xs)
+pub argument-step : (end k : ℕ) (d : Around) (F : List Frame) (h : Trees (at (arguments k d) F) → Expression) (c p : ℕ) (t : Token) (xs : List Located) (x : Step (at (expression (eqb k 0) (opened d)) (argument (k - 1) d ∷ F)) t)
+    → judgeAt c p (asArgument k d F t x) (λ b back c'. readOn end b (λ q. h (back q)) c' xs) ≡ judgeAt c p x (λ b back c'. readOn end b (λ q. h (first (back q .0) (back q .1 .0), back q .1 .1)) c' xs)
 unfolding judgeAt asArgument
 argument-step end k d F h c p t xs stop = refl
 argument-step end k d F h c p t xs (go n b back x y) = refl

@@ -111,7 +111,8 @@ entered-link [] i v = omega arith
 entered-link (c ∷ cs) zero v = omega arith
 entered-link (c ∷ cs) (suc i) v = entered-link cs i v
 
-pub links-entered : (depth x j c : ℕ) (scope : List ℕ) → ((b : ℕ) → b < depth → binderLink scope b ≤ c) → j ≤ c → (b : ℕ) → b < suc depth → binderLink (set (set scope (2 * depth) x) (2 * depth + 1) j) b ≤ c
+pub links-entered : (depth x j c : ℕ) (scope : List ℕ) → ((b : ℕ) → b < depth → binderLink scope b ≤ c) → j ≤ c → (b : ℕ) → b < suc depth
+    → binderLink (set (set scope (2 * depth) x) (2 * depth + 1) j) b ≤ c
 links-entered depth x j c scope h l b m =
     elim (decLt b depth) [
       | yes lt ↦ let e : binderLink (set (set scope (2 * depth) x) (2 * depth + 1) j) b ≡ binderLink scope b = getD-other (set scope (2 * depth) x) (2 * depth + 1) (2 * b + 1) j (λ e. omega arith) ∙ getD-other scope (2 * depth) (2 * b + 1) x (λ e. omega arith) in rw e (h b lt)
@@ -119,7 +120,8 @@ links-entered depth x j c scope h l b m =
     ]
 
 -- a state that is kept is fit again
-pub fit-kept : (m m' : Mode) (p g o : ℕ) (s s' : State) → Fit m s → Kept (depthOf m') p g o s s' → s' .cursor .count + owed m' ≤ s' .cursor .parts → marksOf m' + besides m' ≤ 16 → depthOf m' ≤ marksOf m' → depthOf m' ≤ depthOf m → OwnFit m' s' → Fit m' s'
+pub fit-kept : (m m' : Mode) (p g o : ℕ) (s s' : State) → Fit m s → Kept (depthOf m') p g o s s' → s' .cursor .count + owed m' ≤ s' .cursor .parts
+    → marksOf m' + besides m' ≤ 16 → depthOf m' ≤ marksOf m' → depthOf m' ≤ depthOf m → OwnFit m' s' → Fit m' s'
 fit-kept m m' p g o s s' h k c l d e own =
     record {
       parts = omega (arith, h .parts, k .most);
@@ -135,14 +137,16 @@ module _ (end : ℕ) (marks depth : ℕ) (s : State) where
   abbrev c : Cursor
   c = s .cursor
 
-  pub fit-let-value : (w : Bool) → Fit (inExpression w marks depth) s → isAt letKind (c .rest) ≡ true → letHead end w marks c .number ≡ 0 → Fit (inExpression false (suc marks) depth) (moved s (letHead end w marks c))
+  pub fit-let-value : (w : Bool) → Fit (inExpression w marks depth) s → isAt letKind (c .rest) ≡ true → letHead end w marks c .number ≡ 0
+      → Fit (inExpression false (suc marks) depth) (moved s (letHead end w marks c))
   fit-let-value w h b z =
       let m = moved-let end w marks c (behind-some letKind (c .rest) (lit< tt) b) in
       let few = let-few end w marks c z in
       let deep = h .depth in
       fit-kept _ (inExpression false (suc marks) depth) 3 1 0 s _ h (kept-moved depth 3 1 s _ m) (omega (arith, h .count, m .count, m .parts)) (omega arith) (omega arith) (omega arith) tt
 
-  pub fit-lambda-body : (w : Bool) → Fit (inExpression w marks depth) s → isAt lambdaKind (c .rest) ≡ true → lambdaHead end w marks depth (s .scope) c .number ≡ 0 → Fit (inExpression false (suc marks) (suc depth)) (enter depth (lambdaHead end w marks depth (s .scope) c .name) 0 (moved s (lambdaHead end w marks depth (s .scope) c)))
+  pub fit-lambda-body : (w : Bool) → Fit (inExpression w marks depth) s → isAt lambdaKind (c .rest) ≡ true → lambdaHead end w marks depth (s .scope) c .number ≡ 0
+      → Fit (inExpression false (suc marks) (suc depth)) (enter depth (lambdaHead end w marks depth (s .scope) c .name) 0 (moved s (lambdaHead end w marks depth (s .scope) c)))
   unfolding enter
   fit-lambda-body w h b z =
       let m = moved-lambda end w marks depth (s .scope) c (behind-some lambdaKind (c .rest) (lit< tt) b) in
@@ -157,14 +161,16 @@ module _ (end : ℕ) (marks depth : ℕ) (s : State) where
         own = tt;
       }
 
-  pub fit-bracketed : (w : Bool) → Fit (inExpression w marks depth) s → isAt openKind (c .rest) ≡ true → judge end (atBracket w marks) c (λ _. pass c) .number ≡ 0 → Fit (inExpression false (suc marks) depth) (moved s (judge end (atBracket w marks) c (λ _. pass c)))
+  pub fit-bracketed : (w : Bool) → Fit (inExpression w marks depth) s → isAt openKind (c .rest) ≡ true → judge end (atBracket w marks) c (λ _. pass c) .number ≡ 0
+      → Fit (inExpression false (suc marks) depth) (moved s (judge end (atBracket w marks) c (λ _. pass c)))
   fit-bracketed w h b z =
       let m = moved-judge end (atBracket w marks) 1 0 c (λ _. pass c) (λ _. moved-pass end c (behind-some openKind (c .rest) (lit< tt) b)) in
       let few = bracket-few end w marks c (λ _. pass c) z in
       let deep = h .depth in
       fit-kept _ (inExpression false (suc marks) depth) 1 0 0 s _ h (kept-moved depth 1 0 s _ m) (omega (arith, h .count, m .count, m .parts)) (omega arith) (omega arith) (omega arith) tt
 
-  pub fit-call : Fit (inCalls marks depth) s → isAt dotKind (c .rest) ≡ true → callHead end marks c .number ≡ 0 → Fit (inArguments (newCall c (callHead end marks c)) marks depth) (moved s (callHead end marks c))
+  pub fit-call : Fit (inCalls marks depth) s → isAt dotKind (c .rest) ≡ true → callHead end marks c .number ≡ 0
+      → Fit (inArguments (newCall c (callHead end marks c)) marks depth) (moved s (callHead end marks c))
   fit-call h b z =
       let m = moved-call end marks c (behind-some dotKind (c .rest) (lit< tt) b) in
       let G = m .went z in
@@ -183,7 +189,8 @@ module _ (end : ℕ) (marks depth : ℕ) (s : State) where
       let deep = h .depth in
       record { parts = h .parts; count = omega arith; marks = omega arith; depth = omega arith; links = h .links; own = tt }
 
-  pub fit-comma : (k : Call) → Fit (inMore k marks depth) s → isAt commaKind (c .rest) ≡ true → Fit (inExpression false (suc marks) depth) (moved s (judge end (atComma (k .takes)) c (λ _. pass c)))
+  pub fit-comma : (k : Call) → Fit (inMore k marks depth) s → isAt commaKind (c .rest) ≡ true
+      → Fit (inExpression false (suc marks) depth) (moved s (judge end (atComma (k .takes)) c (λ _. pass c)))
   fit-comma k h b =
       let m = moved-judge end (atComma (k .takes)) 1 0 c (λ _. pass c) (λ _. moved-pass end c (behind-some commaKind (c .rest) (lit< tt) b)) in
       let few = h .count in
@@ -192,7 +199,8 @@ module _ (end : ℕ) (marks depth : ℕ) (s : State) where
       fit-kept _ (inExpression false (suc marks) depth) 1 0 0 s _ h (kept-moved depth 1 0 s _ m) (omega (arith, m .count, m .parts)) (omega arith) (omega arith) (omega arith) tt
 
   -- s is what an expression in a let's value, in brackets or in an argument has come to
-  pub fit-let-body : (x : ℕ) → depth ≤ marks → Fit (inCalls (suc marks) depth) s → Fit (inExpression false (suc marks) (suc depth)) (enter depth x (suc (c .root)) (moved s (need end inKind c)))
+  pub fit-let-body : (x : ℕ) → depth ≤ marks → Fit (inCalls (suc marks) depth) s
+      → Fit (inExpression false (suc marks) (suc depth)) (enter depth x (suc (c .root)) (moved s (need end inKind c)))
   unfolding enter
   fit-let-body x l h =
       let m = moved-need end inKind c (lit< tt) in

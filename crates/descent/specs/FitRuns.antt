@@ -20,7 +20,8 @@ use Rattle.descent.specs.Kept.{Kept, Keeps, depthOf, passes, owed, kept-
 use Rattle.descent.specs.Fit.{marksOf, Fit, fit-kept, fit-let-value, fit-bracketed, fit-call, fit-argument, fit-comma, fit-let-body, fit-bracket-calls}
 
 -- where the whole is not refused, the first is not, and the whole is the second
-goes-then : (P : State → Type 0) (a : State) (k : State → State) → (a .cursor .number ≡ 0 → k a .cursor .number ≡ 0 → P (k a)) → then a k .cursor .number ≡ 0 → P (then a k)
+goes-then : (P : State → Type 0) (a : State) (k : State → State) → (a .cursor .number ≡ 0 → k a .cursor .number ≡ 0 → P (k a)) → then a k .cursor .number ≡ 0
+    → P (then a k)
 unfolding then
 goes-then P a k f =
     by-test (λ x. x .cursor .number ≡ 0 → P x) (eqb (a .cursor .number) 0) (λ _. k a) (λ _. a)
@@ -34,12 +35,14 @@ root-put : (p : ℕ) (n : Node) (s : State) → RootHeld (put p n s)
 unfolding put counted
 root-put p n s = omega arith
 
-binder-below : (scope : List ℕ) (x depth c : ℕ) → ((b : ℕ) → b < depth → binderLink scope b ≤ c) → ¬ (binderOf scope x depth ≡ 0) → getD scope (2 * binderOf scope x depth - 1) 0 ≤ c
+binder-below : (scope : List ℕ) (x depth c : ℕ) → ((b : ℕ) → b < depth → binderLink scope b ≤ c) → ¬ (binderOf scope x depth ≡ 0)
+    → getD scope (2 * binderOf scope x depth - 1) 0 ≤ c
 unfolding binderOf when
 binder-below scope x zero c h d = absurd (d refl)
 binder-below scope x (suc b) c h d = by (eqb x (getD scope (2 * b) 0)) (binder-below scope x b c (λ b i. h b (omega arith))) d
   where
-    by : (q : Bool) → (¬ (binderOf scope x b ≡ 0) → getD scope (2 * binderOf scope x b - 1) 0 ≤ c) → ¬ (when q (λ _. suc b) (λ _. binderOf scope x b) ≡ 0) → getD scope (2 * when q (λ _. suc b) (λ _. binderOf scope x b) - 1) 0 ≤ c
+    by : (q : Bool) → (¬ (binderOf scope x b ≡ 0) → getD scope (2 * binderOf scope x b - 1) 0 ≤ c) → ¬ (when q (λ _. suc b) (λ _. binderOf scope x b) ≡ 0)
+        → getD scope (2 * when q (λ _. suc b) (λ _. binderOf scope x b) - 1) 0 ≤ c
     by true f d = let e : 2 * suc b - 1 ≡ 2 * b + 1 = omega arith in rw e (h b (omega arith))
     by false f d = f d
 
@@ -59,7 +62,7 @@ part-count : (end n : ℕ) (c : Cursor) → judge end n c (λ _. passPart c) .co
 unfolding judge refuse passPart
 part-count end n c = by-test (λ x. x .count ≡ c .count) (eqb n 0) (λ _. passPart c) (λ _. refuse end n c) (λ _. refl) (λ _. refl)
 
--- behind a let's body, and behind a lambda's
+-- behind a let's body
 pub fit-let-end : (marks depth p : ℕ) (s : State) → depth ≤ marks → Fit (inCalls (suc marks) (suc depth)) s → Fit (inCalls marks depth) (mark p s)
 unfolding mark
 fit-let-end marks depth p s l h =
@@ -69,19 +72,69 @@ fit-let-end marks depth p s l h =
 abbrev pub RootsHeld : Reader → Type 0
 RootsHeld rd = (m : Mode) (s : State) → Fit m s → rd m s .cursor .number ≡ 0 → RootHeld (rd m s)
 
-fit-done : (m : Mode) (s s' : State) → Fit m s → Kept (depthOf m) (passes m) 0 (owed m) s s' → s' .cursor .number ≡ 0 → RootHeld s' → Fit (inCalls (marksOf m) (depthOf m)) s'
+fit-done : (m : Mode) (s s' : State) → Fit m s → Kept (depthOf m) (passes m) 0 (owed m) s s' → s' .cursor .number ≡ 0 → RootHeld s'
+    → Fit (inCalls (marksOf m) (depthOf m)) s'
 fit-done m s s' h k z r =
     let G = k .went z in
     let few = h .count in
     let l = h .marks in
     fit-kept m (inCalls (marksOf m) (depthOf m)) (passes m) 0 (owed m) s s' h k (omega arith) (omega arith) (h .depth) (omega arith) r
 
+-- an atom, and a call that is over, outside the readers' cycle
+module _ (end marks depth : ℕ) (s : State) where
+  root-shut : (k : Call) → readShut end k s .cursor .number ≡ 0 → RootHeld (readShut end k s)
+  unfolding readShut
+  root-shut k = goes-then RootHeld _ _ (λ _ _. root-put (k .place) _ _)
+
+  -- a name, and a number
+  root-atom : (w : Bool) → Fit (inExpression w marks depth) s → readName end w depth s .cursor .number ≡ 0 → RootHeld (readName end w depth s)
+  unfolding readName
+  root-atom w h =
+      let e = part-count end (atName w (headWord (s .cursor .rest)) (s .cursor .parts)) (s .cursor) in
+      goes-then RootHeld _ _ (λ _ _. root-name (s .cursor .parts) _ depth _ (λ b i. rw e (h .links b i)))
+
+  pub fit-name : (w : Bool) → Fit (inExpression w marks depth) s → isAt wordKind (s .cursor .rest) ≡ true → readName end w depth s .cursor .number ≡ 0
+      → Fit (inCalls marks depth) (readName end w depth s)
+  fit-name w h b z = fit-done (inExpression w marks depth) s (readName end w depth s) h (kept-atom end depth s w b) z (root-atom w h z)
+
+  root-number : (w : Bool) → readNumber end w s .cursor .number ≡ 0 → RootHeld (readNumber end w s)
+  unfolding readNumber
+  root-number w = goes-then RootHeld _ _ (λ _ _. root-put (s .cursor .parts) _ _)
+
+  pub fit-number : (w : Bool) → Fit (inExpression w marks depth) s → isAt digitsKind (s .cursor .rest) ≡ true → readNumber end w s .cursor .number ≡ 0
+      → Fit (inCalls marks depth) (readNumber end w s)
+  fit-number w h b z = fit-done (inExpression w marks depth) s (readNumber end w s) h (kept-number end depth s w b) z (root-number w z)
+
+  -- a call that is over
+  fit-shut : (k : Call) → Fit (inExpression false marks depth) s → s .cursor .count + 1 ≤ s .cursor .parts → isAt shutKind (s .cursor .rest) ≡ true
+      → readShut end k s .cursor .number ≡ 0 → Fit (inCalls marks depth) (readShut end k s)
+  fit-shut k h few b z =
+      let K = kept-shut end depth s k b in
+      let G = K .went z in
+      fit-kept (inExpression false marks depth) (inCalls marks depth) 1 0 1 s (readShut end k s) h K (omega arith) (h .marks) (h .depth) (omega arith) (root-shut k z)
+
+  pub fit-shut-arguments : (k : Call) → Fit (inArguments k marks depth) s → isAt shutKind (s .cursor .rest) ≡ true → readShut end k s .cursor .number ≡ 0
+      → Fit (inCalls marks depth) (readShut end k s)
+  fit-shut-arguments k h =
+      let few = h .count in
+      let l = h .marks in
+      fit-shut k (record { parts = h .parts; count = omega arith; marks = omega arith; depth = h .depth; links = h .links; own = tt }) (omega arith)
+
+  pub fit-shut-more : (k : Call) → Fit (inMore k marks depth) s → isAt shutKind (s .cursor .rest) ≡ true → readShut end k s .cursor .number ≡ 0
+      → Fit (inCalls marks depth) (readShut end k s)
+  fit-shut-more k h =
+      let few = h .count in
+      let l = h .marks in
+      fit-shut k (record { parts = h .parts; count = omega arith; marks = omega arith; depth = h .depth; links = h .links; own = tt }) (omega arith)
+
 module _ (end : ℕ) (rd : Reader) (keeps : Keeps rd) (roots : RootsHeld rd) where
   pub fit-behind : (m : Mode) (s : State) → Fit m s → rd m s .cursor .number ≡ 0 → Fit (inCalls (marksOf m) (depthOf m)) (rd m s)
   fit-behind m s h z = fit-done m s (rd m s) h (keeps m s) z (roots m s h z)
 
   -- behind the first argument of a call, and behind another
-  pub fit-first : (k : Call) (marks depth : ℕ) (s : State) → Fit (inArguments k marks depth) s → rd (inExpression (eqb (k .takes) 0) (suc marks) depth) s .cursor .number ≡ 0 → Fit (inMore (firstGiven (rd (inExpression (eqb (k .takes) 0) (suc marks) depth) s .cursor .root) k) marks depth) (rd (inExpression (eqb (k .takes) 0) (suc marks) depth) s)
+  pub fit-first : (k : Call) (marks depth : ℕ) (s : State) → Fit (inArguments k marks depth) s
+      → rd (inExpression (eqb (k .takes) 0) (suc marks) depth) s .cursor .number ≡ 0
+      → Fit (inMore (firstGiven (rd (inExpression (eqb (k .takes) 0) (suc marks) depth) s .cursor .root) k) marks depth) (rd (inExpression (eqb (k .takes) 0) (suc marks) depth) s)
   fit-first k marks depth s h z =
       let E = inExpression (eqb (k .takes) 0) (suc marks) depth in
       let K = keeps E s in
@@ -96,7 +149,10 @@ module _ (end : ℕ) (rd : Reader) (keeps : Keeps rd) (roots : RootsHeld rd) whe
       fit-kept (inArguments k marks depth) (inMore (firstGiven (rd E s .cursor .root) k) marks depth) 1 0 0 s (rd E s) h K (omega arith) (h .marks) (h .depth) (omega arith)
       (record { kind = o .kind; receiver = omega arith; argument = root; place = omega arith })
 
-  pub fit-next : (k : Call) (marks depth : ℕ) (s : State) → Fit (inMore k marks depth) s → isAt commaKind (s .cursor .rest) ≡ true → judge end (atComma (k .takes)) (s .cursor) (λ _. pass (s .cursor)) .number ≡ 0 → rd (inExpression false (suc marks) depth) (moved s (judge end (atComma (k .takes)) (s .cursor) (λ _. pass (s .cursor)))) .cursor .number ≡ 0 → Fit (inMore (nextGiven k) marks depth) (rd (inExpression false (suc marks) depth) (moved s (judge end (atComma (k .takes)) (s .cursor) (λ _. pass (s .cursor)))))
+  pub fit-next : (k : Call) (marks depth : ℕ) (s : State) → Fit (inMore k marks depth) s → isAt commaKind (s .cursor .rest) ≡ true
+      → judge end (atComma (k .takes)) (s .cursor) (λ _. pass (s .cursor)) .number ≡ 0
+      → rd (inExpression false (suc marks) depth) (moved s (judge end (atComma (k .takes)) (s .cursor) (λ _. pass (s .cursor)))) .cursor .number ≡ 0
+      → Fit (inMore (nextGiven k) marks depth) (rd (inExpression false (suc marks) depth) (moved s (judge end (atComma (k .takes)) (s .cursor) (λ _. pass (s .cursor)))))
   fit-next k marks depth s h b y z =
       let c = s .cursor in
       let m = moved-judge end (atComma (k .takes)) 1 0 c (λ _. pass c) (λ _. moved-pass end c (behind-some commaKind (c .rest) (lit< tt) b)) in
@@ -118,11 +174,8 @@ module _ (end : ℕ) (rd : Reader) (keeps : Keeps rd) (roots : RootsHeld rd) whe
 
   -- the readers
   module _ (marks depth : ℕ) (s : State) where
-    root-shut : (k : Call) → readShut end k s .cursor .number ≡ 0 → RootHeld (readShut end k s)
-    unfolding readShut
-    root-shut k = goes-then RootHeld _ _ (λ _ _. root-put (k .place) _ _)
-
-    root-let : (w : Bool) → Fit (inExpression w marks depth) s → isAt letKind (s .cursor .rest) ≡ true → readLet end rd w marks depth s .cursor .number ≡ 0 → RootHeld (readLet end rd w marks depth s)
+    root-let : (w : Bool) → Fit (inExpression w marks depth) s → isAt letKind (s .cursor .rest) ≡ true → readLet end rd w marks depth s .cursor .number ≡ 0
+        → RootHeld (readLet end rd w marks depth s)
     unfolding readLet mark
     root-let w h b =
         goes-then RootHeld _ _ (λ z. let g = fit-let-value end marks depth s w h b z in
@@ -134,58 +187,24 @@ module _ (end : ℕ) (rd : Reader) (keeps : Keeps rd) (roots : RootsHeld rd) whe
     unfolding readLambda
     root-lambda w = goes-then RootHeld _ _ (λ _. goes-then RootHeld _ _ (λ _ _. root-put (s .cursor .parts) _ _))
 
-    root-bracket : (w : Bool) → Fit (inExpression w marks depth) s → isAt openKind (s .cursor .rest) ≡ true → readBracket end rd w marks depth s .cursor .number ≡ 0 → RootHeld (readBracket end rd w marks depth s)
+    root-bracket : (w : Bool) → Fit (inExpression w marks depth) s → isAt openKind (s .cursor .rest) ≡ true → readBracket end rd w marks depth s .cursor .number ≡ 0
+        → RootHeld (readBracket end rd w marks depth s)
     unfolding readBracket
     root-bracket w h b =
         goes-then RootHeld _ _ (λ z. let g = fit-bracketed end marks depth s w h b z in
         goes-then RootHeld _ _ (λ y. let v = fit-behind (inExpression false (suc marks) depth) _ g y in
         goes-then RootHeld _ _ (λ _. roots (inCalls marks depth) _ (fit-bracket-calls end marks depth _ (h .depth) v))))
 
-    -- an atom
-    root-atom : (w : Bool) → Fit (inExpression w marks depth) s → readName end w depth s .cursor .number ≡ 0 → RootHeld (readName end w depth s)
-    unfolding readName
-    root-atom w h =
-        let e = part-count end (atName w (headWord (s .cursor .rest)) (s .cursor .parts)) (s .cursor) in
-        goes-then RootHeld _ _ (λ _ _. root-name (s .cursor .parts) _ depth _ (λ b i. rw e (h .links b i)))
-
-    pub fit-name : (w : Bool) → Fit (inExpression w marks depth) s → isAt wordKind (s .cursor .rest) ≡ true → readName end w depth s .cursor .number ≡ 0 → Fit (inCalls marks depth) (readName end w depth s)
-    fit-name w h b z = fit-done (inExpression w marks depth) s (readName end w depth s) h (kept-atom end depth s w b) z (root-atom w h z)
-
-    root-number : (w : Bool) → readNumber end w s .cursor .number ≡ 0 → RootHeld (readNumber end w s)
-    unfolding readNumber
-    root-number w = goes-then RootHeld _ _ (λ _ _. root-put (s .cursor .parts) _ _)
-
-    pub fit-number : (w : Bool) → Fit (inExpression w marks depth) s → isAt digitsKind (s .cursor .rest) ≡ true → readNumber end w s .cursor .number ≡ 0 → Fit (inCalls marks depth) (readNumber end w s)
-    fit-number w h b z = fit-done (inExpression w marks depth) s (readNumber end w s) h (kept-number end depth s w b) z (root-number w z)
-
-    -- a call that is over
-    fit-shut : (k : Call) → Fit (inExpression false marks depth) s → s .cursor .count + 1 ≤ s .cursor .parts → isAt shutKind (s .cursor .rest) ≡ true → readShut end k s .cursor .number ≡ 0 → Fit (inCalls marks depth) (readShut end k s)
-    fit-shut k h few b z =
-        let K = kept-shut end depth s k b in
-        let G = K .went z in
-        fit-kept (inExpression false marks depth) (inCalls marks depth) 1 0 1 s (readShut end k s) h K (omega arith) (h .marks) (h .depth) (omega arith) (root-shut k z)
-
-    pub fit-shut-arguments : (k : Call) → Fit (inArguments k marks depth) s → isAt shutKind (s .cursor .rest) ≡ true → readShut end k s .cursor .number ≡ 0 → Fit (inCalls marks depth) (readShut end k s)
-    fit-shut-arguments k h =
-        let few = h .count in
-        let l = h .marks in
-        fit-shut k (record { parts = h .parts; count = omega arith; marks = omega arith; depth = h .depth; links = h .links; own = tt }) (omega arith)
-
-    pub fit-shut-more : (k : Call) → Fit (inMore k marks depth) s → isAt shutKind (s .cursor .rest) ≡ true → readShut end k s .cursor .number ≡ 0 → Fit (inCalls marks depth) (readShut end k s)
-    fit-shut-more k h =
-        let few = h .count in
-        let l = h .marks in
-        fit-shut k (record { parts = h .parts; count = omega arith; marks = omega arith; depth = h .depth; links = h .links; own = tt }) (omega arith)
-
-    root-expression : (w : Bool) → Fit (inExpression w marks depth) s → readExpression end rd w marks depth s .cursor .number ≡ 0 → RootHeld (readExpression end rd w marks depth s)
+    root-expression : (w : Bool) → Fit (inExpression w marks depth) s → readExpression end rd w marks depth s .cursor .number ≡ 0
+        → RootHeld (readExpression end rd w marks depth s)
     unfolding readExpression refuse
     root-expression w h =
         let P : State → Type 0 = λ x. x .cursor .number ≡ 0 → RootHeld x in
         by-test P _ _ _ (root-let w h) (λ _.
         by-test P _ _ _ (λ _. root-lambda w) (λ _.
         by-test P _ _ _ (root-bracket w h) (λ _.
-        by-test P _ _ _ (λ b. goes-then RootHeld _ _ (λ z. roots (inCalls marks depth) _ (fit-name w h b z))) (λ _.
-        by-test P _ _ _ (λ b. goes-then RootHeld _ _ (λ z. roots (inCalls marks depth) _ (fit-number w h b z))) (λ _ z. absurd (omega arith))))))
+        by-test P _ _ _ (λ b. goes-then RootHeld _ _ (λ z. roots (inCalls marks depth) _ (fit-name end marks depth s w h b z))) (λ _.
+        by-test P _ _ _ (λ b. goes-then RootHeld _ _ (λ z. roots (inCalls marks depth) _ (fit-number end marks depth s w h b z))) (λ _ z. absurd (omega arith))))))
 
     root-calls : Fit (inCalls marks depth) s → readCalls end rd marks depth s .cursor .number ≡ 0 → RootHeld (readCalls end rd marks depth s)
     unfolding readCalls
@@ -193,18 +212,19 @@ module _ (end : ℕ) (rd : Reader) (keeps : Keeps rd) (roots : RootsHeld rd) whe
         by-test (λ x. x .cursor .number ≡ 0 → RootHeld x) _ _ _
         (λ b. goes-then RootHeld _ _ (λ z. roots (inArguments (newCall (s .cursor) (callHead end marks (s .cursor))) marks depth) _ (fit-call end marks depth s h b z))) (λ _ _. h .own)
 
-    root-arguments : (k : Call) → Fit (inArguments k marks depth) s → readArguments end rd k marks depth s .cursor .number ≡ 0 → RootHeld (readArguments end rd k marks depth s)
+    root-arguments : (k : Call) → Fit (inArguments k marks depth) s → readArguments end rd k marks depth s .cursor .number ≡ 0
+        → RootHeld (readArguments end rd k marks depth s)
     unfolding readArguments
     root-arguments k h =
         let P : State → Type 0 = λ x. x .cursor .number ≡ 0 → RootHeld x in
-        by-test P _ _ _ (λ b. goes-then RootHeld _ _ (λ z. roots (inCalls marks depth) _ (fit-shut-arguments k h b z)))
+        by-test P _ _ _ (λ b. goes-then RootHeld _ _ (λ z. roots (inCalls marks depth) _ (fit-shut-arguments end marks depth s k h b z)))
         (λ _. goes-then RootHeld _ _ (λ z. roots (inMore _ marks depth) _ (fit-first k marks depth s h z)))
 
     root-more : (k : Call) → Fit (inMore k marks depth) s → readMore end rd k marks depth s .cursor .number ≡ 0 → RootHeld (readMore end rd k marks depth s)
     unfolding readMore refuse
     root-more k h =
         let P : State → Type 0 = λ x. x .cursor .number ≡ 0 → RootHeld x in
-        by-test P _ _ _ (λ b. goes-then RootHeld _ _ (λ z. roots (inCalls marks depth) _ (fit-shut-more k h b z))) (λ _.
+        by-test P _ _ _ (λ b. goes-then RootHeld _ _ (λ z. roots (inCalls marks depth) _ (fit-shut-more end marks depth s k h b z))) (λ _.
         by-test P _ _ _ (λ b. goes-then RootHeld _ _ (λ y. goes-then RootHeld _ _ (λ z. roots (inMore (nextGiven k) marks depth) _ (fit-next k marks depth s h b y z)))) (λ _ z. absurd (omega arith)))
 
   step-roots : RootsHeld (step end rd)
@@ -229,7 +249,8 @@ pub record Room (p : ℕ) (s : State) : Type 0 where
   pub place : p < 128
 
 -- behind the token of a part: a name, a number, or the head of a let
-pub room-part : (w : Bool) (marks depth p : ℕ) (s : State) (c : Cursor) → Fit (inExpression w marks depth) s → Moved p 1 (s .cursor) c → c .number ≡ 0 → Room (s .cursor .parts) (moved s c)
+pub room-part : (w : Bool) (marks depth p : ℕ) (s : State) (c : Cursor) → Fit (inExpression w marks depth) s → Moved p 1 (s .cursor) c → c .number ≡ 0
+    → Room (s .cursor .parts) (moved s c)
 room-part w marks depth p s c h m z =
     let G = m .went z in
     let few = h .parts in
@@ -251,7 +272,9 @@ room-more k marks depth p s c h m =
     record { count = omega (arith, m .count); place = omega arith }
 
 -- behind the body of a lambda
-pub room-lambda : (end f : ℕ) (w : Bool) (marks depth : ℕ) (s : State) → Fit (inExpression w marks depth) s → isAt lambdaKind (s .cursor .rest) ≡ true → (c : Cursor) → c ≡ lambdaHead end w marks depth (s .scope) (s .cursor) → c .number ≡ 0 → (u : State) → u ≡ run end f (inExpression false (suc marks) (suc depth)) (enter depth (c .name) 0 (moved s c)) → u .cursor .number ≡ 0 → Room (s .cursor .parts) u
+pub room-lambda : (end f : ℕ) (w : Bool) (marks depth : ℕ) (s : State) → Fit (inExpression w marks depth) s → isAt lambdaKind (s .cursor .rest) ≡ true → (c : Cursor)
+    → c ≡ lambdaHead end w marks depth (s .scope) (s .cursor) → c .number ≡ 0 → (u : State)
+    → u ≡ run end f (inExpression false (suc marks) (suc depth)) (enter depth (c .name) 0 (moved s c)) → u .cursor .number ≡ 0 → Room (s .cursor .parts) u
 unfolding enter
 room-lambda end f w marks depth s h b c e z u g y =
     let m : Moved 3 1 (s .cursor) c = rw e (moved-lambda end w marks depth (s .scope) (s .cursor) (behind-some lambdaKind (s .cursor .rest) (lit< tt) b)) in

@@ -49,7 +49,8 @@ unfolding when unlessAt
 due-unless true n p r = refl
 due-unless false n p r = refl
 
-pub due-by : (n m k end : ℕ) (rest : List Located) (r r' : Reading) → n ≡ m → r ≡ due k (unlessAt m (headPlace end rest) r') end rest → r ≡ unlessAt (cond (isAt k rest) n 5) (headPlace end rest) r'
+pub due-by : (n m k end : ℕ) (rest : List Located) (r r' : Reading) → n ≡ m → r ≡ due k (unlessAt m (headPlace end rest) r') end rest
+    → r ≡ unlessAt (cond (isAt k rest) n 5) (headPlace end rest) r'
 due-by n m k end rest r r' e h = unless-by _ _ _ r r' (ap (λ i. cond (isAt k rest) i 5) e) (h ∙ due-unless (isAt k rest) m (headPlace end rest) r')
 
 pub due-zero : (k end : ℕ) (rest : List Located) (r r' : Reading) → r ≡ due k r' end rest → r ≡ unlessAt (cond (isAt k rest) 0 5) (headPlace end rest) r'
@@ -57,7 +58,8 @@ unfolding unlessAt
 due-zero k end rest r r' h = h ∙ due-unless (isAt k rest) 0 (headPlace end rest) r'
 
 module _ (end : ℕ) where
-  pub fits-judge : (n : ℕ) (c : Cursor) (d : Unit {0} → Cursor) (P : Cursor → Type 0) (r r' : Reading) → r ≡ unlessAt n (headPlace end (c .rest)) r' → (n ≡ 0 → r ≡ r' → Fits (d tt) P r) → Fits (judge end n c d) P r
+  pub fits-judge : (n : ℕ) (c : Cursor) (d : Unit {0} → Cursor) (P : Cursor → Type 0) (r r' : Reading) → r ≡ unlessAt n (headPlace end (c .rest)) r'
+      → (n ≡ 0 → r ≡ r' → Fits (d tt) P r) → Fits (judge end n c d) P r
   unfolding judge refuse
   fits-judge n c d P r r' e f =
       by-test (λ x. Fits x P r) (eqb n 0) d (λ _. refuse end n c)
@@ -75,7 +77,8 @@ module _ (end : ℕ) where
   fits-here c P r z p = record { goes = λ _. p; stops = λ d. absurd (d z) }
 
   -- a token is passed, and then the next
-  fits-pass : (n : ℕ) (c : Cursor) (d : Unit {0} → Cursor) (k : Cursor → Cursor) (P : Cursor → Type 0) (r r' : Reading) → d tt .number ≡ 0 → r ≡ unlessAt n (headPlace end (c .rest)) r' → (n ≡ 0 → r ≡ r' → Fits (k (d tt)) P r) → Fits (next end (judge end n c d) k) P r
+  fits-pass : (n : ℕ) (c : Cursor) (d : Unit {0} → Cursor) (k : Cursor → Cursor) (P : Cursor → Type 0) (r r' : Reading) → d tt .number ≡ 0
+      → r ≡ unlessAt n (headPlace end (c .rest)) r' → (n ≡ 0 → r ≡ r' → Fits (k (d tt)) P r) → Fits (next end (judge end n c d) k) P r
   unfolding judge next refuse when
   fits-pass n c d k P r r' z e f =
       by-test (λ x. Fits (next end x k) P r) (eqb n 0) d (λ _. refuse end n c)
@@ -98,7 +101,9 @@ module _ (end : ℕ) where
       pub few : marks < 16
       pub onward : r ≡ readOn end (at (expression false (opened (around marks Σ))) (value x (around marks Σ) ∷ F)) (λ q. h ((x, q .0, q .1 .0), q .1 .1)) (c' .parts) (c' .rest)
 
-    pub fits-let : (w : Bool) (h : Trees (at (letName (around marks Σ)) F) → Expression) → c .number ≡ 0 → r ≡ unlessAt (fault (c .parts) (note (markFault w (around marks Σ)) true)) (headPlace end (c .rest)) (readOn end (at (letName (around marks Σ)) F) h (suc (c .parts)) (behindHead (c .rest))) → Fits (letHead end w marks c) (LetRead h) r
+    pub fits-let : (w : Bool) (h : Trees (at (letName (around marks Σ)) F) → Expression) → c .number ≡ 0
+        → r ≡ unlessAt (fault (c .parts) (note (markFault w (around marks Σ)) true)) (headPlace end (c .rest)) (readOn end (at (letName (around marks Σ)) F) h (suc (c .parts)) (behindHead (c .rest)))
+        → Fits (letHead end w marks c) (LetRead h) r
     unfolding letHead atLet atLetName passPart passName pass
     fits-let w h z e =
         let d = around marks Σ in
@@ -119,7 +124,9 @@ module _ (end : ℕ) where
       pub few : marks < 16
       pub onward : r ≡ readOn end (at (expression false (inLambda x (around marks Σ))) F) (λ q. h ((x, q .0), q .1)) (c' .parts) (c' .rest)
 
-    pub fits-lambda : (w : Bool) (h : Trees (at (lambdaName (around marks Σ)) F) → Expression) → Holds Σ depth scope → c .number ≡ 0 → r ≡ unlessAt (fault (c .parts) (note (lambdaFault w (around marks Σ)) true)) (headPlace end (c .rest)) (readOn end (at (lambdaName (around marks Σ)) F) h (suc (c .parts)) (behindHead (c .rest))) → Fits (lambdaHead end w marks depth scope c) (LambdaRead h) r
+    pub fits-lambda : (w : Bool) (h : Trees (at (lambdaName (around marks Σ)) F) → Expression) → Holds Σ depth scope → c .number ≡ 0
+        → r ≡ unlessAt (fault (c .parts) (note (lambdaFault w (around marks Σ)) true)) (headPlace end (c .rest)) (readOn end (at (lambdaName (around marks Σ)) F) h (suc (c .parts)) (behindHead (c .rest)))
+        → Fits (lambdaHead end w marks depth scope c) (LambdaRead h) r
     unfolding lambdaHead atLambda atLambdaName passPart passName pass
     fits-lambda w h g z e =
         let d = around marks Σ in
@@ -139,7 +146,9 @@ module _ (end : ℕ) where
       pub name : c' .name ≡ memberKind (member x)
       pub onward : r ≡ readOn end (at (arguments (c' .takes) (around marks Σ)) F) (λ q. h ((x, q .0), q .1)) (c' .parts) (c' .rest)
 
-    pub fits-call : (h : Trees (at (memberPhase (around marks Σ)) F) → Expression) → c .number ≡ 0 → r ≡ unlessAt (fault (c .parts) (note fine true)) (headPlace end (c .rest)) (readOn end (at (memberPhase (around marks Σ)) F) h (suc (c .parts)) (behindHead (c .rest))) → Fits (callHead end marks c) (CallRead h) r
+    pub fits-call : (h : Trees (at (memberPhase (around marks Σ)) F) → Expression) → c .number ≡ 0
+        → r ≡ unlessAt (fault (c .parts) (note fine true)) (headPlace end (c .rest)) (readOn end (at (memberPhase (around marks Σ)) F) h (suc (c .parts)) (behindHead (c .rest)))
+        → Fits (callHead end marks c) (CallRead h) r
     unfolding callHead atMember atCallOpen passPart passMember pass
     fits-call h z e =
         let d = around marks Σ in

@@ -1,13 +1,15 @@
 -- What reading keeps, for every fuel, state and array: the arrays' lengths, the scope's cells below the depth, and how the counts move.
 -- Where nothing is refused, tokens are passed, and there are no more new records than new parts. Assumes nothing.
-use mathlib.Core.Path.{_≡_, refl, _∙_}
+use mathlib.Core.Path.{_≡_, refl, ap, _∙_}
 use mathlib.Core.Bool.{Bool, true, false}
+use mathlib.Core.List.{List}
 use Prim.Native.Nat.{ℕ, zero, suc, _+_, _*_, _≤_, _<_, max}
 use native.Mathlib.Omega.{arith}
 use lib.Dec.{eqb, lit<}
 use lib.ListN.{length, getD, set, length-set}
 use borrow.Author.Tests.{eqb-true, eqb-false}
 use Rattle.language.specs.Names.{dataWord}
+use Rattle.grammar.specs.Tokens.{Located}
 use Rattle.table.specs.Memory.{Node}
 use Rattle.descent.specs.Cursor.{Cursor, inKind, dotKind, shutKind, wordKind, openKind, letKind, lambdaKind, commaKind, digitsKind}
 use Rattle.descent.specs.Cursor.{headWord, headValue, behindHead, isAt}
@@ -45,7 +47,8 @@ kept-less d p g o D P G O s s' l m n h =
       went = λ e. let z = h .went e in (omega arith, omega arith);
     }
 
-kept-next : (d p g o p' g' o' : ℕ) (s a b : State) → (b .cursor .number ≡ 0 → a .cursor .number ≡ 0) → Kept d p g o s a → Kept d p' g' o' a b → Kept d (p + p') (g + g') (o + o') s b
+kept-next : (d p g o p' g' o' : ℕ) (s a b : State) → (b .cursor .number ≡ 0 → a .cursor .number ≡ 0) → Kept d p g o s a → Kept d p' g' o' a b
+    → Kept d (p + p') (g + g') (o + o') s b
 kept-next d p g o p' g' o' s a b f h k =
     record {
       records = k .records ∙ h .records;
@@ -59,7 +62,7 @@ kept-next d p g o p' g' o' s a b f h k =
       went = λ e. let z = h .went (f e) in let y = k .went e in (omega arith, omega arith);
     }
 
-pub kept-then : (d p g o p' g' o' : ℕ) (s a : State) (k : State → State) → Kept d p g o s a → Kept d p' g' o' a (k a) → Kept d (p + p') (g + g') (o + o') s (then a k)
+kept-then : (d p g o p' g' o' : ℕ) (s a : State) (k : State → State) → Kept d p g o s a → Kept d p' g' o' a (k a) → Kept d (p + p') (g + g') (o + o') s (then a k)
 unfolding then
 kept-then d p g o p' g' o' s a k h j =
     by-test (Kept d (p + p') (g + g') (o + o') s) (eqb (a .cursor .number) 0) (λ _. k a) (λ _. a)
@@ -90,53 +93,40 @@ kept-moved d p g s c h =
       went = λ e. let z = h .went e in (z .0, omega (arith, h .count));
     }
 
-pub kept-put : (d p : ℕ) (n : Node) (s : State) → Kept d 0 0 1 s (put p n s)
-unfolding put counted
-kept-put d p n s =
+-- the cursor's tokens and parts stay, and so does the scope
+kept-stays : (d o : ℕ) (s s' : State) → length (s' .records) ≡ length (s .records) → length (s' .places) ≡ length (s .places) → s' .scope ≡ s .scope
+    → s' .cursor .parts ≡ s .cursor .parts → s' .cursor .rest ≡ s .cursor .rest → s .cursor .count ≤ s' .cursor .count → s' .cursor .count ≤ s .cursor .count + o → Kept d 0 0 o s s'
+kept-stays d o s s' r p sc e g l m =
+    let n = ap (λ (xs : List Located). length xs) g in
     record {
-      records = simp length-set;
-      places = simp length-set;
-      scope = refl;
-      below = λ i j. refl;
+      records = r;
+      places = p;
+      scope = ap (λ (xs : List ℕ). length xs) sc;
+      below = λ i _. ap (λ xs. getD xs i 0) sc;
       parts = omega arith;
       most = omega arith;
-      count = omega arith;
+      count = l;
       rest = omega arith;
-      went = λ e. (omega arith, omega arith);
+      went = λ _. (omega arith, omega arith);
     }
+
+kept-put : (d p : ℕ) (n : Node) (s : State) → Kept d 0 0 1 s (put p n s)
+unfolding put counted
+kept-put d p n s = kept-stays d 1 s _ (simp length-set) (simp length-set) refl refl refl (omega arith) (omega arith)
 
 kept-link : (d p j : ℕ) (s : State) → Kept d 0 0 1 s (link p j s)
 unfolding link rooted
-kept-link d p j s =
-    record {
-      records = refl;
-      places = simp length-set;
-      scope = refl;
-      below = λ i j. refl;
-      parts = omega arith;
-      most = omega arith;
-      count = omega arith;
-      rest = omega arith;
-      went = λ e. (omega arith, omega arith);
-    }
+kept-link d p j s = kept-stays d 1 s _ refl (simp length-set) refl refl refl (omega arith) (omega arith)
 
-pub kept-mark : (d p : ℕ) (s : State) → Kept d 0 0 0 s (mark p s)
+kept-mark : (d p : ℕ) (s : State) → Kept d 0 0 0 s (mark p s)
 unfolding mark
-kept-mark d p s =
-    record {
-      records = refl;
-      places = simp length-set;
-      scope = refl;
-      below = λ i j. refl;
-      parts = omega arith;
-      most = omega arith;
-      count = omega arith;
-      rest = omega arith;
-      went = λ e. (omega arith, omega arith);
-    }
+kept-mark d p s = kept-stays d 0 s _ refl (simp length-set) refl refl refl (omega arith) (omega arith)
+
+kept-same : (d : ℕ) (s : State) → Kept d 0 0 0 s s
+kept-same d s = kept-stays d 0 s s refl refl refl refl refl (omega arith) (omega arith)
 
 -- behind a binder that is entered at depth d
-pub kept-enter : (d p g o x j : ℕ) (a b : State) → Kept (suc d) p g o (enter d x j a) b → Kept d p g o a b
+kept-enter : (d p g o x j : ℕ) (a b : State) → Kept (suc d) p g o (enter d x j a) b → Kept d p g o a b
 unfolding enter
 kept-enter d p g o x j a b h =
     record {
@@ -151,21 +141,7 @@ kept-enter d p g o x j a b h =
       went = h .went;
     }
 
-kept-same : (d : ℕ) (s : State) → Kept d 0 0 0 s s
-kept-same d s =
-    record {
-      records = refl;
-      places = refl;
-      scope = refl;
-      below = λ i j. refl;
-      parts = omega arith;
-      most = omega arith;
-      count = omega arith;
-      rest = omega arith;
-      went = λ e. (omega arith, omega arith);
-    }
-
-pub kept-name : (d p x depth : ℕ) (s : State) → Kept d 0 0 1 s (putName p x depth s)
+kept-name : (d p x depth : ℕ) (s : State) → Kept d 0 0 1 s (putName p x depth s)
 unfolding putName putScoped putBound dataWord
 kept-name d p x depth s =
     by-test (Kept d 0 0 1 s) _ _ _ (λ _. kept-put d p _ s) (λ _.

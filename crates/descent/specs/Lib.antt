@@ -16,6 +16,9 @@ pub mod Same
 pub mod PartPlaces
 pub mod Linked
 pub mod Decoding
+pub mod Keys
 pub mod Theorems
 pub mod Fit
 pub mod FitRuns
+pub mod Paths
+pub mod PathsCalls

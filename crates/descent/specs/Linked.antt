@@ -115,7 +115,8 @@ mutual
       let g = good-E e Σ t l h in
       good-then t E _ _ g (good-M x m f (E .root) (E .places) Σ (E .records) (omega (arith, g .grows)) (g .root) (below-more Σ (length t) (length (E .records)) (g .grows) l) (g .earlier))
 
-  good-M : (x : More) (m : List ℕ) (f a : ℕ) (ps : List ℕ) (Σ : List Named) (t : List Node) → f < length t → a < length t → Below Σ (length t) → Earlier 0 t → Good t (recordM x m f a ps Σ t)
+  good-M : (x : More) (m : List ℕ) (f a : ℕ) (ps : List ℕ) (Σ : List Named) (t : List Node) → f < length t → a < length t → Below Σ (length t) → Earlier 0 t
+      → Good t (recordM x m f a ps Σ t)
   good-M (last r) m f a ps Σ t i j l h =
       let N = newRecord (node (memberKind (member m)) 0 (suc f) (suc a)) t [] in
       let g : Good t N = good-new t _ [] h (member-kind m) i j in

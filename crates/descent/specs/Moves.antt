@@ -92,7 +92,8 @@ module _ (end : ℕ) where
   moved-part c m l = record { count = refl; root = refl; parts = omega arith; most = omega arith; rest = omega arith; went = λ z. (l, omega arith) }
 
   -- a part whose refusal n ends in that of the 129th
-  judged-part : (n : ℕ) (c : Cursor) → (n ≡ 0 → atPart (c .parts) ≡ 0) → length (behindHead (c .rest)) + 1 ≤ length (c .rest) → Moved 1 1 c (judge end n c (λ _. passPart c))
+  judged-part : (n : ℕ) (c : Cursor) → (n ≡ 0 → atPart (c .parts) ≡ 0) → length (behindHead (c .rest)) + 1 ≤ length (c .rest)
+      → Moved 1 1 c (judge end n c (λ _. passPart c))
   judged-part n c f l = moved-judge n 1 1 c (λ _. passPart c) (λ e. moved-part c (part-fits (c .parts) (f e)) l)
 
   pub moved-need : (k : ℕ) (c : Cursor) → 0 < k → Moved 1 0 c (need end k c)
@@ -100,11 +101,13 @@ module _ (end : ℕ) where
   moved-need k c l = moved-judge (atMark k (c .rest)) 1 0 c (λ _. pass c) (λ e. moved-pass c (behind-some k (c .rest) l (was-due (isAt k (c .rest)) 0 4 e .0)))
 
   -- a name in use, and a number
-  pub moved-name-part : (w : Bool) (x : List ℕ) (c : Cursor) → length (behindHead (c .rest)) + 1 ≤ length (c .rest) → Moved 1 1 c (judge end (atName w x (c .parts)) c (λ _. passPart c))
+  pub moved-name-part : (w : Bool) (x : List ℕ) (c : Cursor) → length (behindHead (c .rest)) + 1 ≤ length (c .rest)
+      → Moved 1 1 c (judge end (atName w x (c .parts)) c (λ _. passPart c))
   unfolding atName
   moved-name-part w x c = judged-part (atName w x (c .parts)) c (λ e. not-refused w 8 _ (not-refused (isLong x) 6 _ e .1) .1)
 
-  pub moved-number-part : (w : Bool) (z : ℤ) (c : Cursor) → length (behindHead (c .rest)) + 1 ≤ length (c .rest) → Moved 1 1 c (judge end (atNumber w z (c .parts)) c (λ _. passPart c))
+  pub moved-number-part : (w : Bool) (z : ℤ) (c : Cursor) → length (behindHead (c .rest)) + 1 ≤ length (c .rest)
+      → Moved 1 1 c (judge end (atNumber w z (c .parts)) c (λ _. passPart c))
   unfolding atNumber
   moved-number-part w z c = judged-part (atNumber w z (c .parts)) c (λ e. not-refused w 8 _ (not-refused (isOutside z) 5 _ e .1) .1)
 
@@ -117,7 +120,8 @@ module _ (end : ℕ) where
       (moved-judge _ 1 0 _ _ (λ e. moved-name _ (behind-some wordKind _ (lit< tt) (was-due _ _ 4 e .0))))
       (moved-need equalsKind _ (lit< tt)))
 
-  pub moved-lambda : (w : Bool) (marks depth : ℕ) (scope : List ℕ) (c : Cursor) → length (behindHead (c .rest)) + 1 ≤ length (c .rest) → Moved 3 1 c (lambdaHead end w marks depth scope c)
+  pub moved-lambda : (w : Bool) (marks depth : ℕ) (scope : List ℕ) (c : Cursor) → length (behindHead (c .rest)) + 1 ≤ length (c .rest)
+      → Moved 3 1 c (lambdaHead end w marks depth scope c)
   unfolding lambdaHead atLambda atLambdaName
   moved-lambda w marks depth scope c l =
       moved-next 1 1 2 0 c _ _

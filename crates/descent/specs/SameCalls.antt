@@ -32,7 +32,11 @@ use Rattle.descent.specs.Fitting.{FitsAt, at-then, at-moved, at-map, at-
 
 module _ (end : ℕ) (R : List ℕ) (f : ℕ) (ih : Same end R f) (marks depth : ℕ) (s : State) (Σ : List Named) (t : List Node) (F : List Frame) (r : Reading) (ready : Ready R Σ t marks depth s) where
   -- the ) of a call whose arguments' parts ps are written
-  shut-fits : (k : Call) (m : List ℕ) (j : ℕ) (B ps : List ℕ) (h : Calls × Outer F → Expression) → k .kind ≡ memberKind (member m) → k .argument ≡ j → s .places ≡ puts B (suc (k .place)) ps → s .cursor .parts ≡ suc (k .place) + length ps → isAt shutKind (s .cursor .rest) ≡ true → r ≡ unlessAt (fault (s .cursor .parts) (note (callFault (leb 1 (k .takes))) false)) (headPlace end (s .cursor .rest)) (readOn end (at (calls (around marks Σ)) F) h (s .cursor .parts) (behindHead (s .cursor .rest))) → 2 * length (s .cursor .rest) < suc f → FitsAt (readShut end k s) (Atom end R f marks depth Σ F r B (k .place) (newRecord (node (memberKind (member m)) 0 (suc (k .receiver)) j) t (length t ∷ ps)) h) r
+  shut-fits : (k : Call) (m : List ℕ) (j : ℕ) (B ps : List ℕ) (h : Calls × Outer F → Expression) → k .kind ≡ memberKind (member m) → k .argument ≡ j
+      → s .places ≡ puts B (suc (k .place)) ps → s .cursor .parts ≡ suc (k .place) + length ps → isAt shutKind (s .cursor .rest) ≡ true
+      → r ≡ unlessAt (fault (s .cursor .parts) (note (callFault (leb 1 (k .takes))) false)) (headPlace end (s .cursor .rest)) (readOn end (at (calls (around marks Σ)) F) h (s .cursor .parts) (behindHead (s .cursor .rest)))
+      → 2 * length (s .cursor .rest) < suc f
+      → FitsAt (readShut end k s) (Atom end R f marks depth Σ F r B (k .place) (newRecord (node (memberKind (member m)) 0 (suc (k .receiver)) j) t (length t ∷ ps)) h) r
   unfolding readShut atShut pass put counted
   shut-fits k m j B ps h ek ej ep eq b e l =
       let c = s .cursor in
@@ -53,7 +57,9 @@ module _ (end : ℕ) (R : List ℕ) (f : ℕ) (ih : Same end R f) (marks depth :
         less = omega arith;
       }))
 
-  pub same-calls : (j : ℕ) (h : Calls × Outer F → Expression) → s .cursor .root ≡ j → r ≡ readOn end (at (calls (around marks Σ)) F) h (s .cursor .parts) (s .cursor .rest) → 2 * length (s .cursor .rest) < suc f → FitsAt (readCalls end (run end f) marks depth s) (Read end R (s .places) (s .cursor .parts) (λ q. recordC q j Σ t) F (λ q o. h (q, o)) r) r
+  pub same-calls : (j : ℕ) (h : Calls × Outer F → Expression) → s .cursor .root ≡ j
+      → r ≡ readOn end (at (calls (around marks Σ)) F) h (s .cursor .parts) (s .cursor .rest) → 2 * length (s .cursor .rest) < suc f
+      → FitsAt (readCalls end (run end f) marks depth s) (Read end R (s .places) (s .cursor .parts) (λ q. recordC q j Σ t) F (λ q o. h (q, o)) r) r
   unfolding readCalls recordC puts
   same-calls j h ej e l =
       let c = s .cursor in
@@ -76,7 +82,10 @@ module _ (end : ℕ) (R : List ℕ) (f : ℕ) (ih : Same end R f) (marks depth :
         onward = e;
       }))
 
-  pub same-arguments : (k : Call) (m : List ℕ) (h : Arguments × Outer F → Expression) → k .kind ≡ memberKind (member m) → k .argument ≡ 0 → s .cursor .parts ≡ suc (k .place) → r ≡ readOn end (at (arguments (k .takes) (around marks Σ)) F) h (s .cursor .parts) (s .cursor .rest) → 2 * length (s .cursor .rest) + 1 < suc f → FitsAt (readArguments end (run end f) k marks depth s) (Read end R (s .places) (k .place) (λ a. recordA a m (k .receiver) Σ t) F (λ a o. h (a, o)) r) r
+  pub same-arguments : (k : Call) (m : List ℕ) (h : Arguments × Outer F → Expression) → k .kind ≡ memberKind (member m) → k .argument ≡ 0
+      → s .cursor .parts ≡ suc (k .place) → r ≡ readOn end (at (arguments (k .takes) (around marks Σ)) F) h (s .cursor .parts) (s .cursor .rest)
+      → 2 * length (s .cursor .rest) + 1 < suc f
+      → FitsAt (readArguments end (run end f) k marks depth s) (Read end R (s .places) (k .place) (λ a. recordA a m (k .receiver) Σ t) F (λ a o. h (a, o)) r) r
   unfolding readArguments recordA opened puts
   same-arguments k m h ek ej ep e l =
       let c = s .cursor in
@@ -99,7 +108,10 @@ module _ (end : ℕ) (R : List ℕ) (f : ℕ) (ih : Same end R f) (marks depth :
       (ready-wrote R Σ t marks depth s ready 1 0 0 _ _ A W K y (v .wrote)) (v .onward) (let G = K .rest in omega arith))
       (λ q. record { tree = first (v .tree) (q .tree); wrote = q .wrote; onward = q .onward })))
 
-  pub same-more : (k : Call) (m : List ℕ) (a : ℕ) (ps B : List ℕ) (h : Unit {0} × (More × Outer F) → Expression) → k .kind ≡ memberKind (member m) → k .argument ≡ suc a → s .places ≡ puts B (suc (k .place)) ps → s .cursor .parts ≡ suc (k .place) + length ps → r ≡ readOn end (at over (argument (k .takes) (around marks Σ) ∷ F)) h (s .cursor .parts) (s .cursor .rest) → 2 * length (s .cursor .rest) < suc f → FitsAt (readMore end (run end f) k marks depth s) (Read end R B (k .place) (λ x. recordM x m (k .receiver) a ps Σ t) F (λ x o. h (tt, (x, o))) r) r
+  pub same-more : (k : Call) (m : List ℕ) (a : ℕ) (ps B : List ℕ) (h : Unit {0} × (More × Outer F) → Expression) → k .kind ≡ memberKind (member m) → k .argument ≡ suc a
+      → s .places ≡ puts B (suc (k .place)) ps → s .cursor .parts ≡ suc (k .place) + length ps
+      → r ≡ readOn end (at over (argument (k .takes) (around marks Σ) ∷ F)) h (s .cursor .parts) (s .cursor .rest) → 2 * length (s .cursor .rest) < suc f
+      → FitsAt (readMore end (run end f) k marks depth s) (Read end R B (k .place) (λ x. recordM x m (k .receiver) a ps Σ t) F (λ x o. h (tt, (x, o))) r) r
   unfolding readMore recordM opened pass atComma
   same-more k m a ps B h ek ej ep eq e l =
       let c = s .cursor in

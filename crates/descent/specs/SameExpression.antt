@@ -31,7 +31,10 @@ use Rattle.descent.specs.Wrote.{Ready, ready-moved, ready-marks, ready-w
 use Rattle.descent.specs.Fitting.{FitsAt, at-then, at-moved, at-map, at-here, at-choice, at-refused, Read, Same, calls-behind, atom-calls}
 
 module _ (end : ℕ) (R : List ℕ) (f : ℕ) (ih : Same end R f) (marks depth : ℕ) (s : State) (Σ : List Named) (t : List Node) (F : List Frame) (r : Reading) (ready : Ready R Σ t marks depth s) where
-  same-let : (w : Bool) (h : Expression × Outer F → Expression) → isAt letKind (s .cursor .rest) ≡ true → r ≡ unlessAt (fault (s .cursor .parts) (note (markFault w (around marks Σ)) true)) (headPlace end (s .cursor .rest)) (readOn end (at (letName (around marks Σ)) F) (λ q. h (letIn (q .0 .0) (q .0 .1) (q .0 .2), q .1)) (suc (s .cursor .parts)) (behindHead (s .cursor .rest))) → 2 * length (s .cursor .rest) < suc f → FitsAt (readLet end (run end f) w marks depth s) (Read end R (s .places) (s .cursor .parts) (λ e. recordE e Σ t) F (λ e o. h (e, o)) r) r
+  same-let : (w : Bool) (h : Expression × Outer F → Expression) → isAt letKind (s .cursor .rest) ≡ true
+      → r ≡ unlessAt (fault (s .cursor .parts) (note (markFault w (around marks Σ)) true)) (headPlace end (s .cursor .rest)) (readOn end (at (letName (around marks Σ)) F) (λ q. h (letIn (q .0 .0) (q .0 .1) (q .0 .2), q .1)) (suc (s .cursor .parts)) (behindHead (s .cursor .rest)))
+      → 2 * length (s .cursor .rest) < suc f
+      → FitsAt (readLet end (run end f) w marks depth s) (Read end R (s .places) (s .cursor .parts) (λ e. recordE e Σ t) F (λ e o. h (e, o)) r) r
   unfolding readLet recordE inLet opened bindersOf pass enter mark
   same-let w h b e l =
       let c = s .cursor in
@@ -67,7 +70,10 @@ module _ (end : ℕ) (R : List ℕ) (f : ℕ) (ih : Same end R f) (marks depth :
         onward = q .onward;
       })))))
 
-  same-lambda : (w : Bool) (h : Expression × Outer F → Expression) → isAt lambdaKind (s .cursor .rest) ≡ true → r ≡ unlessAt (fault (s .cursor .parts) (note (lambdaFault w (around marks Σ)) true)) (headPlace end (s .cursor .rest)) (readOn end (at (lambdaName (around marks Σ)) F) (λ q. h (lambda (q .0 .0) (q .0 .1), q .1)) (suc (s .cursor .parts)) (behindHead (s .cursor .rest))) → 2 * length (s .cursor .rest) < suc f → FitsAt (readLambda end (run end f) w marks depth s) (Read end R (s .places) (s .cursor .parts) (λ e. recordE e Σ t) F (λ e o. h (e, o)) r) r
+  same-lambda : (w : Bool) (h : Expression × Outer F → Expression) → isAt lambdaKind (s .cursor .rest) ≡ true
+      → r ≡ unlessAt (fault (s .cursor .parts) (note (lambdaFault w (around marks Σ)) true)) (headPlace end (s .cursor .rest)) (readOn end (at (lambdaName (around marks Σ)) F) (λ q. h (lambda (q .0 .0) (q .0 .1), q .1)) (suc (s .cursor .parts)) (behindHead (s .cursor .rest)))
+      → 2 * length (s .cursor .rest) < suc f
+      → FitsAt (readLambda end (run end f) w marks depth s) (Read end R (s .places) (s .cursor .parts) (λ e. recordE e Σ t) F (λ e o. h (e, o)) r) r
   unfolding readLambda recordE inLambda bindersOf enter put counted
   same-lambda w h b e l =
       let c = s .cursor in
@@ -96,7 +102,10 @@ module _ (end : ℕ) (R : List ℕ) (f : ℕ) (ih : Same end R f) (marks depth :
         onward = q .onward;
       })))
 
-  same-bracket : (w : Bool) (h : Expression × Outer F → Expression) → isAt openKind (s .cursor .rest) ≡ true → r ≡ unlessAt (fault (s .cursor .parts) (note (markFault w (around marks Σ)) false)) (headPlace end (s .cursor .rest)) (readOn end (at (expression false (opened (around marks Σ))) (brackets (around marks Σ) ∷ F)) (λ q. h (bracket (q .0) (q .1 .0), q .1 .1)) (s .cursor .parts) (behindHead (s .cursor .rest))) → 2 * length (s .cursor .rest) < suc f → FitsAt (readBracket end (run end f) w marks depth s) (Read end R (s .places) (s .cursor .parts) (λ e. recordE e Σ t) F (λ e o. h (e, o)) r) r
+  same-bracket : (w : Bool) (h : Expression × Outer F → Expression) → isAt openKind (s .cursor .rest) ≡ true
+      → r ≡ unlessAt (fault (s .cursor .parts) (note (markFault w (around marks Σ)) false)) (headPlace end (s .cursor .rest)) (readOn end (at (expression false (opened (around marks Σ))) (brackets (around marks Σ) ∷ F)) (λ q. h (bracket (q .0) (q .1 .0), q .1 .1)) (s .cursor .parts) (behindHead (s .cursor .rest)))
+      → 2 * length (s .cursor .rest) < suc f
+      → FitsAt (readBracket end (run end f) w marks depth s) (Read end R (s .places) (s .cursor .parts) (λ e. recordE e Σ t) F (λ e o. h (e, o)) r) r
   unfolding readBracket recordE opened pass
   same-bracket w h b e l =
       let c = s .cursor in
@@ -128,7 +137,10 @@ module _ (end : ℕ) (R : List ℕ) (f : ℕ) (ih : Same end R f) (marks depth :
         less = omega arith;
       })) (λ q. record { tree = bracket (v .tree) (q .tree); wrote = q .wrote; onward = q .onward }))))
 
-  same-name : (w : Bool) (h : Expression × Outer F → Expression) → isAt wordKind (s .cursor .rest) ≡ true → r ≡ unlessAt (fault (s .cursor .parts) (note (nameFault w (headWord (s .cursor .rest))) true)) (headPlace end (s .cursor .rest)) (readOn end (at (calls (around marks Σ)) F) (λ q. h (name (headWord (s .cursor .rest)) (q .0), q .1)) (suc (s .cursor .parts)) (behindHead (s .cursor .rest))) → 2 * length (s .cursor .rest) < suc f → FitsAt (then (readName end w depth s) (λ a. run end f (inCalls marks depth) a)) (Read end R (s .places) (s .cursor .parts) (λ e. recordE e Σ t) F (λ e o. h (e, o)) r) r
+  same-name : (w : Bool) (h : Expression × Outer F → Expression) → isAt wordKind (s .cursor .rest) ≡ true
+      → r ≡ unlessAt (fault (s .cursor .parts) (note (nameFault w (headWord (s .cursor .rest))) true)) (headPlace end (s .cursor .rest)) (readOn end (at (calls (around marks Σ)) F) (λ q. h (name (headWord (s .cursor .rest)) (q .0), q .1)) (suc (s .cursor .parts)) (behindHead (s .cursor .rest)))
+      → 2 * length (s .cursor .rest) < suc f
+      → FitsAt (then (readName end w depth s) (λ a. run end f (inCalls marks depth) a)) (Read end R (s .places) (s .cursor .parts) (λ e. recordE e Σ t) F (λ e o. h (e, o)) r) r
   unfolding readName recordE passPart
   same-name w h b e l =
       let c = s .cursor in
@@ -159,7 +171,10 @@ module _ (end : ℕ) (R : List ℕ) (f : ℕ) (ih : Same end R f) (marks depth :
         less = rw S0 (omega arith);
       })))) (λ q. record { tree = name x (q .tree); wrote = q .wrote; onward = q .onward })
 
-  same-number : (w : Bool) (h : Expression × Outer F → Expression) → isAt digitsKind (s .cursor .rest) ≡ true → r ≡ unlessAt (fault (s .cursor .parts) (note (literalFault w (headValue (s .cursor .rest))) true)) (headPlace end (s .cursor .rest)) (readOn end (at (calls (around marks Σ)) F) (λ q. h (literal (headValue (s .cursor .rest)) (q .0), q .1)) (suc (s .cursor .parts)) (behindHead (s .cursor .rest))) → 2 * length (s .cursor .rest) < suc f → FitsAt (then (readNumber end w s) (λ a. run end f (inCalls marks depth) a)) (Read end R (s .places) (s .cursor .parts) (λ e. recordE e Σ t) F (λ e o. h (e, o)) r) r
+  same-number : (w : Bool) (h : Expression × Outer F → Expression) → isAt digitsKind (s .cursor .rest) ≡ true
+      → r ≡ unlessAt (fault (s .cursor .parts) (note (literalFault w (headValue (s .cursor .rest))) true)) (headPlace end (s .cursor .rest)) (readOn end (at (calls (around marks Σ)) F) (λ q. h (literal (headValue (s .cursor .rest)) (q .0), q .1)) (suc (s .cursor .parts)) (behindHead (s .cursor .rest)))
+      → 2 * length (s .cursor .rest) < suc f
+      → FitsAt (then (readNumber end w s) (λ a. run end f (inCalls marks depth) a)) (Read end R (s .places) (s .cursor .parts) (λ e. recordE e Σ t) F (λ e o. h (e, o)) r) r
   unfolding readNumber recordE passPart put counted puts
   same-number w h b e l =
       let c = s .cursor in
@@ -186,7 +201,9 @@ module _ (end : ℕ) (R : List ℕ) (f : ℕ) (ih : Same end R f) (marks depth :
         less = omega arith;
       })))) (λ q. record { tree = literal v (q .tree); wrote = q .wrote; onward = q .onward })
 
-  pub same-expression : (w : Bool) (h : Expression × Outer F → Expression) → r ≡ readOn end (at (expression w (around marks Σ)) F) h (s .cursor .parts) (s .cursor .rest) → 2 * length (s .cursor .rest) < suc f → FitsAt (readExpression end (run end f) w marks depth s) (Read end R (s .places) (s .cursor .parts) (λ e. recordE e Σ t) F (λ e o. h (e, o)) r) r
+  pub same-expression : (w : Bool) (h : Expression × Outer F → Expression) → r ≡ readOn end (at (expression w (around marks Σ)) F) h (s .cursor .parts) (s .cursor .rest)
+      → 2 * length (s .cursor .rest) < suc f
+      → FitsAt (readExpression end (run end f) w marks depth s) (Read end R (s .places) (s .cursor .parts) (λ e. recordE e Σ t) F (λ e o. h (e, o)) r) r
   unfolding readExpression
   same-expression w h e l =
       at-choice _ _ _ _ _ _ r (e ∙ front-expression end w (around marks Σ) F h (s .cursor .parts) (s .cursor .rest)) (λ b e. same-let w h b e l) (λ _ e.

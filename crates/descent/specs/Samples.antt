@@ -25,7 +25,10 @@ outcomes : List String → List (List ℕ)
 unfolding outcome onNines
 outcomes ts = map (λ t. outcome (onNines t)) ts
 
-samples : outcomes ("let x = 2 in data.skip(1).take(x)" ∷ "data." ∷ "\\a -> \\b -> \\c -> 1" ∷ "data.skip()" ∷ "heartrate" ∷ "((((((((((((((((1" ∷ "(((((((((((((((((1" ∷ "data.count(in" ∷ "data.count(a" ∷ [])
+-- what is read of each text; and the places of the first, 4 0 1 3 2 4 0 and then what was there
+samples :
+    (outcomes
+    ("let x = 2 in data.skip(1).take(x)" ∷ "data." ∷ "\\a -> \\b -> \\c -> 1" ∷ "data.skip()" ∷ "heartrate" ∷ "((((((((((((((((1" ∷ "(((((((((((((((((1" ∷ "data.count(in" ∷ "data.count(a" ∷ [])
     ≡ (0 ∷ 0 ∷ 7 ∷ 5 ∷ 4 ∷ [])
     ∷ (5 ∷ 5 ∷ 2 ∷ 1 ∷ 0 ∷ [])
     ∷ (10 ∷ 12 ∷ 2 ∷ 0 ∷ 0 ∷ [])
@@ -35,11 +38,7 @@ samples : outcomes ("let x = 2 in data.skip(1).take(x)" ∷ "data." ∷ "\\a -> 
     ∷ (12 ∷ 16 ∷ 0 ∷ 0 ∷ 0 ∷ [])
     ∷ (5 ∷ 11 ∷ 2 ∷ 1 ∷ 0 ∷ [])
     ∷ (9 ∷ 11 ∷ 2 ∷ 1 ∷ 0 ∷ [])
-    ∷ []
+    ∷ [])
+    × (take 8 (onNines "let x = 2 in data.skip(1).take(x)" .places) ≡ 4 ∷ 0 ∷ 1 ∷ 3 ∷ 2 ∷ 4 ∷ 0 ∷ 9 ∷ [])
 unfolding outcomes outcome onNines bytes letWord inWord! dataWord isData packOnto row sameBytes namedIn memberOf takes member when leading decimalOnto wordToken wordAt digitsAt minusAt markToken tokenAt scan kindOf wordOf valueOf headKind headWord headValue headPlace behindHead binderOf lambdasIn lambdaIn atPart atLet atLambda atBracket atName atNumber atMark atLetName atLambdaName atMember atCallOpen atShut atComma pass passPart passName passMember refuse judge next need letHead lambdaHead callHead then linkWord counted rooted put link mark enter putBound putScoped putName readName readNumber readShut readLet readLambda readBracket readExpression readCalls readArguments readMore step run ended readWith
-samples = refl
-
--- the cells: of "let x = 2 in data.skip(1).take(x)" places 4 0 1 3 2 4 0, then what was there
-cells : take 8 (onNines "let x = 2 in data.skip(1).take(x)" .places) ≡ 4 ∷ 0 ∷ 1 ∷ 3 ∷ 2 ∷ 4 ∷ 0 ∷ 9 ∷ []
-unfolding onNines bytes letWord inWord! dataWord isData packOnto row sameBytes namedIn memberOf takes member when leading decimalOnto wordToken wordAt digitsAt minusAt markToken tokenAt scan kindOf wordOf valueOf headKind headWord headValue headPlace behindHead binderOf lambdasIn lambdaIn atPart atLet atLambda atBracket atName atNumber atMark atLetName atLambdaName atMember atCallOpen atShut atComma pass passPart passName passMember refuse judge next need letHead lambdaHead callHead then linkWord counted rooted put link mark enter putBound putScoped putName readName readNumber readShut readLet readLambda readBracket readExpression readCalls readArguments readMore step run ended readWith
-cells = refl
+samples = (refl, refl)

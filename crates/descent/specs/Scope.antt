@@ -27,14 +27,16 @@ Holds [] (suc b) scope = ⊥
 Holds (e ∷ Σ) zero scope = ⊥
 Holds (e ∷ Σ) (suc b) scope = (binderName scope b ≡ packed (e .name)) × (binderLink scope b ≡ e .link) × Holds Σ b scope
 
-pub holds-kept : (Σ : List Named) (depth : ℕ) (scope scope' : List ℕ) → ((i : ℕ) → i < 2 * depth → getD scope' i 0 ≡ getD scope i 0) → Holds Σ depth scope → Holds Σ depth scope'
+pub holds-kept : (Σ : List Named) (depth : ℕ) (scope scope' : List ℕ) → ((i : ℕ) → i < 2 * depth → getD scope' i 0 ≡ getD scope i 0) → Holds Σ depth scope
+    → Holds Σ depth scope'
 holds-kept [] zero scope scope' f h = tt
 holds-kept [] (suc b) scope scope' f h = h
 holds-kept (e ∷ Σ) zero scope scope' f h = h
 holds-kept (e ∷ Σ) (suc b) scope scope' f h =
     (f (2 * b) (omega arith) ∙ h .0, f (2 * b + 1) (omega arith) ∙ h .1, holds-kept Σ b scope scope' (λ i l. f i (omega arith)) (h .2))
 
-pub holds-entered : (Σ : List Named) (depth : ℕ) (scope x : List ℕ) (j : ℕ) → 2 * depth + 1 < length scope → Holds Σ depth scope → Holds (stands x j ∷ Σ) (suc depth) (set (set scope (2 * depth) (packed x)) (2 * depth + 1) j)
+pub holds-entered : (Σ : List Named) (depth : ℕ) (scope x : List ℕ) (j : ℕ) → 2 * depth + 1 < length scope → Holds Σ depth scope
+    → Holds (stands x j ∷ Σ) (suc depth) (set (set scope (2 * depth) (packed x)) (2 * depth + 1) j)
 holds-entered Σ depth scope x j l h =
     let one = set scope (2 * depth) (packed x) in
     let n : length one ≡ length scope = length-set scope (2 * depth) (packed x) in (
@@ -49,7 +51,8 @@ abbrev pub foundAt : List ℕ → List ℕ → List Node → ℕ → Recorded
 foundAt scope x t zero = newRecord (node unboundKind (packed x) 0 0) t (length t ∷ [])
 foundAt scope x t (suc b) = linked (binderLink scope b) x t
 
-pub scoped-is : (x : List ℕ) (t : List Node) (Σ : List Named) (depth : ℕ) (scope : List ℕ) → Holds Σ depth scope → recordScoped x Σ t ≡ foundAt scope x t (binderOf scope (packed x) depth)
+pub scoped-is : (x : List ℕ) (t : List Node) (Σ : List Named) (depth : ℕ) (scope : List ℕ) → Holds Σ depth scope
+    → recordScoped x Σ t ≡ foundAt scope x t (binderOf scope (packed x) depth)
 unfolding recordScoped binderOf when
 scoped-is x t [] zero scope h = refl
 scoped-is x t [] (suc b) scope h = absurd h
@@ -59,7 +62,8 @@ scoped-is x t (e ∷ Σ) (suc b) scope h =
     let l = h .1 in
     rw (n, ← l) (by (eqb (packed x) (packed (e .name))) (scoped-is x t Σ b scope (h .2)))
   where
-    by : (q : Bool) → recordScoped x Σ t ≡ foundAt scope x t (binderOf scope (packed x) b) → pickRecorded q (linked (binderLink scope b) x t) (recordScoped x Σ t) ≡ foundAt scope x t (when q (λ _. suc b) (λ _. binderOf scope (packed x) b))
+    by : (q : Bool) → recordScoped x Σ t ≡ foundAt scope x t (binderOf scope (packed x) b)
+        → pickRecorded q (linked (binderLink scope b) x t) (recordScoped x Σ t) ≡ foundAt scope x t (when q (λ _. suc b) (λ _. binderOf scope (packed x) b))
     by true i = refl
     by false i = i
 
@@ -93,7 +97,8 @@ lambda-is x [] (suc b) scope h = absurd h
 lambda-is x (e ∷ Σ) zero scope h = absurd h
 lambda-is x (e ∷ Σ) (suc b) scope h = let n = h .0 in let l = h .1 in rw (l, n, lambda-is x Σ b scope (h .2)) (by (e .link))
   where
-    by : (j : ℕ) → cond (eqb j 0) (eqb (packed x) (packed (e .name)) || lambdaNamed x (bindersOf Σ)) (lambdaNamed x (bindersOf Σ)) ≡ lambdaNamed x (binderAs j (e .name) ∷ bindersOf Σ)
+    by : (j : ℕ)
+        → cond (eqb j 0) (eqb (packed x) (packed (e .name)) || lambdaNamed x (bindersOf Σ)) (lambdaNamed x (bindersOf Σ)) ≡ lambdaNamed x (binderAs j (e .name) ∷ bindersOf Σ)
     by zero = refl
     by (suc j) = rw (eqb·suc-zero j)
 
@@ -120,11 +125,13 @@ module _ (c marks : ℕ) (Σ : List Named) where
       by false true = refl
       by false false = refl
 
-  pub lambda-number : (w : Bool) (depth : ℕ) (scope : List ℕ) → Holds Σ depth scope → atLambda w (lambdasIn scope depth) marks c ≡ fault c (note (lambdaFault w (around marks Σ)) true)
+  pub lambda-number : (w : Bool) (depth : ℕ) (scope : List ℕ) → Holds Σ depth scope
+      → atLambda w (lambdasIn scope depth) marks c ≡ fault c (note (lambdaFault w (around marks Σ)) true)
   unfolding atLambda fault lambdaFault faultNumber
   lambda-number w depth scope h = rw (part-number, lambdas-are Σ depth scope h) (by w (leb 2 (lambdasOf (bindersOf Σ))) (leb 16 marks))
     where
-      by : (w l a : Bool) → cond w 9 (cond l 10 (cond a 12 (orMany 0 (leb 128 c)))) ≡ orMany (faultNumber (ifSo w badCall (ifSo l manyLambdas (ifSo a tooMany fine)))) (leb 128 c)
+      by : (w l a : Bool)
+          → cond w 9 (cond l 10 (cond a 12 (orMany 0 (leb 128 c)))) ≡ orMany (faultNumber (ifSo w badCall (ifSo l manyLambdas (ifSo a tooMany fine)))) (leb 128 c)
       by true l a = refl
       by false true a = refl
       by false false true = refl
@@ -174,7 +181,8 @@ module _ (c marks : ℕ) (Σ : List Named) where
       by false true = refl
       by false false = refl
 
-  pub lambda-name-number : (x : List ℕ) (depth : ℕ) (scope : List ℕ) → Holds Σ depth scope → cond (isLong x) 7 (cond (isData x) 8 (cond (lambdaIn scope (packed x) depth) 11 0)) ≡ fault c (note (lambdaNameFault x (around marks Σ)) false)
+  pub lambda-name-number : (x : List ℕ) (depth : ℕ) (scope : List ℕ) → Holds Σ depth scope
+      → cond (isLong x) 7 (cond (isData x) 8 (cond (lambdaIn scope (packed x) depth) 11 0)) ≡ fault c (note (lambdaNameFault x (around marks Σ)) false)
   unfolding fault lambdaNameFault faultNumber
   lambda-name-number x depth scope h = rw (lambda-is x Σ depth scope h) (by (isLong x) (isData x) (lambdaNamed x (bindersOf Σ)))
     where

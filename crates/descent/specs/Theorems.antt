@@ -3,23 +3,24 @@
 use mathlib.Core.Path.{_≡_, refl, sym, ap, ap₂, subst, _∙_}
 use mathlib.Core.Bool.{Bool, true, false}
 use mathlib.Core.List.{List, [], _∷_, _++_}
-use Prim.Native.Nat.{ℕ, _*_, _≤_, _<_}
+use Prim.Native.Nat.{ℕ, zero, suc, _-_, _*_, _≤_, _<_}
 use native.Mathlib.Omega.{arith}
 use lib.Dec.{eqb}
 use lib.ListN.{length, drop}
 use borrow.Author.Tests.{eqb-true, eqb-false}
-use Rattle.grammar.specs.Tokens.{Token, kLet, kIn, kEquals, kLambda, kArrow, kDot, kOpen, kShut, kComma, word, number, other, when, Located, tokens}
+use Rattle.language.specs.Names.{isBlank}
+use Rattle.grammar.specs.Tokens.{Token, kLet, kIn, kEquals, kLambda, kArrow, kDot, kOpen, kShut, kComma, word, number, other, when, tokenAt, Located, scan, tokens}
 use Rattle.grammar.specs.Grammar.{Expression}
 use Rattle.grammar.specs.KeptLimits.{partsE}
 use Rattle.grammar.specs.Reading.{Reading, tree, refused}
 use Rattle.grammar.specs.Machine.{at, over, Trees, finish, readText}
 use Rattle.records.specs.Records.{recordsOf}
 use Rattle.descent.specs.Cursor.{Cursor, endKind, kindOf, headKind, headPlace, isAt, atMark, judge}
-use Rattle.descent.specs.Descent.{State, moved, start, inExpression, run, ended, readWith}
+use Rattle.descent.specs.Descent.{State, moved, start, inExpression, run, ended, readWith, readInto}
 use Rattle.descent.specs.Cells.{puts, puts-all, words, length-words}
 use Rattle.descent.specs.Continued.{judgeAt, endedAt, readOn, text-on}
 use Rattle.descent.specs.Fronts.{due}
-use Rattle.descent.specs.Moves.{was-due}
+use Rattle.descent.specs.Moves.{by-test, was-due}
 use Rattle.descent.specs.Kept.{Kept, run-keeps, ended-keeps}
 use Rattle.descent.specs.Scope.{bindersOf}
 use Rattle.descent.specs.Heads.{fits-judge, fits-here, due-zero}
@@ -28,6 +29,7 @@ use Rattle.descent.specs.Fitting.{FitsAt, at-then, at-moved, at-map}
 use Rattle.descent.specs.Same.{same}
 use Rattle.descent.specs.PartPlaces.{places-E}
 use Rattle.descent.specs.Linked.{Good, records-linked}
+use Rattle.descent.specs.Keys.{SmallKeys, small-keys}
 use Rattle.descent.specs.Decoding.{recordsFrom, records-back}
 
 -- behind the whole expression nothing stands
@@ -89,11 +91,15 @@ pub record Held (R P : List ℕ) (e : Expression) (s : State) : Type 0 where
   -- the records read back, which lead to earlier ones
   pub decoded : recordsFrom (s .records) 0 (s .cursor .count) ≡ recordsOf e .records
   pub linked : Good [] (recordsOf e)
+  pub keys : SmallKeys (recordsOf e .records)
 
 -- what is read from a text into the arrays R and P
 pub record Result (text R P : List ℕ) (s : State) : Type 0 where
   pub reads : (e : Expression) → readText text ≡ tree e → Held R P e s
   pub refuses : (n p : ℕ) → readText text ≡ refused n p → (s .cursor .number ≡ n) × (s .cursor .place ≡ p)
+  -- and which of the two it was is told by the number
+  pub accepts : s .cursor .number ≡ 0 → (e : Expression) × (readText text ≡ tree e)
+  pub declines : ¬ (s .cursor .number ≡ 0) → readText text ≡ refused (s .cursor .number) (s .cursor .place)
 
 not-tree : {e : Expression} {n p : ℕ} → tree e ≡ refused n p → ⊥
 not-tree h = let z : _≡_ {A = ℕ} 0 1 = cc in omega arith
@@ -169,6 +175,7 @@ module _ (text R P S : List ℕ) (f : ℕ) (room : length S ≡ 32) (enough : 2 
         fewRecords = omega arith;
         decoded = ap₂ (λ cells n. recordsFrom cells 0 n) filled (w .count) ∙ records-back (Z .records) _ 0 (good .earlier) (omega (arith, w .count));
         linked = good;
+        keys = small-keys text e h;
       }
 
   pub reads : length R ≡ 256 → length P ≡ 128 → Result text R P after
@@ -178,7 +185,22 @@ module _ (text R P S : List ℕ) (f : ℕ) (room : length S ≡ 32) (enough : 2 
       by true q =
           let z = eqb-true (after .cursor .number) 0 q in
           let y = all-fits .goes z in
-          record { reads = held lr lp y z; refuses = λ n p h. absurd (not-tree (sym (y .is) ∙ h)) }
+          record { reads = held lr lp y z; refuses = λ n p h. absurd (not-tree (sym (y .is) ∙ h)); accepts = λ _. (y .e, y .is); declines = all-fits .stops }
       by false q =
           let h = all-fits .stops (eqb-false (after .cursor .number) 0 q) in
-          record { reads = λ e g. absurd (not-tree (sym g ∙ h)); refuses = λ n p g. same-refusal h g }
+          record { reads = λ e g. absurd (not-tree (sym g ∙ h)); refuses = λ n p g. same-refusal h g; accepts = λ z. absurd (eqb-false (after .cursor .number) 0 q z); declines = all-fits .stops }
+
+-- the reading that the code's contract cites
+pub into : (text R P S : List ℕ) → length R ≡ 256 → length P ≡ 128 → length S ≡ 32 → Result text R P (readInto text R P S)
+into text R P S lr lp ls = reads text R P S (suc (2 * length (tokens text))) ls (omega arith) lr lp
+
+-- no more tokens than bytes, so two for each byte, and one, is fuel enough
+pub scan-fewer : (bs : List ℕ) (inside place : ℕ) → length (scan inside place bs) ≤ length bs
+unfolding scan
+scan-fewer [] inside place = omega arith
+scan-fewer (b ∷ bs) (suc n) place = let h = scan-fewer bs n (suc place) in omega arith
+scan-fewer (b ∷ bs) zero place =
+    by-test (λ (xs : List Located). length xs ≤ suc (length bs)) (isBlank b) _ _ (λ _. let h = scan-fewer bs zero (suc place) in omega arith) (λ _. let h = scan-fewer bs (tokenAt b bs .width - 1) (suc place) in omega arith)
+
+pub reads-bytes : (text R P S : List ℕ) (f : ℕ) → length R ≡ 256 → length P ≡ 128 → length S ≡ 32 → 2 * length text < f → Result text R P (readWith f text R P S)
+reads-bytes text R P S f lr lp ls l = let h = scan-fewer text 0 0 in reads text R P S f ls (omega arith) lr lp

@@ -43,7 +43,8 @@ module _ (R : List ℕ) (Σ : List Named) (t : List Node) (marks depth : ℕ) (s
   pub ready-marks : (marks' : ℕ) → marks ≤ marks' → Ready R Σ t marks' depth s
   ready-marks marks' l = record { number = h .number; count = h .count; records = h .records; holds = h .holds; room = h .room; few = omega arith }
 
-  pub ready-wrote : (p g o q : ℕ) (B : List ℕ) (Z : Recorded) (s' : State) → Kept depth p g o s s' → s' .cursor .number ≡ 0 → Wrote R B q Z s' → Ready R Σ (Z .records) marks depth s'
+  pub ready-wrote : (p g o q : ℕ) (B : List ℕ) (Z : Recorded) (s' : State) → Kept depth p g o s s' → s' .cursor .number ≡ 0 → Wrote R B q Z s'
+      → Ready R Σ (Z .records) marks depth s'
   ready-wrote p g o q B Z s' k z w =
       record { number = z; count = w .count; records = w .records; holds = holds-kept Σ depth (s .scope) (s' .scope) (k .below) (h .holds); room = k .scope ∙ h .room; few = h .few }
 
@@ -61,7 +62,8 @@ module _ (R : List ℕ) (Σ : List Named) (t : List Node) (marks depth : ℕ) (s
       })
 
   -- a record for the part of place p, behind the parts ps that are written already
-  pub wrote-put : (m n : Node) (B : List ℕ) (p : ℕ) (ps : List ℕ) → m ≡ n → s .places ≡ puts B (suc p) ps → s .cursor .parts ≡ suc p + length ps → Wrote R B p (newRecord n t (length t ∷ ps)) (put p m s)
+  pub wrote-put : (m n : Node) (B : List ℕ) (p : ℕ) (ps : List ℕ) → m ≡ n → s .places ≡ puts B (suc p) ps → s .cursor .parts ≡ suc p + length ps
+      → Wrote R B p (newRecord n t (length t ∷ ps)) (put p m s)
   unfolding put counted
   wrote-put m n B p ps i e g =
       rw i (let c = h .count in
@@ -97,7 +99,8 @@ module _ (R : List ℕ) (Σ : List Named) (t : List Node) (marks depth : ℕ) (s
   wrote-name x p g =
       by (eqb (packed x) (packed dataWord)) (rw (scoped-is x t Σ depth (s .scope) (h .holds)) (wrote-scoped x p (binderOf (s .scope) (packed x) depth) g))
     where
-      by : (q : Bool) → Wrote R (s .places) p (recordScoped x Σ t) (putScoped p (packed x) (binderOf (s .scope) (packed x) depth) s) → Wrote R (s .places) p (pickRecorded q (newRecord (node readingsKind 0 0 0) t (length t ∷ [])) (recordScoped x Σ t)) (when q (λ _. put p (node readingsKind 0 0 0) s) (λ _. putScoped p (packed x) (binderOf (s .scope) (packed x) depth) s))
+      by : (q : Bool) → Wrote R (s .places) p (recordScoped x Σ t) (putScoped p (packed x) (binderOf (s .scope) (packed x) depth) s)
+          → Wrote R (s .places) p (pickRecorded q (newRecord (node readingsKind 0 0 0) t (length t ∷ [])) (recordScoped x Σ t)) (when q (λ _. put p (node readingsKind 0 0 0) s) (λ _. putScoped p (packed x) (binderOf (s .scope) (packed x) depth) s))
       by true w = wrote-new _ p g
       by false w = w
 
@@ -124,11 +127,13 @@ node-as k k' a a' f f' s s' e g h i = rw (e, g, h, i) refl
 pub wrote-at : (R B : List ℕ) (p q : ℕ) (Z : Recorded) (s : State) → p ≡ q → Wrote R B p Z s → Wrote R B q Z s
 wrote-at R B p q Z s e w = rw (← e) w
 
-pub wrote-moved : (R B : List ℕ) (p i g : ℕ) (Z : Recorded) (s : State) (c : Cursor) → Moved i g (s .cursor) c → c .parts ≡ s .cursor .parts → Wrote R B p Z s → Wrote R B p Z (moved s c)
+pub wrote-moved : (R B : List ℕ) (p i g : ℕ) (Z : Recorded) (s : State) (c : Cursor) → Moved i g (s .cursor) c → c .parts ≡ s .cursor .parts → Wrote R B p Z s
+    → Wrote R B p Z (moved s c)
 wrote-moved R B p i g Z s c m e w = record { count = m .count ∙ w .count; root = m .root ∙ w .root; records = w .records; places = w .places; parts = e ∙ w .parts }
 
 -- parts behind parts
-pub wrote-behind : (R B C : List ℕ) (p q : ℕ) (ps : List ℕ) (Z : Recorded) (s : State) → C ≡ puts B p ps → q ≡ p + length ps → Wrote R C q Z s → Wrote R B p (behind ps Z) s
+pub wrote-behind : (R B C : List ℕ) (p q : ℕ) (ps : List ℕ) (Z : Recorded) (s : State) → C ≡ puts B p ps → q ≡ p + length ps → Wrote R C q Z s
+    → Wrote R B p (behind ps Z) s
 wrote-behind R B C p q ps Z s e g w =
     record {
       count = w .count;
@@ -139,7 +144,8 @@ wrote-behind R B C p q ps Z s e g w =
     }
 
 -- a let: its value, its body, and then its own place
-pub wrote-let : (R P : List ℕ) (p q i : ℕ) (A B : Recorded) (v u : State) → q ≡ suc p → i ≡ v .cursor .parts → Wrote R P q A v → Wrote R (v .places) i B u → Wrote R P p (behind (B .root ∷ A .places) B) (mark p u)
+pub wrote-let : (R P : List ℕ) (p q i : ℕ) (A B : Recorded) (v u : State) → q ≡ suc p → i ≡ v .cursor .parts → Wrote R P q A v → Wrote R (v .places) i B u
+    → Wrote R P p (behind (B .root ∷ A .places) B) (mark p u)
 unfolding mark
 wrote-let R P p q i A B v u e g a b =
     let w = wrote-behind R P (v .places) q i (A .places) B u (a .places) (g ∙ a .parts) b in

@@ -34,7 +34,7 @@ openedMemory m r =
       readings = r ++ drop (length r) (m .readings);
       heads = set (set (m .heads) 0 0) 1 (length r);
       links = m .links;
-      cells = m .cells
+      cells = m .cells;
     }
 
 unfoldable pub openMemory : Memory → List ℤ → Memory

@@ -2,3 +2,17 @@ pub mod Memory
 pub mod Nodes
 pub mod WellFormed
 pub mod Bind
+pub mod Right
+pub mod RightLaws
+pub mod Held
+pub mod Chain
+pub mod ChainLaws
+pub mod HeldLaws
+pub mod Awaits
+pub mod AwaitsLaws
+pub mod Checked
+pub mod CheckedLaws
+pub mod Records
+pub mod RecordsLaws
+pub mod Written
+pub mod WrittenLaws

@@ -1,0 +1,62 @@
+-- 01's small example of refusal 4, and others like it, computed: caches that no call leaves are declined, and an empty one is not.
+-- Assumes nothing.
+use mathlib.Core.Path.{_≡_, refl}
+use mathlib.Core.Bool.{Bool, true, false}
+use mathlib.Core.List.{List, [], _∷_, _++_, map}
+use Prim.Native.Nat.{ℕ, _^_}
+use lib.IntN.{ℤ, pos}
+use lib.ListN.{replicate, drop, length}
+use Rattle.language.specs.Names.{bytes, packOnto, packed, letWord, inWord!, dataWord}
+use Rattle.language.specs.Members.{row, memberAt}
+use Rattle.values.specs.Packing.{isPacked}
+use Rattle.meaning.specs.Evaluation.{hasName, joined, without}
+use Rattle.table.specs.Memory.{Memory, nodeAt, keptAt, entriesFrom}
+use Rattle.table.specs.Nodes.{memberOfKind, arity, kids, sameNode, wordNumber, isName}
+use Rattle.table.specs.WellFormed.{every, keyRight, arityRight, hasNode, distinct, awaitedBy, awaitedAfter, doneAt, allDone, namesRight, keptRight, wellFormed}
+
+-- links and cells of entries, in memory of the cache's size, over a recording of five readings
+abbrev memory : ℕ → List ℕ → List ℕ → Memory
+memory n links cells =
+    record {
+      readings = replicate 1024 (pos 0);
+      heads = n ∷ 5 ∷ [];
+      links = links ++ drop (length links) (replicate 1536 0);
+      cells = cells ++ drop (length cells) (replicate 2048 0);
+    }
+
+-- entry 0 depends on 0
+abbrev itself : Memory
+itself = memory 1 (13 ∷ 1 ∷ 0 ∷ []) (0 ∷ 0 ∷ 0 ∷ 0 ∷ [])
+
+-- data, and then its count, worked out to 5
+abbrev counted : List ℕ → Memory
+counted cells = memory 2 (3 ∷ 0 ∷ 0 ∷ 13 ∷ 1 ∷ 0 ∷ []) (0 ∷ 0 ∷ 0 ∷ 0 ∷ cells)
+
+abbrev five : ℕ
+five = 2147483654
+
+abbrev caches : List Memory
+caches =
+    memory 0 [] []
+    ∷ counted (0 ∷ 0 ∷ 0 ∷ 0 ∷ [])
+    ∷ counted (0 ∷ five ∷ 0 ∷ 0 ∷ [])
+    ∷ itself
+    -- over 512 entries; over 1,024 readings
+    ∷ memory 513 [] []
+    ∷ record { readings = replicate 1024 (pos 0); heads = 0 ∷ 1025 ∷ []; links = replicate 1536 0; cells = replicate 2048 0 }
+    -- an unknown kind; a name that is none; a wrong number of dependencies; equal entries twice
+    ∷ memory 1 (21 ∷ 0 ∷ 0 ∷ []) []
+    ∷ memory 1 (1 ∷ 0 ∷ 0 ∷ []) (48 ∷ [])
+    ∷ memory 2 (3 ∷ 0 ∷ 0 ∷ 13 ∷ 1 ∷ 1 ∷ []) []
+    ∷ memory 2 (3 ∷ 0 ∷ 0 ∷ 3 ∷ 0 ∷ 0 ∷ []) []
+    -- a kept number beyond 32 bits, a window beyond the recording, a reason of 6
+    ∷ counted (0 ∷ 4294967297 ∷ 0 ∷ 0 ∷ [])
+    ∷ counted (0 ∷ 8590262273 ∷ 0 ∷ 0 ∷ [])
+    ∷ counted (0 ∷ 34359738374 ∷ 0 ∷ 0 ∷ [])
+    -- worked out with an unworked dependency: data.skip(data.count())
+    ∷ memory 3 (3 ∷ 0 ∷ 0 ∷ 13 ∷ 1 ∷ 0 ∷ 11 ∷ 1 ∷ 2 ∷ []) (0 ∷ 0 ∷ 0 ∷ 0 ∷ 0 ∷ 0 ∷ 0 ∷ 0 ∷ 0 ∷ 8589934592 ∷ 0 ∷ 0 ∷ [])
+    ∷ []
+
+pub caches-judged : map wellFormed caches ≡ true ∷ true ∷ true ∷ replicate 11 false
+unfolding wellFormed every nodeAt keptAt entriesFrom memberOfKind memberAt arity kids sameNode wordNumber isName keyRight arityRight hasNode distinct awaitedBy awaitedAfter doneAt allDone namesRight keptRight isPacked row bytes packOnto letWord inWord! dataWord hasName joined without
+caches-judged = refl

@@ -1,0 +1,6 @@
+pub mod Waiting
+pub mod Framing
+pub mod Reaching
+pub mod Planning
+pub mod Running
+pub mod Choosing

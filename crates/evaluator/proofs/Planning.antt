@@ -1,0 +1,202 @@
+-- The steps of planning an entry, each over plain numbers, values and lists. Assumes nothing.
+use mathlib.Core.Path.{_≡_, refl, sym, ap, _∙_, subst}
+use mathlib.Core.Bool.{Bool, true, false, cond, _&&_}
+use mathlib.Core.List.{List, [], _∷_}
+use Prim.Native.Nat.{ℕ, zero, suc, _+_, _*_, _-_, _≤_, _<_}
+use native.Mathlib.Omega.{arith}
+use borrow.Author.Needs.{needs}
+use borrow.Author.Tests.{lt-ltb, le-ltb, le-leb, lt-leb, eq-eqb, ne-eqb}
+use lib.Dec.{T, leb, ltb, eqb}
+use lib.IntN.{ℤ, pos}
+use lib.ListN.{length, getD, take, drop, length-take, length-drop, List·getD-eq-default}
+use Rattle.language.specs.Members.{members, foundIn, memberAt}
+use Rattle.language.specs.declared.members.Member.{Member}
+use Rattle.language.specs.declared.members.Found.{Found}
+use Rattle.language.specs.declared.members.Found.the-variants.{Is, Unknown}
+use Rattle.values.specs.declared.Value.{Value}
+use Rattle.values.specs.declared.Value.the-variants.{Number, Window, Function, Delayed, Missing}
+use Rattle.values.specs.declared.apply.Applied.{Applied}
+use Rattle.values.specs.declared.apply.Applied.the-variants.{Done, Run}
+use Rattle.values.specs.declared.runs.Tally.{Tally}
+use Rattle.values.specs.Values.{pick}
+use Rattle.values.specs.Windows.{readingsIn}
+use Rattle.values.specs.Apply.{apply0}
+use Rattle.values.specs.Applied.{applied1}
+use Rattle.values.specs.Tallies.{stepped, finished, Within, Steps}
+use Rattle.values.specs.Packing.{packOf, unpackOf}
+use Rattle.table.specs.Nodes.{memberOfKind, pickFound}
+use Rattle.evaluator.specs.declared.working.Task.{Task}
+use Rattle.evaluator.specs.Links.{kindAt, firstAt, secondAt, isBelow}
+use Rattle.evaluator.specs.Waits.{ownOf}
+use Rattle.evaluator.specs.Frames.{functionOf}
+use Rattle.evaluator.specs.Working.{Graph, graph, wrongCell, boundedOf, askOf, callOf, doneOf, taskOf, pickT, judgeOf, runOf, followOf, planOf, Planned, concludeOf, Bounds, Tallied}
+
+-- ---- the member of a kind
+past-all : (ms : List Member) (n : ℕ) → length ms ≤ n → foundIn ms n ≡ Unknown
+past-all [] n h = refl
+past-all (m ∷ ms) zero h = absurd (omega arith)
+past-all (m ∷ ms) (suc n) h = past-all ms n (omega arith)
+
+pub member-low : (kind : ℕ) → kind < 5 → Unknown ≡ memberOfKind kind
+unfolding memberOfKind
+member-low kind h = rw (lt-ltb _ _ h)
+
+pub member-high : (kind : ℕ) → 5 ≤ kind → 20 < kind → Unknown ≡ memberOfKind kind
+unfolding memberOfKind memberAt
+member-high kind h k = rw (le-ltb _ _ h) (sym (past-all members (kind - 5) (omega arith)))
+
+pub member-is : (kind : ℕ) (r : Found) → 5 ≤ kind → r ≡ memberAt (kind - 5) → r ≡ memberOfKind kind
+unfolding memberOfKind
+member-is kind r h e = rw (le-ltb _ _ h) e
+
+-- ---- receivers
+module _ (v : Value) where
+  pub bounds-window : (s l : ℕ) → v ≡ Window s l → s + l ≤ 65535 → Bounds v (Window s l)
+  unfolding boundedOf
+  bounds-window s l e h = rw e (record { same = rw (le-leb _ _ h); bounded = h })
+
+  pub bounds-far : (s l : ℕ) → v ≡ Window s l → 65535 < s + l → Bounds v (Missing 2)
+  unfolding boundedOf
+  bounds-far s l e h = rw e (record { same = rw (lt-leb _ _ h); bounded = tt })
+
+  pub bounds-number : (z : ℤ) → v ≡ Number z → Bounds v v
+  unfolding boundedOf
+  bounds-number z e = rw e (record { same = refl; bounded = tt })
+
+  pub bounds-function : v ≡ Function → Bounds v v
+  unfolding boundedOf
+  bounds-function e = rw e (record { same = refl; bounded = tt })
+
+  pub bounds-delayed : v ≡ Delayed → Bounds v v
+  unfolding boundedOf
+  bounds-delayed e = rw e (record { same = refl; bounded = tt })
+
+  pub bounds-missing : (r : ℕ) → v ≡ Missing r → Bounds v v
+  unfolding boundedOf
+  bounds-missing r e = rw e (record { same = refl; bounded = tt })
+
+-- ---- members
+module _ (k r : Found) (f : r ≡ k) (xs : List ℤ) where
+  pub ask-none : (a : ℕ) → r ≡ Unknown → wrongCell ≡ askOf k xs a
+  unfolding askOf
+  ask-none a e = rw (sym f ∙ e)
+
+  pub ask-is : (m : Member) (a c : ℕ) (u v : Value) → r ≡ Is m → u ≡ unpackOf a → v ≡ apply0 m xs u → c ≡ packOf v → c ≡ askOf k xs a
+  unfolding askOf
+  ask-is m a c u v e p q s = rw (sym f ∙ e) (s ∙ ap packOf (q ∙ ap (apply0 m xs) p))
+
+  pub call-none : (a b : ℕ) → r ≡ Unknown → Done (Missing 2) ≡ callOf k xs a b
+  unfolding callOf
+  call-none a b e = rw (sym f ∙ e)
+
+  pub call-is : (m : Member) (a b : ℕ) (d : Applied) (u v w : Value) → r ≡ Is m → u ≡ unpackOf a → Bounds u v → w ≡ unpackOf b → d ≡ applied1 m xs v w → d ≡ callOf k xs a b
+  unfolding callOf
+  call-is m a b d u v w e p q o s = rw (sym f ∙ e) (s ∙ (λ i. applied1 m xs ((q .same ∙ ap boundedOf p) i) (o i)))
+
+module _ (k r : Found) (f : r ≡ k) (t : Tally) where
+  pub conclude-none : r ≡ Unknown → wrongCell ≡ concludeOf k t
+  unfolding concludeOf
+  conclude-none e = rw (sym f ∙ e)
+
+  pub conclude-is : (m : Member) (c : ℕ) (v : Value) → r ≡ Is m → v ≡ finished m t → c ≡ packOf v → c ≡ concludeOf k t
+  unfolding concludeOf
+  conclude-is m c v e p q = rw (sym f ∙ e) (q ∙ ap packOf p)
+
+-- ---- tasks
+pub task-right : (i kind s l body v : ℕ) (r : Task) → r ≡ taskOf kind s l body v → body < i → v ≤ 512 → r .done ≡ false → Planned i r
+task-right i kind s l body v r e h k d = rw e (record { below = h; variable = k })
+
+pub done-right : (i c : ℕ) (r : Task) → r ≡ doneOf c → r .done ≡ false → Planned i r
+done-right i c r e d = absurd (subst T (sym (ap (λ (x : Task). x .done) e) ∙ d) tt)
+
+pub lower-right : (i f : ℕ) (r : Task) → f ≤ i → (r .done ≡ false → Planned f r) → r .done ≡ false → Planned i r
+lower-right i f r h p d = record { below = omega (arith, p d .below); variable = p d .variable }
+
+module _ (waits frame : List ℕ) (i body a v : ℕ) (e : v ≡ ownOf (getD waits body 0) (getD waits i 0)) where
+  pub judge-body : (r : Task) → 1 ≤ v → v ≤ 512 → r ≡ taskOf 4 0 0 body v → r ≡ judgeOf waits frame i body a
+  unfolding judgeOf
+  judge-body r h k d = rw (← e, le-leb _ _ h, le-leb _ _ k) d
+
+  pub judge-far : (r : Task) → 1 ≤ v → 512 < v → r ≡ doneOf wrongCell → r ≡ judgeOf waits frame i body a
+  unfolding judgeOf
+  judge-far r h k d = rw (← e, le-leb _ _ h, lt-leb _ _ k) d
+
+  pub judge-done : (r : Task) (c : ℕ) → v < 1 → c ≡ functionOf frame (getD waits i 0) a → r ≡ doneOf c → r ≡ judgeOf waits frame i body a
+  unfolding judgeOf
+  judge-done r c h k d = rw (← e, lt-leb _ _ h, ← k) d
+
+module _ (links waits : List ℕ) (f kind s l k : ℕ) (e : k ≡ getD links (3 * f) 0) (r : Task) where
+  pub run-other : (k ≡ 4 → ⊥) → r ≡ doneOf wrongCell → r ≡ runOf links waits f kind s l
+  unfolding runOf
+  run-other h d = rw (← e, ne-eqb _ _ h) d
+
+  module _ (h : k ≡ 4) (first : ℕ) (p : first ≡ getD links (3 * f + 1) 0) (b : Bool) (q : b ≡ isBelow first f) where
+    pub run-wild : b ≡ false → r ≡ doneOf wrongCell → r ≡ runOf links waits f kind s l
+    unfolding runOf
+    run-wild t d = rw (← e, eq-eqb _ _ h, ← p, sym q ∙ t) d
+
+    module _ (t : b ≡ true) (v : ℕ) (o : v ≡ ownOf (getD waits (first - 1) 0) (getD waits f 0)) where
+      pub run-far : 512 < v → r ≡ doneOf wrongCell → r ≡ runOf links waits f kind s l
+      unfolding runOf
+      run-far n d = rw (← e, eq-eqb _ _ h, ← p, sym q ∙ t, ← o, lt-leb _ _ n) d
+
+      pub run-body : v ≤ 512 → r ≡ taskOf kind s l (first - 1) v → r ≡ runOf links waits f kind s l
+      unfolding runOf
+      run-body n d = rw (← e, eq-eqb _ _ h, ← p, sym q ∙ t, ← o, le-leb _ _ n) d
+
+module _ (links waits : List ℕ) (f kind : ℕ) (a : Applied) (r : Task) where
+  pub follow-done : (v : Value) (c : ℕ) → a ≡ Done v → c ≡ packOf v → r ≡ doneOf c → r ≡ followOf links waits f kind a
+  unfolding followOf
+  follow-done v c e p d = rw e (d ∙ ap doneOf p)
+
+  pub follow-run : (s l : ℕ) → a ≡ Run s l → r ≡ runOf links waits f kind s l → r ≡ followOf links waits f kind a
+  unfolding followOf
+  follow-run s l e d = rw e d
+
+-- ---- the plan
+module _ (links waits : List ℕ) (xs : List ℤ) (frame : List ℕ) (i kind : ℕ) (e : kind ≡ getD links (3 * i) 0) (r : Task) where
+  abbrev Plans : Type 0
+  Plans = r ≡ planOf (graph links waits xs) frame i
+
+  pub plan-leaf : kind < 4 → r ≡ doneOf (getD frame i 0) → Plans
+  unfolding planOf
+  plan-leaf h d = rw (← e, lt-ltb _ _ h) d
+
+  module _ (h : 4 ≤ kind) (first : ℕ) (p : first ≡ getD links (3 * i + 1) 0) (b : Bool) (q : b ≡ isBelow first i) where
+    pub plan-wild : b ≡ false → r ≡ doneOf wrongCell → Plans
+    unfolding planOf
+    plan-wild t d = rw (← e, le-ltb _ _ h, ← p, sym q ∙ t) d
+
+    module _ (t : b ≡ true) where
+      pub plan-function : kind ≡ 4 → r ≡ judgeOf waits frame i (first - 1) (getD frame (first - 1) 0) → Plans
+      unfolding planOf
+      plan-function k d = rw (← e, le-ltb _ _ h, ← p, sym q ∙ t, eq-eqb _ _ k) d
+
+      module _ (k : kind ≡ 4 → ⊥) (second : ℕ) (p′ : second ≡ getD links (3 * i + 2) 0) (b′ : Bool) (q′ : b′ ≡ isBelow second i) where
+        pub plan-ask : (c : ℕ) → b′ ≡ false → c ≡ askOf (memberOfKind kind) xs (getD frame (first - 1) 0) → r ≡ doneOf c → Plans
+        unfolding planOf
+        plan-ask c t′ o d = rw (← e, le-ltb _ _ h, ← p, sym q ∙ t, ne-eqb _ _ k, ← p′, sym q′ ∙ t′, ← o) d
+
+        pub plan-call : (u : Applied) → b′ ≡ true → u ≡ callOf (memberOfKind kind) xs (getD frame (first - 1) 0) (getD frame (second - 1) 0)
+            → r ≡ followOf links waits (second - 1) kind u → Plans
+        unfolding planOf
+        plan-call u t′ o d = rw (← e, le-ltb _ _ h, ← p, sym q ∙ t, ne-eqb _ _ k, ← p′, sym q′ ∙ t′, ← o) d
+
+-- ---- readings and results
+module _ (xs : List ℤ) (s l : ℕ) where
+  pub count-none : length xs ≤ s → 0 ≡ length (readingsIn xs s l)
+  count-none h = simp (length-take, length-drop) (omega arith)
+
+  pub count-rest : s < length xs → length xs - s ≤ l → length xs - s ≡ length (readingsIn xs s l)
+  count-rest h k = simp (length-take, length-drop) (omega arith)
+
+  pub count-all : s < length xs → l < length xs - s → l ≡ length (readingsIn xs s l)
+  count-all h k = simp (length-take, length-drop) (omega arith)
+
+pub reading-past : (xs : List ℤ) (k c : ℕ) → length xs ≤ k → c ≡ packOf (Number (pos 0)) → c ≡ packOf (Number (getD xs k (pos 0)))
+reading-past xs k c h e = e ∙ ap (λ (z : ℤ). packOf (Number z)) (sym (List·getD-eq-default xs (pos 0) {n = k} h))
+
+pub tally-is : (t : Tally) (c : ℕ) (v : Value) (r : Tally) → v ≡ unpackOf c → Steps t v r → Tallied t c r
+tally-is t c v r e s = record { same = s .same ∙ ap (stepped t) e; bound = s .bound }
+
+pub ruleset planning = (needs, member-low, member-high, member-is, bounds-window, bounds-far, bounds-number, bounds-function, bounds-delayed, bounds-missing, ask-none, ask-is, call-none, call-is, conclude-none, conclude-is, task-right, done-right, lower-right, judge-body, judge-far, judge-done, run-other, run-wild, run-far, run-body, follow-done, follow-run, plan-leaf, plan-wild, plan-function, plan-ask, plan-call, count-none, count-rest, count-all, reading-past, tally-is)

@@ -1,0 +1,90 @@
+-- The steps of the falling sweep, each over plain numbers and lists. Assumes nothing.
+use mathlib.Core.Path.{_≡_, refl, sym, ap, _∙_}
+use mathlib.Core.Bool.{Bool, true, false, cond, not, _&&_}
+use mathlib.Core.List.{List, [], _∷_}
+use Prim.Native.Nat.{ℕ, zero, suc, _+_, _*_, _-_, _≤_, _<_}
+use native.Mathlib.Omega.{arith}
+use native.Mathlib.Numerals.{add-one}
+use borrow.Author.Needs.{needs}
+use borrow.Author.Tests.{eq-eqb, ne-eqb}
+use lib.Dec.{eqb}
+use lib.ListN.{length, getD, set, replicate, drop, length-set, drop-of-length-le}
+use lib.Seq.{drop-cons, drop-set-lt, getD-set-same}
+use Rattle.evaluator.specs.Links.{firstAt, secondAt, isBelow}
+use Rattle.evaluator.specs.Waits.{awaits}
+use Rattle.evaluator.specs.Reach.{moves, flagged, spread, gatherFrom, gathered, Gathers}
+
+module _ (waits : List ℕ) (v d : ℕ) (r : Bool) (e : r ≡ awaits (getD waits d 0) v) where
+  pub moves-yes : r ≡ true → not (eqb (d + 1) v) ≡ moves waits v d
+  moves-yes t = rw (sym e ∙ t)
+
+  pub moves-no : r ≡ false → false ≡ moves waits v d
+  moves-no t = rw (sym e ∙ t)
+
+module _ (waits : List ℕ) (v j link : ℕ) (flags : List ℕ) (r : Bool) (e : r ≡ isBelow link j) where
+  pub flag-far : r ≡ false → flags ≡ flagged waits v j link flags
+  unfolding flagged
+  flag-far t = rw (sym e ∙ t)
+
+  module _ (t : r ≡ true) (s : Bool) (d : s ≡ moves waits v (link - 1)) where
+    pub flag-yes : s ≡ true → set flags (link - 1) 1 ≡ flagged waits v j link flags
+    unfolding flagged
+    flag-yes u = rw (sym e ∙ t, sym d ∙ u)
+
+    pub flag-no : s ≡ false → flags ≡ flagged waits v j link flags
+    unfolding flagged
+    flag-no u = rw (sym e ∙ t, sym d ∙ u)
+
+pub spread-is : (links waits : List ℕ) (v j a b : ℕ) (flags one two : List ℕ) → a ≡ getD links (3 * j + 1) 0 → b ≡ getD links (3 * j + 2) 0
+    → one ≡ flagged waits v j a flags → two ≡ flagged waits v j b one → two ≡ spread links waits v j flags
+unfolding spread
+spread-is links waits v j a b flags one two p q e d = rw (← p, ← q, ← e) d
+
+-- what the sweep still has to do from entry j - 1 down, with a list that begins at a place of the array
+module _ (links waits : List ℕ) (v j at : ℕ) (flags list : List ℕ) {all : List ℕ} (h : 0 < j)
+    (inv : gatherFrom links waits v j flags (drop at list) ≡ all) where
+  turned : {k : ℕ} → j ≡ suc k → gatherFrom links waits v j flags (drop at list)
+      ≡ cond (eqb (getD flags k 0) 1) (gatherFrom links waits v k (spread links waits v k flags) (k ∷ drop at list)) (gatherFrom links waits v k flags (drop at list))
+  unfolding gatherFrom
+  turned e = rw e
+
+  pub gather-no : (getD flags (j - 1) 0 ≡ 1 → ⊥) → gatherFrom links waits v (j - 1) flags (drop at list) ≡ all
+  gather-no n = let q : j ≡ suc (j - 1) = omega arith in sym (turned q ∙ rw (ne-eqb _ _ n)) ∙ inv
+
+  pub gather-yes : (after : List ℕ) → getD flags (j - 1) 0 ≡ 1 → 1 ≤ at → at ≤ length list → after ≡ spread links waits v (j - 1) flags
+      → gatherFrom links waits v (j - 1) after (drop (at - 1) (set list (at - 1) (j - 1))) ≡ all
+  gather-yes after n one most e =
+      let q : j ≡ suc (j - 1) = omega arith in
+      let s : at ≡ suc (at - 1) = omega arith in
+      let l : at - 1 < length list = omega arith in
+      let put : drop (at - 1) (set list (at - 1) (j - 1)) ≡ (j - 1) ∷ drop at list =
+      drop-cons (set list (at - 1) (j - 1)) (at - 1) 0 (simp length-set l)
+      ∙ rw (getD-set-same list (at - 1) (j - 1) 0 l, ← s) (ap (λ (t : List ℕ). (j - 1) ∷ t) (drop-set-lt at list (at - 1) (j - 1) (omega arith))) in
+      rw (e, put) (sym (turned q ∙ rw (eq-eqb _ _ n)) ∙ inv)
+
+pub gather-end : (links waits : List ℕ) (v j at : ℕ) (flags list : List ℕ) {all : List ℕ} → j ≤ 0 → gatherFrom links waits v j flags (drop at list) ≡ all → drop at list ≡ all
+unfolding gatherFrom
+gather-end links waits v j at flags list h inv = let q : j ≡ 0 = omega arith in rw q at inv
+
+pub gather-begin : (links waits : List ℕ) (v body : ℕ) (list : List ℕ) (r : Bool) → length list ≡ 512 → r ≡ moves waits v body → r ≡ true
+    → gatherFrom links waits v (body + 1) (set (replicate 512 0) body 1) (drop 512 list) ≡ gathered links waits v body
+unfolding gathered
+gather-begin links waits v body list r l e t = rw (sym e ∙ t, add-one) (ap (gatherFrom links waits v (suc body) (set (replicate 512 0) body 1)) (drop-of-length-le list {i = 512} (omega arith)))
+
+pub gather-none : (links waits : List ℕ) (v body : ℕ) (list : List ℕ) (r : Bool) → length list ≡ 512 → r ≡ moves waits v body → r ≡ false
+    → drop 512 list ≡ gathered links waits v body
+unfolding gathered
+gather-none links waits v body list r l e t = rw (sym e ∙ t) (drop-of-length-le list {i = 512} (omega arith))
+
+-- the sweep before entry j - 1: its place in the list, and what it still has to give
+pub record Sweeps (links waits : List ℕ) (v body : ℕ) (list : List ℕ) (at : ℕ) (flags : List ℕ) (j : ℕ) : Type 0 where
+  pub low : j ≤ body + 1
+  pub room : j ≤ at
+  pub within : at ≤ 512
+  pub size : length list ≡ 512
+  pub same : gatherFrom links waits v j flags (drop at list) ≡ gathered links waits v body
+
+pub length-kept : (l : List ℕ) (k v n : ℕ) → length l ≡ n → length (set l k v) ≡ n
+length-kept l k v n e = length-set l k v ∙ e
+
+pub ruleset reaching = (needs, moves-yes, moves-no, flag-far, flag-yes, flag-no, spread-is)

@@ -1,0 +1,114 @@
+-- The steps of the rising pass over the awaited variables, each over plain numbers and lists. Assumes nothing.
+use mathlib.Core.Path.{_≡_, refl, sym, ap, _∙_}
+use mathlib.Core.Bool.{Bool, true, false, cond, _&&_, false≢true}
+use mathlib.Core.List.{List}
+use Prim.Native.Nat.{ℕ, zero, suc, _+_, _*_, _-_, _/_, _%_, _≤_, _<_}
+use native.Mathlib.Omega.{arith}
+use native.Mathlib.Numerals.{add-one}
+use borrow.Author.Needs.{needs}
+use borrow.Author.Tests.{lt-ltb, le-ltb, le-leb, lt-leb, eq-eqb, ne-eqb, leb-true, leb-false}
+use lib.Dec.{leb, ltb, eqb}
+use lib.ListN.{getD, set}
+use Rattle.evaluator.specs.Links.{kindAt, firstAt, secondAt, keyAt, isBelow}
+use Rattle.evaluator.specs.Waits.{slotA, slotB, holds, awaits, joined, isNamed, without, waitsOf, waitsAt, waitsFrom, ownOf}
+
+pub awaits-is : (w v : ℕ) (r : Bool) → r ≡ holds w v → leb 1 v && r ≡ awaits w v
+awaits-is w v r e = rw e
+
+pub join-first : (w u : ℕ) → w / 65536 ≡ 0 → u ≡ joined w u
+unfolding joined
+join-first w u h = rw h
+
+module _ (w u : ℕ) (h : w / 65536 ≡ 0 → ⊥) where
+  pub join-full : 1 ≤ w % 65536 → w ≡ joined w u
+  unfolding joined
+  join-full k = rw (ne-eqb _ _ h, le-leb _ _ k)
+
+  pub join-same : w % 65536 < 1 → w / 65536 ≡ u / 65536 → w / 65536 * 65536 + u % 65536 ≡ joined w u
+  unfolding joined
+  join-same k e = rw (ne-eqb _ _ h, lt-leb _ _ k, eq-eqb _ _ e)
+
+  pub join-both : w % 65536 < 1 → (w / 65536 ≡ u / 65536 → ⊥) → w / 65536 * 65536 + u / 65536 ≡ joined w u
+  unfolding joined
+  join-both k e = rw (ne-eqb _ _ h, lt-leb _ _ k, ne-eqb _ _ e)
+
+pub named-is : (cells : List ℕ) (key p r : ℕ) → 1 ≤ p → r ≡ getD cells (4 * (p - 1)) 0 → eqb r key ≡ isNamed cells key p
+named-is cells key p r h e = rw (le-leb _ _ h, e)
+
+pub named-none : (cells : List ℕ) (key p : ℕ) → p < 1 → false ≡ isNamed cells key p
+named-none cells key p h = rw (lt-leb _ _ h)
+
+module _ (cells : List ℕ) (key w : ℕ) (r : Bool) (e : r ≡ isNamed cells key (w / 65536)) where
+  pub without-first : r ≡ true → w % 65536 * 65536 ≡ without cells key w
+  unfolding without
+  without-first t = rw (sym e ∙ t)
+
+  module _ (t : r ≡ false) (s : Bool) (d : s ≡ isNamed cells key (w % 65536)) where
+    pub without-second : s ≡ true → w / 65536 * 65536 ≡ without cells key w
+    unfolding without
+    without-second u = rw (sym e ∙ t, sym d ∙ u)
+
+    pub without-none : s ≡ false → w ≡ without cells key w
+    unfolding without
+    without-none u = rw (sym e ∙ t, sym d ∙ u)
+
+-- a link that was tested
+both : (a b : Bool) → (a && b) ≡ true → (a ≡ true) × (b ≡ true)
+both true b h = (refl, h)
+both false b h = absurd (false≢true h)
+
+pub below-one : (link i : ℕ) (r : Bool) → r ≡ isBelow link i → r ≡ true → 1 ≤ link
+below-one link i r e t = leb-true 1 link (both (leb 1 link) (leb link i) (sym e ∙ t) .0)
+
+pub below-most : (link i : ℕ) (r : Bool) → r ≡ isBelow link i → r ≡ true → link ≤ i
+below-most link i r e t = leb-true link i (both (leb 1 link) (leb link i) (sym e ∙ t) .1)
+
+pub waits-below : (waits : List ℕ) (link i : ℕ) (r : Bool) → r ≡ isBelow link i → r ≡ true → getD waits (link - 1) 0 ≡ waitsOf waits link i
+waits-below waits link i r e t = rw (sym e ∙ t)
+
+pub waits-none : (waits : List ℕ) (link i : ℕ) (r : Bool) → r ≡ isBelow link i → r ≡ false → 0 ≡ waitsOf waits link i
+waits-none waits link i r e t = rw (sym e ∙ t)
+
+module _ (links cells waits : List ℕ) (i kind : ℕ) (e : kind ≡ getD links (3 * i) 0) where
+  pub at-variable : kind ≡ 1 → (i + 1) * 65536 ≡ waitsAt links cells waits i
+  unfolding waitsAt
+  at-variable h = rw (sym e ∙ h)
+
+  module _ (n : kind ≡ 1 → ⊥) where
+    pub at-leaf : kind < 4 → 0 ≡ waitsAt links cells waits i
+    unfolding waitsAt
+    at-leaf h = rw (← e, ne-eqb _ _ n, lt-ltb _ _ h)
+
+    module _ (m : 4 ≤ kind) (f g first : ℕ) (p : f ≡ getD links (3 * i + 1) 0) (q : first ≡ waitsOf waits f i) where
+      pub at-function : kind ≡ 4 → (key r : ℕ) → key ≡ getD cells (4 * i) 0 → r ≡ without cells key first → r ≡ waitsAt links cells waits i
+      unfolding waitsAt
+      at-function h key r k d = rw (← e, ← p, ← k, ← q, ne-eqb _ _ n, le-ltb _ _ m, eq-eqb _ _ h) d
+
+      pub at-member : (kind ≡ 4 → ⊥) → g ≡ getD links (3 * i + 2) 0 → (second r : ℕ) → second ≡ waitsOf waits g i → r ≡ joined first second → r ≡ waitsAt links cells waits i
+      unfolding waitsAt
+      at-member h s second r u d = rw (← e, ← p, ← s, ← q, ← u, ne-eqb _ _ n, le-ltb _ _ m, ne-eqb _ _ h) d
+
+pub waits-turn : (links cells waits : List ℕ) (n i r : ℕ) {all : List ℕ} → i < n → r ≡ waitsAt links cells waits i → waitsFrom links cells (n - i) i waits ≡ all
+    → waitsFrom links cells (n - (i + 1)) (i + 1) (set waits i r) ≡ all
+unfolding waitsFrom
+waits-turn links cells waits n i r h e v = let q : n - i ≡ suc (n - (i + 1)) = omega arith in rw (add-one, e) (sym (rw (q, add-one)) ∙ v)
+
+pub waits-end : (links cells waits : List ℕ) (n i : ℕ) {all : List ℕ} → n ≤ i → waitsFrom links cells (n - i) i waits ≡ all → waits ≡ all
+unfolding waitsFrom
+waits-end links cells waits n i h v = let q : n - i ≡ 0 = omega arith in rw q at v
+
+module _ (b f : ℕ) (r : Bool) (e : r ≡ holds f (b / 65536)) where
+  pub own-first : r ≡ false → b / 65536 ≡ ownOf b f
+  unfolding ownOf
+  own-first t = rw (sym e ∙ t)
+
+  module _ (t : r ≡ true) (s : Bool) (d : s ≡ holds f (b % 65536)) where
+    pub own-none : s ≡ true → 0 ≡ ownOf b f
+    unfolding ownOf
+    own-none u = rw (sym e ∙ t, sym d ∙ u)
+
+    pub own-second : s ≡ false → b % 65536 ≡ ownOf b f
+    unfolding ownOf
+    own-second u = rw (sym e ∙ t, sym d ∙ u)
+
+pub ruleset waiting = (needs, awaits-is, join-first, join-full, join-same, join-both, named-is, named-none, without-first, without-second, without-none, waits-below, waits-none, at-variable, at-leaf, at-function, at-member, own-first, own-none, own-second)

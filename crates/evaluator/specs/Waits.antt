@@ -1,0 +1,62 @@
+-- The variables that an entry awaits, by the numbers of their entries: at most two, each one more than the entry's number, 0 for none,
+-- put together as the first times 65,536 plus the second, in the order of first occurrence. Assumes nothing: these are definitions.
+use mathlib.Core.Bool.{Bool, true, false, cond, not, _&&_, _||_}
+use mathlib.Core.List.{List}
+use Prim.Native.Nat.{ℕ, zero, suc, _+_, _*_, _-_, _/_, _%_}
+use lib.Dec.{leb, ltb, eqb}
+use lib.ListN.{getD, set}
+use Rattle.evaluator.specs.Links.{kindAt, firstAt, secondAt, keyAt, isBelow}
+
+abbrev pub slotA : ℕ → ℕ
+slotA w = w / 65536
+
+abbrev pub slotB : ℕ → ℕ
+slotB w = w % 65536
+
+-- one of the two is v
+abbrev pub holds : ℕ → ℕ → Bool
+holds w v = eqb (slotA w) v || eqb (slotB w) v
+
+abbrev pub awaits : ℕ → ℕ → Bool
+awaits w v = leb 1 v && holds w v
+
+-- those of w, then those of u, each once; no more than two
+unfoldable pub joined : ℕ → ℕ → ℕ
+joined w u =
+    cond (eqb (slotA w) 0) u
+    (cond (leb 1 (slotB w)) w
+    (cond (eqb (slotA w) (slotA u)) (slotA w * 65536 + slotB u)
+    (slotA w * 65536 + slotA u)))
+
+-- the slot is a variable with that name
+abbrev pub isNamed : List ℕ → ℕ → ℕ → Bool
+isNamed cells key p = leb 1 p && eqb (keyAt cells (p - 1)) key
+
+-- those of w that have another name
+unfoldable pub without : List ℕ → ℕ → ℕ → ℕ
+without cells key w =
+    cond (isNamed cells key (slotA w)) (slotB w * 65536)
+    (cond (isNamed cells key (slotB w)) (slotA w * 65536)
+    w)
+
+-- of a dependency of entry i, from those of the entries before i
+abbrev pub waitsOf : List ℕ → ℕ → ℕ → ℕ
+waitsOf waits link i = cond (isBelow link i) (getD waits (link - 1) 0) 0
+
+unfoldable pub waitsAt : List ℕ → List ℕ → List ℕ → ℕ → ℕ
+waitsAt links cells waits i =
+    cond (eqb (kindAt links i) 1) ((i + 1) * 65536)
+    (cond (ltb (kindAt links i) 4) 0
+    (cond (eqb (kindAt links i) 4) (without cells (keyAt cells i) (waitsOf waits (firstAt links i) i))
+    (joined (waitsOf waits (firstAt links i) i) (waitsOf waits (secondAt links i) i))))
+
+-- k entries from i on, in rising order
+unfoldable pub waitsFrom : List ℕ → List ℕ → ℕ → ℕ → List ℕ → List ℕ
+waitsFrom links cells zero i waits = waits
+waitsFrom links cells (suc k) i waits = waitsFrom links cells k (suc i) (set waits i (waitsAt links cells waits i))
+
+-- a function's own variable: what its body awaits and it does not
+unfoldable pub ownOf : ℕ → ℕ → ℕ
+ownOf body function =
+    cond (holds function (slotA body)) (cond (holds function (slotB body)) 0 (slotB body))
+    (slotA body)

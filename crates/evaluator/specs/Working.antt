@@ -1,0 +1,176 @@
+-- An entry's value from a frame, in the code's shape: what the entry asks for, and the runs of a function over a window. Inside a run only
+-- what awaits its variable is worked out again. A function's body is judged with its own variable delayed, whatever a run around it has set.
+-- Assumes nothing: these are definitions. What they come to is in Meaning.
+use mathlib.Core.Path.{_≡_}
+use mathlib.Core.Bool.{Bool, true, false, cond, _&&_}
+use mathlib.Core.List.{List, [], _∷_}
+use Prim.Native.Nat.{ℕ, zero, suc, _+_, _-_, _≤_, _<_}
+use lib.Dec.{leb, ltb, eqb}
+use lib.IntN.{ℤ, pos}
+use lib.ListN.{length, getD, set}
+use Rattle.language.specs.declared.members.Found.{Found}
+use Rattle.language.specs.declared.members.Found.the-variants.{Is, Unknown}
+use Rattle.values.specs.declared.Value.{Value}
+use Rattle.values.specs.declared.Value.the-variants.{Number, Window, Function, Delayed, Missing}
+use Rattle.values.specs.declared.apply.Applied.{Applied}
+use Rattle.values.specs.declared.apply.Applied.the-variants.{Done, Run}
+use Rattle.values.specs.declared.runs.Tally.{Tally}
+use Rattle.values.specs.Values.{pick, wrongKind}
+use Rattle.values.specs.Windows.{readingsIn}
+use Rattle.values.specs.Apply.{apply0}
+use Rattle.values.specs.Applied.{applied1}
+use Rattle.values.specs.Tallies.{begun, stepped, finished, Within}
+use Rattle.values.specs.Kept.{Bounded}
+use Rattle.values.specs.Packing.{packOf, unpackOf, delayedCell, missingCell}
+use Rattle.table.specs.Nodes.{memberOfKind}
+use Rattle.evaluator.specs.declared.working.Task.{Task}
+use Rattle.evaluator.specs.Links.{kindAt, firstAt, secondAt, isBelow}
+use Rattle.evaluator.specs.Waits.{ownOf}
+use Rattle.evaluator.specs.Reach.{gathered}
+use Rattle.evaluator.specs.Frames.{bound, functionOf}
+
+-- what working out reads: the links, what entries await, and the recording
+pub record Graph : Type 0 where
+  pub links : List ℕ
+  pub waits : List ℕ
+  pub xs : List ℤ
+
+abbrev pub graph : List ℕ → List ℕ → List ℤ → Graph
+graph links waits xs = record { links = links; waits = waits; xs = xs }
+
+abbrev pub wrongCell : ℕ
+wrongCell = missingCell + 2
+
+-- a receiver: a window that ends beyond 16 bits, which no recording has, is of the wrong kind
+unfoldable pub boundedOf : Value → Value
+boundedOf (Window s l) = pick (leb (s + l) 65535) (Window s l) (Missing wrongKind)
+boundedOf (Number z) = Number z
+boundedOf Function = Function
+boundedOf Delayed = Delayed
+boundedOf (Missing r) = Missing r
+
+-- a member with no argument, and with one
+unfoldable pub askOf : Found → List ℤ → ℕ → ℕ
+askOf (Is m) xs a = packOf (apply0 m xs (unpackOf a))
+askOf Unknown xs a = wrongCell
+
+unfoldable pub callOf : Found → List ℤ → ℕ → ℕ → Applied
+callOf (Is m) xs a b = applied1 m xs (boundedOf (unpackOf a)) (unpackOf b)
+callOf Unknown xs a b = Done (Missing wrongKind)
+
+-- what an entry asks for: it is done, with a value; or a body is to be worked out with a variable set, to judge a function (kind 4) or to
+-- run it over a window
+abbrev pub doneOf : ℕ → Task
+doneOf c = record { done = true; value = c; kind = 0; start = 0; length = 0; body = 0; variable = 0 }
+
+abbrev pub taskOf : ℕ → ℕ → ℕ → ℕ → ℕ → Task
+taskOf kind s l body v = record { done = false; value = 0; kind = kind; start = s; length = l; body = body; variable = v }
+
+abbrev pub pickT : Bool → Task → Task → Task
+pickT true a b = a
+pickT false a b = b
+
+unfoldable pub judgeOf : List ℕ → List ℕ → ℕ → ℕ → ℕ → Task
+judgeOf waits frame i body a =
+    pickT (leb 1 (ownOf (getD waits body 0) (getD waits i 0)))
+    (pickT (leb (ownOf (getD waits body 0) (getD waits i 0)) 512) (taskOf 4 0 0 body (ownOf (getD waits body 0) (getD waits i 0))) (doneOf wrongCell))
+    (doneOf (functionOf frame (getD waits i 0) a))
+
+-- the runs of the function that entry f is
+unfoldable pub runOf : List ℕ → List ℕ → ℕ → ℕ → ℕ → ℕ → Task
+runOf links waits f kind s l =
+    pickT (eqb (kindAt links f) 4)
+    (pickT (isBelow (firstAt links f) f)
+    (pickT (leb (ownOf (getD waits (firstAt links f - 1) 0) (getD waits f 0)) 512)
+    (taskOf kind s l (firstAt links f - 1) (ownOf (getD waits (firstAt links f - 1) 0) (getD waits f 0)))
+    (doneOf wrongCell))
+    (doneOf wrongCell))
+    (doneOf wrongCell)
+
+unfoldable pub followOf : List ℕ → List ℕ → ℕ → ℕ → Applied → Task
+followOf links waits f kind (Done v) = doneOf (packOf v)
+followOf links waits f kind (Run s l) = runOf links waits f kind s l
+
+unfoldable pub planOf : Graph → List ℕ → ℕ → Task
+planOf g frame i =
+    let kind : ℕ = kindAt (g .links) i in
+    let first : ℕ = firstAt (g .links) i in
+    let second : ℕ = secondAt (g .links) i in
+    pickT (ltb kind 4) (doneOf (getD frame i 0))
+    (pickT (isBelow first i)
+    (pickT (eqb kind 4) (judgeOf (g .waits) frame i (first - 1) (getD frame (first - 1) 0))
+    (pickT (isBelow second i)
+    (followOf (g .links) (g .waits) (second - 1) kind (callOf (memberOfKind kind) (g .xs) (getD frame (first - 1) 0) (getD frame (second - 1) 0)))
+    (doneOf (askOf (memberOfKind kind) (g .xs) (getD frame (first - 1) 0)))))
+    (doneOf wrongCell))
+
+-- a task that is not done lies below its entry
+pub record Planned (i : ℕ) (p : Task) : Type 0 where
+  pub below : p .body < i
+  pub variable : p .variable ≤ 512
+
+-- how one entry is worked out in a frame
+abbrev pub Go : Type 0
+Go = List ℕ → ℕ → ℕ
+
+-- each entry of the list, in its order, up to one that is not below top
+unfoldable pub fillOf : Go → ℕ → List ℕ → List ℕ → List ℕ
+fillOf go top [] frame = frame
+fillOf go top (j ∷ js) frame = cond (leb top j) frame (fillOf go top js (set frame j (go frame j)))
+
+-- the frame with a variable set
+abbrev pub setOf : Go → ℕ → List ℕ → ℕ → ℕ → List ℕ → List ℕ
+setOf go top list v c frame = fillOf go top list (bound frame v c)
+
+-- the runs, reading by reading, up to one that gives no number
+unfoldable pub overOf : Go → ℕ → List ℕ → ℕ → List ℕ → Tally → List ℤ → Tally
+overOf go body list v frame t [] = t
+overOf go body list v frame t (z ∷ zs) =
+    let after : List ℕ = setOf go (body + 1) list v (packOf (Number z)) frame in
+    let u : Tally = stepped t (unpackOf (getD after body 0)) in
+    cond (u .stopped) u (overOf go body list v after u zs)
+
+unfoldable pub concludeOf : Found → Tally → ℕ
+concludeOf (Is m) t = packOf (finished m t)
+concludeOf Unknown t = wrongCell
+
+unfoldable pub finishOf : Graph → Go → List ℕ → ℕ → Task → ℕ
+finishOf g go frame i p =
+    let list : List ℕ = gathered (g .links) (g .waits) (p .variable) (p .body) in
+    cond (p .done) (p .value)
+    (cond (eqb (p .kind) 4)
+    (functionOf frame (getD (g .waits) i 0) (getD (setOf go (p .body + 1) list (p .variable) delayedCell frame) (p .body) 0))
+    (concludeOf (memberOfKind (p .kind)) (overOf go (p .body) list (p .variable) frame begun (readingsIn (g .xs) (p .start) (p .length)))))
+
+-- entries fall, so a fuel above the entry's number is enough
+unfoldable pub applyAt : Graph → ℕ → Go
+applyAt g zero frame i = 0
+applyAt g (suc f) frame i = finishOf g (applyAt g f) frame i (planOf g frame i)
+
+abbrev pub Applies : Graph → List ℕ → ℕ → ℕ → Type 0
+Applies g frame i r = (f : ℕ) → i < f → applyAt g f frame i ≡ r
+
+pub record Fills (g : Graph) (body : ℕ) (list : List ℕ) (v c : ℕ) (frame after : List ℕ) (r : ℕ) : Type 0 where
+  pub same : (f : ℕ) → body < f → setOf (applyAt g f) (body + 1) list v c frame ≡ after
+  pub value : r ≡ getD after body 0
+
+-- what a receiver is, with what members ask of it; what one more result of a run leaves
+pub record Bounds (v r : Value) : Type 0 where
+  pub same : r ≡ boundedOf v
+  pub bounded : Bounded r
+
+pub record Tallied (t : Tally) (c : ℕ) (r : Tally) : Type 0 where
+  pub same : r ≡ stepped t (unpackOf c)
+  pub bound : (k : ℕ) → Within k t → Within (k + 1) r
+
+-- what working out a body again asks: the list, from a place on, and the body and the variable within the frame
+pub record Reruns (list : List ℕ) (at body v : ℕ) : Type 0 where
+  pub size : length list ≡ 512
+  pub within : at ≤ 512
+  pub low : body < 512
+  pub few : v ≤ 512
+
+-- how many readings a window has
+pub record Counts (xs : List ℤ) (s l r : ℕ) : Type 0 where
+  pub same : r ≡ length (readingsIn xs s l)
+  pub few : r ≤ 65535

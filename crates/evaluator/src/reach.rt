@@ -1,0 +1,67 @@
+// What a run works out again: a falling sweep from the body that follows the entries that await the variable.
+use crate::links::is_below;
+use crate::links::link;
+use crate::waits::awaits;
+ghost use mathlib.Core.Path.{_≡_};
+ghost use Prim.Native.Nat.{_<_, _≤_};
+ghost use lib.ListN.{length, drop};
+ghost use Rattle.evaluator.specs.Reach.{moves as movesOf, flagged, spread as spreadOf, gathered, Gathers};
+
+// Whether entry d awaits the variable v and is not v.
+fn moves(waits: &[u32; 512], v: u32, d: usize) -> bool
+    requires { ⌜ d < 512 ⌝ }
+    ensures { λ r. ⌜ r ≡ movesOf (now (waits .entry)) v d ⌝ }
+{
+    if awaits(waits[d], v) {
+        return (d + 1) as u32 != v;
+    }
+    false
+}
+
+// Flags a dependency of entry j where it moves.
+fn flag(waits: &[u32; 512], v: u32, j: usize, link: usize, flags: &mut [u8; 512])
+    requires { ⌜ j < 512 ⌝ }
+    ensures { λ _. ⌜ now (flags .exit) ≡ flagged (now (waits .entry)) v j link (now (flags .entry)) ⌝ }
+{
+    if is_below(link, j) {
+        if moves(waits, v, link - 1) {
+            flags[link - 1] = 1;
+        }
+    }
+}
+
+fn spread(links: &[u16], waits: &[u32; 512], v: u32, j: usize, flags: &mut [u8; 512])
+    requires { ⌜ j < 512 ⌝ }
+    ensures { λ _. ⌜ now (flags .exit) ≡ spreadOf (now (links .entry)) (now (waits .entry)) v j (now (flags .entry)) ⌝ }
+{
+    flag(waits, v, j, link(links, 3 * j + 1) as usize, flags);
+    flag(waits, v, j, link(links, 3 * j + 2) as usize, flags);
+}
+
+// The entries to work out again stand at the end of the list, from the place that is returned.
+pub fn gather(
+    links: &[u16],
+    waits: &[u32; 512],
+    v: u32,
+    body: usize,
+    list: &mut [u16; 512],
+) -> usize
+    requires { ⌜ (body < 512) × (length (now list) ≡ 512) ⌝ }
+    ensures { λ r. ⌜ Gathers (now (links .entry)) (now (waits .entry)) v body (now (list .exit)) r ⌝ }
+{
+    let mut at: usize = 512;
+    if moves(waits, v, body) {
+        let mut flags = [0u8; 512];
+        flags[body] = 1;
+        let mut j = body + 1;
+        while 0 < j {
+            j -= 1;
+            if flags[j] == 1 {
+                at -= 1;
+                list[at] = j as u16;
+                spread(links, waits, v, j, &mut flags);
+            }
+        }
+    }
+    at
+}

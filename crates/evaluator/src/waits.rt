@@ -1,0 +1,111 @@
+// The variables that entries await, by a rising pass over the table.
+use crate::links::cell;
+use crate::links::is_below;
+use crate::links::link;
+ghost use mathlib.Core.Path.{_≡_};
+ghost use Prim.Native.Nat.{_<_, _≤_};
+ghost use lib.ListN.{getD};
+ghost use Rattle.evaluator.specs.Waits.{holds, awaits as awaitsOf, joined, isNamed, without as withoutOf, waitsOf, waitsAt, waitsFrom, ownOf};
+
+pub fn has(w: u32, v: u32) -> bool
+    ensures { λ r. ⌜ r ≡ holds w v ⌝ }
+{
+    (w / 65536 == v) | (w % 65536 == v)
+}
+
+pub fn awaits(w: u32, v: u32) -> bool
+    ensures { λ r. ⌜ r ≡ awaitsOf w v ⌝ }
+{
+    (1 <= v) & has(w, v)
+}
+
+fn join(w: u32, u: u32) -> u32
+    ensures { λ r. ⌜ r ≡ joined w u ⌝ }
+{
+    if w / 65536 == 0 {
+        return u;
+    }
+    if 1 <= w % 65536 {
+        return w;
+    }
+    if w / 65536 == u / 65536 {
+        return w / 65536 * 65536 + u % 65536;
+    }
+    w / 65536 * 65536 + u / 65536
+}
+
+// Whether the slot is a variable with that name.
+fn is_named(cells: &[u64], key: u64, p: u32) -> bool
+    ensures { λ r. ⌜ r ≡ isNamed (now (cells .entry)) key p ⌝ }
+{
+    if 1 <= p {
+        return cell(cells, 4 * (p as usize - 1)) == key;
+    }
+    false
+}
+
+fn without(cells: &[u64], key: u64, w: u32) -> u32
+    ensures { λ r. ⌜ r ≡ withoutOf (now (cells .entry)) key w ⌝ }
+{
+    if is_named(cells, key, w / 65536) {
+        return w % 65536 * 65536;
+    }
+    if is_named(cells, key, w % 65536) {
+        return w / 65536 * 65536;
+    }
+    w
+}
+
+fn waits_of(waits: &[u32; 512], link: usize, i: usize) -> u32
+    requires { ⌜ i < 512 ⌝ }
+    ensures { λ r. ⌜ r ≡ waitsOf (now (waits .entry)) link i ⌝ }
+{
+    if is_below(link, i) {
+        return waits[link - 1];
+    }
+    0
+}
+
+// What entry i awaits, from what the entries before it await.
+fn waits_at(links: &[u16], cells: &[u64], waits: &[u32; 512], i: usize) -> u32
+    requires { ⌜ i < 512 ⌝ }
+    ensures { λ r. ⌜ r ≡ waitsAt (now (links .entry)) (now (cells .entry)) (now (waits .entry)) i ⌝ }
+{
+    let kind = link(links, 3 * i);
+    if kind == 1 {
+        return (i + 1) as u32 * 65536;
+    }
+    if kind < 4 {
+        return 0;
+    }
+    let first = waits_of(waits, link(links, 3 * i + 1) as usize, i);
+    if kind == 4 {
+        return without(cells, cell(cells, 4 * i), first);
+    }
+    join(first, waits_of(waits, link(links, 3 * i + 2) as usize, i))
+}
+
+// What the first n entries await.
+pub fn fill_waits(links: &[u16], cells: &[u64], n: usize, waits: &mut [u32; 512])
+    requires { ⌜ n ≤ 512 ⌝ }
+    ensures { λ _. ⌜ now (waits .exit) ≡ waitsFrom (now (links .entry)) (now (cells .entry)) n 0 (now (waits .entry)) ⌝ }
+{
+    let mut i: usize = 0;
+    while i < n {
+        waits[i] = waits_at(links, cells, waits, i);
+        i += 1;
+    }
+}
+
+// A function's own variable: what its body awaits and it does not.
+pub fn own(body: u32, function: u32) -> u32
+    ensures { λ r. ⌜ r ≡ ownOf body function ⌝ }
+{
+    if has(function, body / 65536) {
+        if has(function, body % 65536) {
+            return 0;
+        }
+        return body % 65536;
+    }
+    body / 65536
+}

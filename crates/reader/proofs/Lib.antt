@@ -1,0 +1,2 @@
+mod TokenPaths
+mod ValuePaths

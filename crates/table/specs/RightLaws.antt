@@ -1,0 +1,138 @@
+-- Laws of the tests of one entry, and of loops over numbers, each with a premise for every call and test on the code's way. Assumes nothing.
+use mathlib.Core.Path.{_≡_, refl, sym, ap, _∙_}
+use mathlib.Core.Bool.{Bool, true, false, cond, not, _&&_, _||_}
+use mathlib.Core.List.{List, [], _∷_, _++_}
+use Prim.Native.Nat.{ℕ, zero, suc, _+_, _-_, _*_, _/_, _%_, _≤_, _<_, _^_}
+use native.Mathlib.Nat.{mod-eq-of-lt, sub-zero}
+use native.Mathlib.Numerals.{add-one}
+use native.Mathlib.Omega.{arith}
+use borrow.Author.Tests.{eq-eqb, ne-eqb, lt-ltb, le-ltb}
+use lib.Dec.{eqb, leb, ltb}
+use lib.ListN.{length, getD}
+use Rattle.language.specs.Names.{isLetter, inWord, packed, packOnto, bytes, letWord, inWord!, dataWord}
+use Rattle.language.specs.Members.{row, memberAt, foundIn, members}
+use Rattle.language.specs.declared.members.Member.{Member}
+use Rattle.language.specs.declared.members.Found.{Found}
+use Rattle.language.specs.declared.members.Found.the-variants.{Is, Unknown}
+use Rattle.table.specs.Memory.{Node, nodeAt}
+use Rattle.table.specs.Nodes.{pickFound, memberOfKind, memberArity, arity, wordNumber, isName}
+use Rattle.table.specs.WellFormed.{kindKnown, keyRight, arityRight, lower}
+use Rattle.table.specs.Right.{node, allFrom, numbered, nodeRight, rightAt}
+
+-- what is left of n at i is one more than what is left at i + 1
+pub left-suc : (n i : ℕ) → i < n → n - i ≡ suc (n - (i + 1))
+left-suc n i h = omega arith
+
+-- a loop that tests the numbers one by one
+module _ (p : ℕ → Bool) (n : ℕ) where
+  pub all-start : allFrom p n 0 ≡ allFrom p (n - 0) 0
+  all-start = rw sub-zero
+
+  module _ (i : ℕ) (all : allFrom p n 0 ≡ allFrom p (n - i) i) where
+    pub all-go : (r : Bool) → r ≡ p i → r ≡ true → i < n → allFrom p n 0 ≡ allFrom p (n - (i + 1)) (i + 1)
+    unfolding allFrom
+    all-go r q t h = all ∙ rw (left-suc n i h, add-one i) (rw (sym q ∙ t))
+
+    pub all-stop : (r : Bool) → r ≡ p i → r ≡ false → i < n → false ≡ allFrom p n 0
+    unfolding allFrom
+    all-stop r q t h = sym (all ∙ rw (left-suc n i h) (rw (sym q ∙ t)))
+
+    pub all-end : n ≤ i → true ≡ allFrom p n 0
+    unfolding allFrom
+    all-end h = let z : n - i ≡ 0 = omega arith in sym (all ∙ rw z)
+
+-- packed words
+module _ (k left rest : ℕ) (whole : wordNumber 8 k ≡ wordNumber left rest) where
+  word-step : 0 < left → wordNumber left rest ≡ cond (ltb rest 256) (isLetter rest) (inWord (rest % 256) && wordNumber (left - 1) (rest / 256))
+  unfolding wordNumber
+  word-step h = by left h
+    where
+      by : (l : ℕ) → 0 < l → wordNumber l rest ≡ cond (ltb rest 256) (isLetter rest) (inWord (rest % 256) && wordNumber (l - 1) (rest / 256))
+      by zero h = absurd (omega arith)
+      by (suc l) h = let z : suc l - 1 ≡ l = omega arith in rw z
+
+  pub word-stop : (b : ℕ) (r : Bool) → r ≡ isLetter b → b ≡ rest % 256 → rest < 256 → 0 < left → r ≡ wordNumber 8 k
+  word-stop b r q e s h = let z : b ≡ rest = e ∙ mod-eq-of-lt s in sym (whole ∙ word-step h ∙ rw (lt-ltb rest 256 s) (rw (← z, ← q)))
+
+  pub word-go : (b : ℕ) (r : Bool) → r ≡ inWord b → b ≡ rest % 256 → r ≡ true → 256 ≤ rest → 0 < left → wordNumber 8 k ≡ wordNumber (left - 1) (rest / 256)
+  word-go b r q e t s h = whole ∙ word-step h ∙ rw (le-ltb rest 256 s) (rw (← e) (rw (sym q ∙ t)))
+
+  pub word-fail : (b : ℕ) (r : Bool) → r ≡ inWord b → b ≡ rest % 256 → r ≡ false → 256 ≤ rest → 0 < left → false ≡ wordNumber 8 k
+  word-fail b r q e t s h = sym (whole ∙ word-step h ∙ rw (le-ltb rest 256 s) (rw (← e) (rw (sym q ∙ t))))
+
+  pub word-end : left ≤ 0 → false ≡ wordNumber 8 k
+  unfolding wordNumber
+  word-end h = let z : left ≡ 0 = omega arith in sym (whole ∙ rw z)
+
+pub name-is : (k : ℕ) (r : Bool) → r ≡ wordNumber 8 k → (r && not (eqb k 7103860 || (eqb k 26990 || eqb k 1684108385))) ≡ isName k
+unfolding isName packOnto bytes letWord inWord! dataWord
+name-is k r q = rw q
+
+-- dependencies by kind
+pub arity-of : (f : Found) (m : Member) (a : ℕ) → a ≡ row m .arguments → f ≡ Is m → 1 + a ≡ memberArity f
+arity-of f m a q e = rw e (omega arith)
+
+module _ (k : ℕ) where
+  pub arity-function : k ≡ 4 → 1 ≡ arity k
+  unfolding arity
+  arity-function e = rw (eq-eqb k 4 e)
+
+  pub arity-none : (k ≡ 4 → ⊥) → k < 5 → 0 ≡ arity k
+  unfolding arity memberOfKind
+  arity-none e h = rw (ne-eqb k 4 e, lt-ltb k 5 h)
+
+  pub arity-member : (f : Found) (a : ℕ) → a ≡ memberArity f → f ≡ memberAt (k - 5) → (k ≡ 4 → ⊥) → 5 ≤ k → a ≡ arity k
+  unfolding arity memberOfKind
+  arity-member f a q e u h = rw (ne-eqb k 4 u, le-ltb k 5 h) (rw (q, e))
+
+  pub arity-unknown : 21 ≤ k → 0 ≡ arity k
+  unfolding arity memberOfKind memberAt
+  arity-unknown h = rw (ne-eqb k 4 (λ e. omega arith), le-ltb k 5 (omega arith)) (rw (past members (k - 5) (omega arith)))
+    where
+      past : (ms : List Member) (n : ℕ) → length ms ≤ n → foundIn ms n ≡ Unknown
+      past [] n h = refl
+      past (m ∷ ms) zero h = absurd (omega arith)
+      past (m ∷ ms) (suc n) h = past ms n (omega arith)
+
+-- the key by kind
+module _ (kind key : ℕ) where
+  pub key-number : kind ≡ 0 → ltb key 4294967296 ≡ keyRight (node kind key 0 0)
+  unfolding keyRight
+  key-number e = rw (eq-eqb kind 0 e)
+
+  pub key-name : (r : Bool) → r ≡ isName key → (eqb kind 1 || (eqb kind 2 || eqb kind 4)) ≡ true → (kind ≡ 0 → ⊥) → r ≡ keyRight (node kind key 0 0)
+  unfolding keyRight
+  key-name r q t e = rw (ne-eqb kind 0 e, t) q
+
+  pub key-none : (eqb kind 1 || (eqb kind 2 || eqb kind 4)) ≡ false → (kind ≡ 0 → ⊥) → eqb key 0 ≡ keyRight (node kind key 0 0)
+  unfolding keyRight
+  key-none t e = rw (ne-eqb kind 0 e, t)
+
+-- the dependencies by their number
+module _ (kind first second n : ℕ) (q : n ≡ arity kind) where
+  pub arity-zero : n ≡ 0 → (eqb first 0 && eqb second 0) ≡ arityRight (node kind 0 first second)
+  unfolding arityRight
+  arity-zero e = rw (← q, eq-eqb n 0 e)
+
+  pub arity-one : (n ≡ 0 → ⊥) → n ≡ 1 → (leb 1 first && eqb second 0) ≡ arityRight (node kind 0 first second)
+  unfolding arityRight
+  arity-one u e = rw (← q, ne-eqb n 0 u, eq-eqb n 1 e)
+
+  pub arity-two : (n ≡ 0 → ⊥) → (n ≡ 1 → ⊥) → (leb 1 first && leb 1 second) ≡ arityRight (node kind 0 first second)
+  unfolding arityRight
+  arity-two u v = rw (← q, ne-eqb n 0 u, ne-eqb n 1 v)
+
+module _ (links cells : List ℕ) (i kind : ℕ) (qk : kind ≡ getD links (3 * i) 0) where
+  pub right-known : (key first second : ℕ) (a b : Bool) → a ≡ keyRight (node kind key 0 0) → b ≡ arityRight (node kind 0 first second)
+      → key ≡ getD cells (4 * i) 0 → first ≡ getD links (3 * i + 1) 0 → second ≡ getD links (3 * i + 2) 0 → kind < 21
+      → (a && (b && (leb first i && leb second i))) ≡ rightAt links cells i
+  unfolding rightAt nodeRight nodeAt keyRight arityRight
+  right-known key first second a b qa qb q f s h = rw (← qk, ← q, ← f, ← s, lt-ltb kind 21 h) (rw (qa, qb))
+
+  pub right-unknown : 21 ≤ kind → false ≡ rightAt links cells i
+  unfolding rightAt nodeRight nodeAt
+  right-unknown h = rw (← qk, le-ltb kind 21 h)
+
+pub ruleset entries = (arity-of, word-stop, word-go, word-fail, word-end, name-is, arity-function, arity-none, arity-member, arity-unknown, key-number, key-name, key-none, arity-zero, arity-one, arity-two, right-known, right-unknown)
+
+pub ruleset loops = (all-start, all-go, all-stop, all-end)

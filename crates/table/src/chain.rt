@@ -1,0 +1,116 @@
+// A chain for each hash, in the call's own frame: the first 512 cells hold one more than the latest entry of the hash, or 0; then a cell
+// for each entry holds the same of the entries before it.
+use crate::nodes::Shape;
+use crate::nodes::held_at;
+use crate::nodes::same;
+ghost use mathlib.Core.Path.{_≡_};
+ghost use mathlib.Core.Bool.{true};
+ghost use Prim.Native.Nat.{suc, _+_, _<_, _≤_};
+ghost use lib.ListN.{length};
+ghost use Rattle.table.specs.Memory.{nodeAt};
+ghost use Rattle.table.specs.WellFormed.{distinct};
+ghost use Rattle.table.specs.Right.{numbered, allFrom};
+ghost use Rattle.table.specs.Held.{shaped, heldAt};
+ghost use Rattle.table.specs.Chain.{hashOf, lastSame, Chained, linked, newAt, Entered};
+
+pub fn hash(x: Shape) -> u16
+    ensures { λ r. ⌜ r ≡ hashOf (shaped x) ⌝ }
+{
+    let sum = x.key % 65521 + (x.kind as u64 * 31 + (x.first as u64 * 1009 + x.second as u64 * 37));
+    (sum % 512) as u16
+}
+
+// One more than the number of the last of `total` entries that is x, or 0.
+pub fn seek(
+    links: &[u16],
+    cells: &[u64],
+    count: u16,
+    fresh: &[u64; 256],
+    chain: &[u16; 1152],
+    total: u16,
+    h: u16,
+    x: Shape,
+) -> u16
+    requires { ⌜ Chained (heldAt (now links) (now cells) count (now fresh)) (now chain) total ⌝ }
+    requires { ⌜ h ≡ hashOf (shaped x) ⌝ }
+    requires { ⌜ (h < 512) × (total ≤ 640) ⌝ }
+    ensures { λ r. ⌜ r ≡ lastSame (heldAt (now (links .entry)) (now (cells .entry)) count (now (fresh .entry))) (shaped x) total ⌝ }
+{
+    let mut c = chain[h as usize];
+    while 0 < c {
+        if same(held_at(links, cells, count, fresh, c - 1), x) {
+            return c;
+        }
+        c = chain[511 + c as usize];
+    }
+    0
+}
+
+// Entry i, of hash h, is put in front of its chain.
+pub fn enter(chain: &mut [u16; 1152], h: u16, i: u16)
+    requires { ⌜ (h < 512) × (i < 640) × (length (now chain) ≡ 1152) ⌝ }
+    ensures { λ _. ⌜ now (chain .exit) ≡ linked (now (chain .entry)) h i ⌝ }
+{
+    chain[512 + i as usize] = chain[h as usize];
+    chain[h as usize] = i + 1;
+}
+
+// Whether entry i is equal to none before it; then it is entered.
+fn enter_new(
+    links: &[u16],
+    cells: &[u64],
+    count: u16,
+    fresh: &[u64; 256],
+    chain: &mut [u16; 1152],
+    i: u16,
+) -> bool
+    requires { ⌜ Chained (heldAt (now links) (now cells) count (now fresh)) (now chain) i ⌝ }
+    requires { ⌜ i < 640 ⌝ }
+    ensures { λ r. ⌜ Entered (heldAt (now (links .entry)) (now (cells .entry)) count (now (fresh .entry))) i (now (chain .exit)) r ⌝ }
+{
+    let x = held_at(links, cells, count, fresh, i);
+    let h = hash(x);
+    if seek(links, cells, count, fresh, chain, i, h, x) == 0 {
+        enter(chain, h, i);
+        return true;
+    }
+    false
+}
+
+// No two of the first n entries are equal.
+pub fn distinct_nodes(links: &[u16], cells: &[u64], n: u16) -> bool
+    requires { ⌜ n ≤ 512 ⌝ }
+    ensures { λ r. ⌜ r ≡ distinct (numbered (nodeAt (now (links .entry)) (now (cells .entry))) 0 n) ⌝ }
+{
+    let fresh = [0u64; 256];
+    let mut chain = [0u16; 1152];
+    let mut i: u16 = 0;
+    while i < n {
+        if enter_new(links, cells, n, &fresh, &mut chain, i) {
+            i += 1;
+        } else {
+            return false;
+        }
+    }
+    true
+}
+
+// The first `count` entries are entered.
+pub fn enter_all(
+    links: &[u16],
+    cells: &[u64],
+    count: u16,
+    fresh: &[u64; 256],
+    chain: &mut [u16; 1152],
+)
+    requires { ⌜ Chained (heldAt (now links) (now cells) count (now fresh)) (now chain) 0 ⌝ }
+    requires { ⌜ count ≤ 512 ⌝ }
+    ensures { λ _. ⌜ Chained (heldAt (now (links .entry)) (now (cells .entry)) count (now (fresh .entry))) (now (chain .exit)) count ⌝ }
+{
+    let mut i: u16 = 0;
+    while i < count {
+        let x = held_at(links, cells, count, fresh, i);
+        enter(chain, hash(x), i);
+        i += 1;
+    }
+}

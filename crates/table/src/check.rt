@@ -1,0 +1,131 @@
+// 01, refusal 4: whether a cache is well-formed. One pass for each concern, each linear in the number of entries.
+use crate::cells::at16;
+use crate::cells::at32;
+use crate::cells::at64;
+use crate::chain::distinct_nodes;
+use crate::entries::arity;
+use crate::entries::is_name;
+use crate::entries::nodes_right;
+use crate::names::await_names;
+use crate::nodes::entry_of;
+use crate::nodes::node_at;
+use language::limits::Table;
+use values::packing::is_packed;
+ghost use mathlib.Core.Path.{_≡_};
+ghost use mathlib.Core.Bool.{true};
+ghost use mathlib.Core.List.{List};
+ghost use Prim.Native.Nat.{_≤_};
+ghost use lib.IntN.{ℤ};
+ghost use Rattle.table.specs.Memory.{nodeAt, entriesFrom};
+ghost use Rattle.table.specs.Nodes.{kids};
+ghost use Rattle.table.specs.WellFormed.{doneAt, allDone, namesRight, awaitsFew, wellFormed};
+ghost use Rattle.table.specs.Right.{numbered, allFrom, rightAt};
+ghost use Rattle.table.specs.Checked.{memory, kept, keptOk, entriesRight};
+
+// Whether entry j of n is worked out.
+fn is_done(links: &[u16], cells: &[u64], n: u16, j: u16) -> bool
+    ensures { λ r. ⌜ r ≡ doneAt (entriesFrom (now (links .entry)) (now (cells .entry)) 0 n) j ⌝ }
+{
+    let at = j as usize;
+    (j < n) & (!(4 <= at16(links, 3 * at)) | (1 <= at64(cells, 4 * at + 1)))
+}
+
+// Whether the dependencies of entry i are worked out.
+fn kids_done(links: &[u16], cells: &[u64], n: u16, i: u16) -> bool
+    ensures { λ r. ⌜ r ≡ allDone (entriesFrom (now (links .entry)) (now (cells .entry)) 0 n) (kids (nodeAt (now (links .entry)) (now (cells .entry)) i)) ⌝ }
+{
+    let x = node_at(links, cells, i);
+    let a = arity(x.kind);
+    if a == 0 {
+        return true;
+    }
+    let first = is_done(links, cells, n, entry_of(x.first));
+    if a == 1 {
+        return first;
+    }
+    first & is_done(links, cells, n, entry_of(x.second))
+}
+
+// Whether the kept names are those that the kept value shows.
+fn names_right(value: u64, name: u64, other: u64) -> bool
+    ensures { λ r. ⌜ r ≡ namesRight (kept value name other) ⌝ }
+{
+    if value == 17179869184 {
+        return is_name(name) & (other == 0);
+    }
+    if value == 25769803776 {
+        return is_name(name) & ((other == 0) | is_name(other));
+    }
+    (name == 0) & (other == 0)
+}
+
+// Whether what is kept of entry i is right.
+fn kept_right(links: &[u16], cells: &[u64], n: u16, readings: usize, i: u16) -> bool
+    ensures { λ r. ⌜ r ≡ keptOk (now (links .entry)) (now (cells .entry)) n readings i ⌝ }
+{
+    let at = i as usize;
+    let value = at64(cells, 4 * at + 1);
+    if names_right(value, at64(cells, 4 * at + 2), at64(cells, 4 * at + 3)) {
+        if value == 0 {
+            return true;
+        }
+        return kids_done(links, cells, n, i)
+            & ((4 <= at16(links, 3 * at)) & is_packed(value, readings));
+    }
+    false
+}
+
+fn all_kept_right(links: &[u16], cells: &[u64], n: u16, readings: usize) -> bool
+    ensures { λ r. ⌜ r ≡ allFrom (keptOk (now (links .entry)) (now (cells .entry)) n readings) n 0 ⌝ }
+{
+    let mut i: u16 = 0;
+    while i < n {
+        if kept_right(links, cells, n, readings, i) {
+            i += 1;
+        } else {
+            return false;
+        }
+    }
+    true
+}
+
+// Whether none of n entries awaits over two names.
+fn few_names(links: &[u16], cells: &[u64], n: u16) -> bool
+    requires { ⌜ allFrom (rightAt (now links) (now cells)) n 0 ≡ true ⌝ }
+    requires { ⌜ n ≤ 512 ⌝ }
+    ensures { λ r. ⌜ r ≡ awaitsFew (numbered (nodeAt (now (links .entry)) (now (cells .entry))) 0 n) ⌝ }
+{
+    let mut names = [0u64; 1024];
+    await_names(links, cells, n, &mut names)
+}
+
+fn entries_right(links: &[u16], cells: &[u64], n: u16, readings: usize) -> bool
+    requires { ⌜ n ≤ 512 ⌝ }
+    ensures { λ r. ⌜ r ≡ entriesRight (now (links .entry)) (now (cells .entry)) readings n ⌝ }
+{
+    if nodes_right(links, cells, n) {
+        if distinct_nodes(links, cells, n) {
+            if few_names(links, cells, n) {
+                return all_kept_right(links, cells, n, readings);
+            }
+            return false;
+        }
+        return false;
+    }
+    false
+}
+
+// 01, refusal 4. Readings do not matter.
+pub fn well_formed(heads: &[u32], links: &[u16], cells: &[u64]) -> bool
+    ensures { λ r. ⌜ ((readings : List ℤ) → r ≡ wellFormed (memory readings (now (heads .entry)) (now (links .entry)) (now (cells .entry)))) ⌝ }
+{
+    let count = at32(heads, 0) as usize;
+    let readings = at32(heads, 1) as usize;
+    if Table::ENTRIES < count {
+        return false;
+    }
+    if Table::READINGS < readings {
+        return false;
+    }
+    entries_right(links, cells, count as u16, readings)
+}

@@ -1,0 +1,128 @@
+// One entry: whether its kind, its key and its dependencies are right (01, refusal 4).
+use crate::cells::at16;
+use crate::cells::at64;
+use language::members::Found;
+use language::members::arguments;
+use language::members::member_at;
+use language::names::in_word;
+use language::names::is_letter;
+ghost use mathlib.Core.Path.{_≡_};
+ghost use Prim.Native.Nat.{_%_};
+ghost use Rattle.table.specs.Memory.{nodeAt};
+ghost use Rattle.table.specs.Nodes.{memberArity, memberOfKind, arity, wordNumber, isName};
+ghost use Rattle.table.specs.WellFormed.{keyRight, arityRight};
+ghost use Rattle.table.specs.Right.{node, rightAt, allFrom};
+
+fn low_byte(k: u64) -> u8
+    ensures { λ r. ⌜ r ≡ k % 256 ⌝ }
+{
+    (k % 256) as u8
+}
+
+// A packed word: a letter, then letters and digits, at most eight bytes.
+fn is_word(k: u64) -> bool
+    ensures { λ r. ⌜ r ≡ wordNumber 8 k ⌝ }
+{
+    let mut rest = k;
+    let mut left: u64 = 8;
+    while 0 < left {
+        if rest < 256 {
+            return is_letter(low_byte(rest));
+        }
+        if in_word(low_byte(rest)) {
+            rest = rest / 256;
+            left = left - 1;
+        } else {
+            return false;
+        }
+    }
+    false
+}
+
+// A packed name: a word that is no `let`, `in` or `data`.
+pub fn is_name(k: u64) -> bool
+    ensures { λ r. ⌜ r ≡ isName k ⌝ }
+{
+    is_word(k) & !((k == 0x6c6574) | ((k == 0x696e) | (k == 0x64617461)))
+}
+
+fn member_arity(f: Found) -> u16
+    ensures { λ r. ⌜ r ≡ memberArity f ⌝ }
+{
+    match f {
+        Found::Is(m) => 1 + arguments(m) as u16,
+        Found::Unknown => 0,
+    }
+}
+
+// How many dependencies an entry of the kind has.
+pub fn arity(kind: u16) -> u16
+    ensures { λ r. ⌜ r ≡ arity kind ⌝ }
+{
+    if kind == 4 {
+        return 1;
+    }
+    if kind < 5 {
+        return 0;
+    }
+    if kind < 21 {
+        return member_arity(member_at((kind - 5) as u8));
+    }
+    0
+}
+
+fn key_right(kind: u16, key: u64) -> bool
+    ensures { λ r. ⌜ r ≡ keyRight (node kind key 0 0) ⌝ }
+{
+    if kind == 0 {
+        return key < 4294967296;
+    }
+    if (kind == 1) | ((kind == 2) | (kind == 4)) {
+        return is_name(key);
+    }
+    key == 0
+}
+
+fn arity_right(kind: u16, first: u16, second: u16) -> bool
+    ensures { λ r. ⌜ r ≡ arityRight (node kind 0 first second) ⌝ }
+{
+    let n = arity(kind);
+    if n == 0 {
+        return (first == 0) & (second == 0);
+    }
+    if n == 1 {
+        return (1 <= first) & (second == 0);
+    }
+    (1 <= first) & (1 <= second)
+}
+
+// Entry i has a known kind, a right key, the right number of dependencies, and these are lower.
+fn node_right(links: &[u16], cells: &[u64], i: u16) -> bool
+    ensures { λ r. ⌜ r ≡ rightAt (now (links .entry)) (now (cells .entry)) i ⌝ }
+{
+    let at = i as usize;
+    let kind = at16(links, 3 * at);
+    let first = at16(links, 3 * at + 1);
+    let second = at16(links, 3 * at + 2);
+    let key = at64(cells, 4 * at);
+    if kind < 21 {
+        key_right(kind, key) & (arity_right(kind, first, second) & ((first <= i) & (second <= i)))
+    } else {
+        false
+    }
+}
+
+// So have the first n entries.
+pub fn nodes_right(links: &[u16], cells: &[u64], n: u16) -> bool
+    ensures { λ r. ⌜ r ≡ allFrom (rightAt (now (links .entry)) (now (cells .entry))) n 0 ⌝ }
+{
+    let mut i: u16 = 0;
+    while i < n {
+        if node_right(links, cells, i) {
+            i += 1;
+        } else {
+            return false;
+        }
+    }
+    true
+}
