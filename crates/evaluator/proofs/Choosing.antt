@@ -1,14 +1,14 @@
 -- The steps of a preview's work, each over plain numbers and lists. Assumes nothing.
 use mathlib.Core.Path.{_≡_, refl, sym, ap, _∙_}
-use mathlib.Core.Bool.{Bool, true, false, cond, _&&_}
+use mathlib.Core.Bool.{Bool, true, false, cond}
 use mathlib.Core.List.{List}
-use Prim.Native.Nat.{ℕ, zero, suc, _+_, _*_, _-_, _/_, _%_, _≤_, _<_}
+use Prim.Native.Nat.{ℕ, suc, _+_, _*_, _-_, _/_, _%_, _≤_, _<_}
 use native.Mathlib.Nat.{sub-zero}
 use native.Mathlib.Omega.{arith}
 use native.Mathlib.Numerals.{add-one}
 use borrow.Author.Needs.{needs}
 use borrow.Author.Tests.{lt-ltb, le-ltb, le-leb, lt-leb, eq-eqb, ne-eqb}
-use lib.Dec.{leb, ltb, eqb}
+use lib.Dec.{ltb, eqb}
 use lib.IntN.{ℤ}
 use lib.ListN.{length, getD, set, replicate, length-set}
 use Rattle.values.specs.declared.Value.{Value}
@@ -19,7 +19,7 @@ use Rattle.evaluator.specs.Links.{isBelow, firstAt, secondAt}
 use Rattle.evaluator.specs.Waits.{waitsFrom}
 use Rattle.evaluator.specs.Frames.{startAt, startFrom}
 use Rattle.evaluator.specs.Working.{graph, applyAt, Applies}
-use Rattle.evaluator.specs.Works.{raised, needFrom, needOf, chosen, slotName, nameFor, otherFor, keepOf, kept, Work, workOf, workFrom, worked, Works, view, showOf}
+use Rattle.evaluator.specs.Works.{raised, needFrom, needOf, chosen, slotName, nameFor, otherFor, keepOf, kept, workOf, workFrom, worked, Works, view, showOf}
 
 module _ (j link : ℕ) (flags : List ℕ) (r : Bool) (e : r ≡ isBelow link j) where
   pub raise-yes : r ≡ true → set flags (link - 1) 1 ≡ raised j link flags

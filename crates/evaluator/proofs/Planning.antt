@@ -1,14 +1,14 @@
 -- The steps of planning an entry, each over plain numbers, values and lists. Assumes nothing.
 use mathlib.Core.Path.{_≡_, refl, sym, ap, _∙_, subst}
-use mathlib.Core.Bool.{Bool, true, false, cond, _&&_}
+use mathlib.Core.Bool.{Bool, true, false}
 use mathlib.Core.List.{List, [], _∷_}
 use Prim.Native.Nat.{ℕ, zero, suc, _+_, _*_, _-_, _≤_, _<_}
 use native.Mathlib.Omega.{arith}
 use borrow.Author.Needs.{needs}
 use borrow.Author.Tests.{lt-ltb, le-ltb, le-leb, lt-leb, eq-eqb, ne-eqb}
-use lib.Dec.{T, leb, ltb, eqb}
+use lib.Dec.{T}
 use lib.IntN.{ℤ, pos}
-use lib.ListN.{length, getD, take, drop, length-take, length-drop, List·getD-eq-default}
+use lib.ListN.{length, getD, length-take, length-drop, List·getD-eq-default}
 use Rattle.language.specs.Members.{members, foundIn, memberAt}
 use Rattle.language.specs.declared.members.Member.{Member}
 use Rattle.language.specs.declared.members.Found.{Found}
@@ -18,18 +18,17 @@ use Rattle.values.specs.declared.Value.the-variants.{Number, Window, Function, 
 use Rattle.values.specs.declared.apply.Applied.{Applied}
 use Rattle.values.specs.declared.apply.Applied.the-variants.{Done, Run}
 use Rattle.values.specs.declared.runs.Tally.{Tally}
-use Rattle.values.specs.Values.{pick}
 use Rattle.values.specs.Windows.{readingsIn}
 use Rattle.values.specs.Apply.{apply0}
 use Rattle.values.specs.Applied.{applied1}
-use Rattle.values.specs.Tallies.{stepped, finished, Within, Steps}
+use Rattle.values.specs.Tallies.{stepped, finished, Steps}
 use Rattle.values.specs.Packing.{packOf, unpackOf}
-use Rattle.table.specs.Nodes.{memberOfKind, pickFound}
+use Rattle.table.specs.Nodes.{memberOfKind}
 use Rattle.evaluator.specs.declared.working.Task.{Task}
-use Rattle.evaluator.specs.Links.{kindAt, firstAt, secondAt, isBelow}
+use Rattle.evaluator.specs.Links.{isBelow}
 use Rattle.evaluator.specs.Waits.{ownOf}
 use Rattle.evaluator.specs.Frames.{functionOf}
-use Rattle.evaluator.specs.Working.{Graph, graph, wrongCell, boundedOf, askOf, callOf, doneOf, taskOf, pickT, judgeOf, runOf, followOf, planOf, Planned, concludeOf, Bounds, Tallied}
+use Rattle.evaluator.specs.Working.{graph, wrongCell, boundedOf, askOf, callOf, doneOf, taskOf, judgeOf, runOf, followOf, planOf, Planned, concludeOf, Bounds, Tallied}
 
 -- ---- the member of a kind
 past-all : (ms : List Member) (n : ℕ) → length ms ≤ n → foundIn ms n ≡ Unknown

@@ -1,8 +1,8 @@
 -- The steps of the falling sweep, each over plain numbers and lists. Assumes nothing.
-use mathlib.Core.Path.{_≡_, refl, sym, ap, _∙_}
-use mathlib.Core.Bool.{Bool, true, false, cond, not, _&&_}
-use mathlib.Core.List.{List, [], _∷_}
-use Prim.Native.Nat.{ℕ, zero, suc, _+_, _*_, _-_, _≤_, _<_}
+use mathlib.Core.Path.{_≡_, sym, ap, _∙_}
+use mathlib.Core.Bool.{Bool, true, false, cond, not}
+use mathlib.Core.List.{List, _∷_}
+use Prim.Native.Nat.{ℕ, suc, _+_, _*_, _-_, _≤_, _<_}
 use native.Mathlib.Omega.{arith}
 use native.Mathlib.Numerals.{add-one}
 use borrow.Author.Needs.{needs}
@@ -10,9 +10,9 @@ use borrow.Author.Tests.{eq-eqb, ne-eqb}
 use lib.Dec.{eqb}
 use lib.ListN.{length, getD, set, replicate, drop, length-set, drop-of-length-le}
 use lib.Seq.{drop-cons, drop-set-lt, getD-set-same}
-use Rattle.evaluator.specs.Links.{firstAt, secondAt, isBelow}
+use Rattle.evaluator.specs.Links.{isBelow}
 use Rattle.evaluator.specs.Waits.{awaits}
-use Rattle.evaluator.specs.Reach.{moves, flagged, spread, gatherFrom, gathered, Gathers}
+use Rattle.evaluator.specs.Reach.{moves, flagged, spread, gatherFrom, gathered}
 
 module _ (waits : List ℕ) (v d : ℕ) (r : Bool) (e : r ≡ awaits (getD waits d 0) v) where
   pub moves-yes : r ≡ true → not (eqb (d + 1) v) ≡ moves waits v d

@@ -1,27 +1,26 @@
 -- The steps of the cycle: an entry that is done, a function that is judged, a turn of the runs over a window, a turn of the work on a list.
 -- Each is over plain lists, for every fuel above the entry's number. Assumes nothing.
 use mathlib.Core.Path.{_≡_, refl, sym, ap, _∙_}
-use mathlib.Core.Bool.{Bool, true, false, cond}
-use mathlib.Core.List.{List, [], _∷_}
+use mathlib.Core.Bool.{true, false, cond}
+use mathlib.Core.List.{List, _∷_}
 use Prim.Native.Nat.{ℕ, zero, suc, _+_, _≤_, _<_}
 use native.Mathlib.Omega.{arith}
 use native.Mathlib.Numerals.{add-one}
 use borrow.Author.Tests.{le-leb, lt-leb, eq-eqb, ne-eqb}
-use lib.Dec.{leb, eqb}
 use lib.IntN.{ℤ, pos}
-use lib.ListN.{length, getD, set, take, drop, length-take, length-drop, drop-of-length-le}
+use lib.ListN.{length, getD, set, drop, length-take, drop-of-length-le}
 use lib.Seq.{drop-cons, getD-take, getD-drop}
 use Rattle.values.specs.declared.Value.the-variants.{Number}
 use Rattle.values.specs.declared.runs.Tally.{Tally}
-use Rattle.values.specs.Packing.{packOf, unpackOf, delayedCell}
-use Rattle.values.specs.Tallies.{begun, stepped, Within}
+use Rattle.values.specs.Packing.{packOf, delayedCell}
+use Rattle.values.specs.Tallies.{begun, Within}
 use Rattle.values.specs.TallyLaws.{within-none, within-more}
 use Rattle.values.specs.Windows.{readingsIn}
 use Rattle.table.specs.Nodes.{memberOfKind}
 use Rattle.evaluator.specs.declared.working.Task.{Task}
-use Rattle.evaluator.specs.Reach.{gathered, Gathers}
+use Rattle.evaluator.specs.Reach.{Gathers}
 use Rattle.evaluator.specs.Frames.{bound, functionOf}
-use Rattle.evaluator.specs.Working.{Graph, graph, Go, planOf, Planned, fillOf, setOf, overOf, concludeOf, finishOf, applyAt, Applies, Fills, Tallied}
+use Rattle.evaluator.specs.Working.{Graph, planOf, Planned, fillOf, setOf, overOf, concludeOf, finishOf, applyAt, Applies, Fills, Tallied}
 
 module _ (g : Graph) (frame : List ℕ) (i : ℕ) (p : Task) (e : p ≡ planOf g frame i) where
   applied : {r : ℕ} → ((f : ℕ) → i ≤ f → finishOf g (applyAt g f) frame i p ≡ r) → Applies g frame i r

@@ -1,16 +1,16 @@
 -- The steps of the rising pass over the awaited variables, each over plain numbers and lists. Assumes nothing.
-use mathlib.Core.Path.{_≡_, refl, sym, ap, _∙_}
-use mathlib.Core.Bool.{Bool, true, false, cond, _&&_, false≢true}
+use mathlib.Core.Path.{_≡_, refl, sym, _∙_}
+use mathlib.Core.Bool.{Bool, true, false, _&&_, false≢true}
 use mathlib.Core.List.{List}
-use Prim.Native.Nat.{ℕ, zero, suc, _+_, _*_, _-_, _/_, _%_, _≤_, _<_}
+use Prim.Native.Nat.{ℕ, suc, _+_, _*_, _-_, _/_, _%_, _≤_, _<_}
 use native.Mathlib.Omega.{arith}
 use native.Mathlib.Numerals.{add-one}
 use borrow.Author.Needs.{needs}
-use borrow.Author.Tests.{lt-ltb, le-ltb, le-leb, lt-leb, eq-eqb, ne-eqb, leb-true, leb-false}
-use lib.Dec.{leb, ltb, eqb}
+use borrow.Author.Tests.{lt-ltb, le-ltb, le-leb, lt-leb, eq-eqb, ne-eqb, leb-true}
+use lib.Dec.{leb, eqb}
 use lib.ListN.{getD, set}
-use Rattle.evaluator.specs.Links.{kindAt, firstAt, secondAt, keyAt, isBelow}
-use Rattle.evaluator.specs.Waits.{slotA, slotB, holds, awaits, joined, isNamed, without, waitsOf, waitsAt, waitsFrom, ownOf}
+use Rattle.evaluator.specs.Links.{isBelow}
+use Rattle.evaluator.specs.Waits.{holds, awaits, joined, isNamed, without, waitsOf, waitsAt, waitsFrom, ownOf}
 
 pub awaits-is : (w v : ℕ) (r : Bool) → r ≡ holds w v → leb 1 v && r ≡ awaits w v
 awaits-is w v r e = rw e

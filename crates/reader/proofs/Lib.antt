@@ -1,2 +1,4 @@
+mod CursorPaths
+mod ScratchPaths
 mod TokenPaths
 mod ValuePaths

@@ -17,6 +17,7 @@ use Rattle.table.specs.Memory.{Node, nodeAt}
 use Rattle.table.specs.Nodes.{arity, wordNumber, isName}
 use Rattle.table.specs.WellFormed.{every, kindKnown, keyRight, arityRight, lower, awaitedBy, awaitedAfter, awaitsFew}
 use Rattle.table.specs.Right.{allFrom, numbered, nodeRight, rightAt}
+use Rattle.table.specs.RightLaws.{first-low, first-given, second-low, second-given, variable-named, right-at}
 use Rattle.table.specs.Held.{shaped}
 use Rattle.table.specs.ChainLaws.{numbered-zero, numbered-last, length-numbered}
 use Rattle.table.specs.Awaits.{names, firstName, secondName, encoded, namesAt, withName, withoutName, joinedNames, namesBy, Stored, Awaited}
@@ -97,15 +98,15 @@ without-less x (a ∷ b ∷ c ∷ r) k f = let l = few-of (a ∷ b ∷ c ∷ r) 
 
 -- the lists of names, by number
 module _ (ν : ℕ → Node) where
-  abbrev after : ℕ → List (List ℕ)
+  abbrev pub after : ℕ → List (List ℕ)
   after n = awaitedAfter [] (numbered ν 0 n)
 
-  after-snoc : (b : List (List ℕ)) (ns : List Node) (n : Node) → awaitedAfter b (ns ++ (n ∷ [])) ≡ awaitedAfter b ns ++ (awaitedBy (awaitedAfter b ns) n ∷ [])
+  pub after-snoc : (b : List (List ℕ)) (ns : List Node) (n : Node) → awaitedAfter b (ns ++ (n ∷ [])) ≡ awaitedAfter b ns ++ (awaitedBy (awaitedAfter b ns) n ∷ [])
   unfolding awaitedAfter
   after-snoc b [] n = refl
   after-snoc b (m ∷ ns) n = after-snoc (b ++ (awaitedBy b m ∷ [])) ns n
 
-  after-last : (n : ℕ) → after (suc n) ≡ after n ++ (awaitedBy (after n) (ν n) ∷ [])
+  pub after-last : (n : ℕ) → after (suc n) ≡ after n ++ (awaitedBy (after n) (ν n) ∷ [])
   after-last n = rw (numbered-last ν n) (after-snoc [] (numbered ν 0 n) (ν n))
 
   after-none : after 0 ≡ []
@@ -140,48 +141,6 @@ module _ {A : Type 0} (p : A → Bool) where
   unfolding every
   every-all i [] d h = refl
   every-all i (x ∷ xs) d h = rw (h 0 (omega arith)) (every-all (suc i) xs d (λ j l. h (suc j) (omega arith)))
-
--- the clauses of a right node
-module _ (i : ℕ) (n : Node) (r : nodeRight i n ≡ true) where
-  pub right-kind : kindKnown n ≡ true
-  unfolding nodeRight
-  right-kind = and-left _ _ r
-
-  pub right-key : keyRight n ≡ true
-  unfolding nodeRight
-  right-key = and-left _ _ (and-right (kindKnown n) _ r)
-
-  pub right-arity : arityRight n ≡ true
-  unfolding nodeRight
-  right-arity = and-left _ _ (and-right (keyRight n) _ (and-right (kindKnown n) _ r))
-
-  right-lower : lower i n ≡ true
-  unfolding nodeRight
-  right-lower = and-right (arityRight n) _ (and-right (keyRight n) _ (and-right (kindKnown n) _ r))
-
-  pub first-low : n .first ≤ i
-  first-low = leb-true (n .first) i (and-left _ _ right-lower)
-
-  pub second-low : n .second ≤ i
-  second-low = leb-true (n .second) i (and-right (leb (n .first) i) _ right-lower)
-
-  -- dependencies that there are
-  pub first-given : (arity (n .kind) ≡ 0 → ⊥) → 1 ≤ n .first
-  unfolding arityRight
-  first-given u =
-      split (eqb (arity (n .kind)) 1)
-      (λ p. leb-true 1 (n .first) (and-left _ _ (rw (ne-eqb (arity (n .kind)) 0 u, p) at right-arity)))
-      (λ p. leb-true 1 (n .first) (and-left _ _ (rw (ne-eqb (arity (n .kind)) 0 u, p) at right-arity)))
-
-  pub second-given : arity (n .kind) ≡ 2 → 1 ≤ n .second
-  unfolding arityRight
-  second-given e =
-      leb-true 1 (n .second) (and-right (leb 1 (n .first)) _
-      (rw (ne-eqb (arity (n .kind)) 0 (λ q. omega arith), ne-eqb (arity (n .kind)) 1 (λ q. omega arith)) at right-arity))
-
-  pub variable-named : n .kind ≡ 1 → isName (n .key) ≡ true
-  unfolding keyRight
-  variable-named e = rw (ne-eqb (n .kind) 0 (λ q. omega arith), eq-eqb (n .kind) 1 e) at right-key
 
 pub name-positive : (k : ℕ) → isName k ≡ true → 0 < k
 unfolding isName wordNumber
@@ -262,16 +221,6 @@ module _ (ν : ℕ → Node) (i : ℕ) (held : List ℕ) (hs : Holds ν i held) 
       (λ v. record { is = rw (p, q, u, v) none; named = rw (p, q, u, v) tt }))))
 
 -- the step and the end of the pass
-all-at : (p : ℕ → Bool) (n i j : ℕ) → allFrom p n j ≡ true → i < n → p (j + i) ≡ true
-unfolding allFrom
-all-at p zero i j h l = absurd (omega arith)
-all-at p (suc n) zero j h l = let z : j + 0 ≡ j = omega arith in rw z (and-left _ _ h)
-all-at p (suc n) (suc i) j h l = let z : j + suc i ≡ suc j + i = omega arith in rw z (all-at p n i (suc j) (and-right (p j) _ h) (omega arith))
-
-pub right-at : (links cells : List ℕ) (n i : ℕ) → allFrom (rightAt links cells) n 0 ≡ true → i < n → nodeRight i (nodeAt links cells i) ≡ true
-unfolding rightAt
-right-at links cells n i h l = let z : 0 + i ≡ i = omega arith in rw z at (all-at (rightAt links cells) n i 0 h l)
-
 module _ (ν : ℕ → Node) (i : ℕ) (held held′ : List ℕ) (hs : Holds ν i held) (r : nodeRight i (ν i) ≡ true) (b : Bool) (st : Stored held (ν i) i held′ b) where
   abbrev p : Names
   p = namesBy held (ν i)

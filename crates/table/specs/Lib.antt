@@ -16,3 +16,5 @@ pub mod Records
 pub mod RecordsLaws
 pub mod Written
 pub mod WrittenLaws
+pub mod AppendedLaws
+pub mod AwaitedForms

@@ -9,9 +9,9 @@ use native.Mathlib.Numerals.{add-one}
 use native.Mathlib.Omega.{arith}
 use borrow.Author.Tests.{eq-eqb, ne-eqb, lt-ltb, le-ltb}
 use lib.Dec.{eqb, ltb}
-use lib.ListN.{length, getD, set, take, length-set, List·getD-eq-default}
-use lib.Seq.{getD-set-same, getD-set-other, getD-take, take-suc-set, length-take-le}
-use Rattle.meaning.specs.FormsLaws.{and-left}
+use lib.ListN.{length, getD, set, take, drop, length-set, List·getD-eq-default}
+use lib.Seq.{getD-set-same, getD-set-other, getD-take, take-suc-set, length-take-le, drop-at}
+use Rattle.language.specs.Limits.{tableEntries}
 use Rattle.table.specs.Memory.{Node, nodeAt}
 use Rattle.table.specs.WellFormed.{hasNode, distinct}
 use Rattle.table.specs.Bind.{find, relinked, relink, Bound, bindOne, bindAll}
@@ -20,7 +20,7 @@ use Rattle.table.specs.RightLaws.{left-suc}
 use Rattle.table.specs.Held.{shaped, wordOf, freshAt, heldAt, withFresh}
 use Rattle.table.specs.Chain.{hashOf, lastSame, Chained, linked}
 use Rattle.table.specs.ChainLaws.{numbered-zero, numbered-last, numbered-agree, length-numbered, distinct-snoc, has-last, last-le, find-last, hash-low, chained-more, chained-agree, held-front}
-use Rattle.table.specs.Records.{recordWord, recordAt, bound, boundNow, Ready, BoundOne, BoundAll}
+use Rattle.table.specs.Records.{recordWord, recordAt, bound, boundNow, Ready, BoundOne, BoundAll, isFull}
 use Rattle.table.specs.declared.nodes.Shape.{Shape}
 
 -- the words of a node that waits, taken apart again
@@ -267,6 +267,48 @@ module _ (links cells : List ℕ) (count : ℕ) (records : List ℕ) (n : ℕ) w
 
         done : boundNow links cells count total r numbers fresh ≡ bindAll (boundNow links cells count total r numbers fresh) (numbered (recordAt records) r (n - r))
         done = sym (no-more (boundNow links cells count total r numbers fresh) (n - r) (omega arith))
+
+-- what binding leaves: the entries held, then those that wait; their number; and the numbers of the records
+numbered-split : (ν μ : ℕ → Node) (i c k : ℕ) → ((j : ℕ) → ν (i + c + j) ≡ μ j) → numbered ν i (c + k) ≡ numbered ν i c ++ numbered μ 0 k
+unfolding numbered
+numbered-split ν μ i zero k h = let z : 0 + k ≡ k = omega arith in rw z (shift i 0 k (λ j. let q : i + j ≡ i + 0 + j = omega arith in let z : 0 + j ≡ j = omega arith in rw (q, z) (h j)))
+  where
+    shift : (a b k : ℕ) → ((j : ℕ) → ν (a + j) ≡ μ (b + j)) → numbered ν a k ≡ numbered μ b k
+    shift a b zero g = refl
+    shift a b (suc k) g =
+        let p : a + 0 ≡ a = omega arith in
+        let q : b + 0 ≡ b = omega arith in
+        rw (rw (p, q) at (g 0), shift (suc a) (suc b) k (λ j. let u : suc a + j ≡ a + suc j = omega arith in let v : suc b + j ≡ b + suc j = omega arith in rw (u, v) (g (suc j))))
+numbered-split ν μ i (suc c) k h =
+    let z : suc c + k ≡ suc (c + k) = omega arith in
+    rw z (ap (λ (l : List Node). ν i ∷ l) (numbered-split ν μ (suc i) c k (λ j. let q : suc i + c + j ≡ i + suc c + j = omega arith in rw q (h j))))
+
+module _ (links cells : List ℕ) (count : ℕ) (records : List ℕ) (n total : ℕ) (numbers fresh : List ℕ) (all : BoundAll links cells count records n total numbers fresh) where
+  abbrev after : Bound
+  after = bindAll (bound (numbered (nodeAt links cells) 0 count) []) (numbered (recordAt records) 0 n)
+
+  pub bound-nodes : after .nodes ≡ numbered (nodeAt links cells) 0 count ++ numbered (freshAt fresh) 0 (total - count)
+  bound-nodes =
+      let l = all .low in
+      let z : count + (total - count) ≡ total = omega arith in
+      sym (ap (λ (b : Bound). b .nodes) (all .is)) ∙ ap (numbered (heldAt links cells count fresh) 0) (sym z)
+      ∙ numbered-split (heldAt links cells count fresh) (freshAt fresh) 0 count (total - count)
+      (λ j. let q : 0 + count + j - count ≡ j = omega arith in held-back links cells count fresh (0 + count + j) (omega arith) ∙ ap (freshAt fresh) q)
+      ∙ ap (λ (ns : List Node). ns ++ numbered (freshAt fresh) 0 (total - count)) (numbered-agree (heldAt links cells count fresh) (nodeAt links cells) 0 count (λ j m. held-front links cells count fresh j (omega arith)))
+
+  -- exactly the new entries wait
+  pub bound-waits : numbered (freshAt fresh) 0 (total - count) ≡ drop count (after .nodes)
+  bound-waits = sym (ap (drop count) bound-nodes ∙ drop-at (numbered (nodeAt links cells) 0 count) (numbered (freshAt fresh) 0 (total - count)) count (length-numbered (nodeAt links cells) 0 count))
+
+  pub bound-numbers : take n numbers ≡ after .numbers
+  bound-numbers = ap (λ (b : Bound). b .numbers) (all .is)
+
+  -- 01, refusal 13, by the definition
+  pub bound-total : total ≡ length (after .nodes)
+  bound-total = sym (length-numbered (heldAt links cells count fresh) 0 total) ∙ ap (λ (b : Bound). length (b .nodes)) (all .is)
+
+  pub bound-full : isFull total ≡ ltb tableEntries (length (after .nodes))
+  bound-full = ap isFull bound-total
 
 pub ready-next : (links cells : List ℕ) (count total : ℕ) (records : List ℕ) (r : ℕ) (numbers fresh : List ℕ) (total′ : ℕ) (numbers′ fresh′ chain′ : List ℕ)
     → BoundOne links cells count total records r numbers fresh total′ numbers′ fresh′ chain′ → Ready links cells count total′ (r + 1) numbers′ fresh′ chain′

@@ -6,7 +6,7 @@ use Prim.Native.Nat.{ℕ, zero, suc, _+_, _-_, _*_, _/_, _%_, _≤_, _<_, _^_}
 use native.Mathlib.Nat.{mod-eq-of-lt, sub-zero}
 use native.Mathlib.Numerals.{add-one}
 use native.Mathlib.Omega.{arith}
-use borrow.Author.Tests.{eq-eqb, ne-eqb, lt-ltb, le-ltb}
+use borrow.Author.Tests.{eq-eqb, ne-eqb, lt-ltb, le-ltb, leb-true}
 use lib.Dec.{eqb, leb, ltb}
 use lib.ListN.{length, getD}
 use Rattle.language.specs.Names.{isLetter, inWord, packed, packOnto, bytes, letWord, inWord!, dataWord}
@@ -14,6 +14,8 @@ use Rattle.language.specs.Members.{row, memberAt, foundIn, members}
 use Rattle.language.specs.declared.members.Member.{Member}
 use Rattle.language.specs.declared.members.Found.{Found}
 use Rattle.language.specs.declared.members.Found.the-variants.{Is, Unknown}
+use Rattle.meaning.specs.FormsLaws.{and-left, and-right}
+use Rattle.meaning.specs.EvaluationLaws.{split}
 use Rattle.table.specs.Memory.{Node, nodeAt}
 use Rattle.table.specs.Nodes.{pickFound, memberOfKind, memberArity, arity, wordNumber, isName}
 use Rattle.table.specs.WellFormed.{kindKnown, keyRight, arityRight, lower}
@@ -132,6 +134,64 @@ module _ (links cells : List ℕ) (i kind : ℕ) (qk : kind ≡ getD links (3 * 
   pub right-unknown : 21 ≤ kind → false ≡ rightAt links cells i
   unfolding rightAt nodeRight nodeAt
   right-unknown h = rw (← qk, le-ltb kind 21 h)
+
+-- the clauses of a right node
+module _ (i : ℕ) (n : Node) (r : nodeRight i n ≡ true) where
+  pub right-kind : kindKnown n ≡ true
+  unfolding nodeRight
+  right-kind = and-left _ _ r
+
+  pub right-key : keyRight n ≡ true
+  unfolding nodeRight
+  right-key = and-left _ _ (and-right (kindKnown n) _ r)
+
+  pub right-arity : arityRight n ≡ true
+  unfolding nodeRight
+  right-arity = and-left _ _ (and-right (keyRight n) _ (and-right (kindKnown n) _ r))
+
+  right-lower : lower i n ≡ true
+  unfolding nodeRight
+  right-lower = and-right (arityRight n) _ (and-right (keyRight n) _ (and-right (kindKnown n) _ r))
+
+  pub first-low : n .first ≤ i
+  first-low = leb-true (n .first) i (and-left _ _ right-lower)
+
+  pub second-low : n .second ≤ i
+  second-low = leb-true (n .second) i (and-right (leb (n .first) i) _ right-lower)
+
+  -- dependencies that there are
+  pub first-given : (arity (n .kind) ≡ 0 → ⊥) → 1 ≤ n .first
+  unfolding arityRight
+  first-given u =
+      split (eqb (arity (n .kind)) 1)
+      (λ p. leb-true 1 (n .first) (and-left _ _ (rw (ne-eqb (arity (n .kind)) 0 u, p) at right-arity)))
+      (λ p. leb-true 1 (n .first) (and-left _ _ (rw (ne-eqb (arity (n .kind)) 0 u, p) at right-arity)))
+
+  pub second-given : arity (n .kind) ≡ 2 → 1 ≤ n .second
+  unfolding arityRight
+  second-given e =
+      leb-true 1 (n .second) (and-right (leb 1 (n .first)) _
+      (rw (ne-eqb (arity (n .kind)) 0 (λ q. omega arith), ne-eqb (arity (n .kind)) 1 (λ q. omega arith)) at right-arity))
+
+  pub variable-named : n .kind ≡ 1 → isName (n .key) ≡ true
+  unfolding keyRight
+  variable-named e = rw (ne-eqb (n .kind) 0 (λ q. omega arith), eq-eqb (n .kind) 1 e) at right-key
+
+-- what holds of each number
+pub all-at : (p : ℕ → Bool) (n i j : ℕ) → allFrom p n j ≡ true → i < n → p (j + i) ≡ true
+unfolding allFrom
+all-at p zero i j h l = absurd (omega arith)
+all-at p (suc n) zero j h l = let z : j + 0 ≡ j = omega arith in rw z (and-left _ _ h)
+all-at p (suc n) (suc i) j h l = let z : j + suc i ≡ suc j + i = omega arith in rw z (all-at p n i (suc j) (and-right (p j) _ h) (omega arith))
+
+pub right-at : (links cells : List ℕ) (n i : ℕ) → allFrom (rightAt links cells) n 0 ≡ true → i < n → nodeRight i (nodeAt links cells i) ≡ true
+unfolding rightAt
+right-at links cells n i h l = let z : 0 + i ≡ i = omega arith in rw z at (all-at (rightAt links cells) n i 0 h l)
+
+pub all-of : (p : ℕ → Bool) (n i : ℕ) → ((j : ℕ) → i ≤ j → j < i + n → p j ≡ true) → allFrom p n i ≡ true
+unfolding allFrom
+all-of p zero i h = refl
+all-of p (suc n) i h = rw (h i (omega arith) (omega arith)) (all-of p n (suc i) (λ j k l. h j (omega arith) (omega arith)))
 
 pub ruleset entries = (arity-of, word-stop, word-go, word-fail, word-end, name-is, arity-function, arity-none, arity-member, arity-unknown, key-number, key-name, key-none, arity-zero, arity-one, arity-two, right-known, right-unknown)
 

@@ -22,7 +22,7 @@ use Rattle.values.specs.declared.Value.the-variants.{Number, Window, Mis
 use Rattle.values.specs.Values.{ranged, wrongKind, outsideWindow}
 use Rattle.values.specs.Windows.{readingsIn, clipped, skipped, taken, reading, unlessNegative, total, lesser, greater, extreme, ofWindow, onWindow}
 use Rattle.values.specs.Ranges.{mag-abs}
-use Rattle.values.specs.WindowLaws.{readings-none, readings-rest, readings-short, Summed, summed-none, summed-more, summed-all, Folded, folded-one, folded-more, folded-all, folded-none}
+use Rattle.values.specs.WindowLaws.{readings-none, readings-rest, readings-short, Summed, summed-none, summed-more, summed-all, Folded, folded-one, folded-more, folded-all, no-readings}
 use Rattle.values.proofs.Tables.{tag, last-arm}
 use Rattle.values.proofs.Signed.{widens, wide, wide-is, read-lt}
 
@@ -89,7 +89,7 @@ module _ (f : ℤ → ℤ → ℤ) (ys : List ℤ) where
 module _ (xs ys : List ℤ) (s l : ℕ) (e : ys ≡ readingsIn xs s l) where
   none : (f : ℤ → ℤ → ℤ) → length ys ≡ 0 → Missing outsideWindow ≡ extreme f (readingsIn xs s l)
   unfolding extreme
-  none f h = ap (extreme f) (sym (folded-none f ys h) ∙ e)
+  none f h = ap (extreme f) (sym (no-readings ys h) ∙ e)
 
   pub least-none : length ys ≡ 0 → Missing outsideWindow ≡ ofWindow Min xs s l
   unfolding ofWindow

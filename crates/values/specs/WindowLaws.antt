@@ -72,8 +72,8 @@ readings-taken xs s l n = take-list (drop s xs) n l
 
 -- ---- the readings from i on
 
-next : (xs : List ℤ) (i : ℕ) → i < length xs → getD xs i (pos 0) ∷ drop (i + 1) xs ≡ drop i xs
-next xs i h = rw (add-one, ← drop-cons xs i (pos 0) h)
+pub drop-next : (xs : List ℤ) (i : ℕ) → i < length xs → getD xs i (pos 0) ∷ drop (i + 1) xs ≡ drop i xs
+drop-next xs i h = rw (add-one, ← drop-cons xs i (pos 0) h)
 
 -- ---- a sum, after i readings
 
@@ -94,7 +94,7 @@ summed-more xs t i s h k = record {
   small = omega (arith, abs-sum t (getD xs i (pos 0)), abs-mag (getD xs i (pos 0)));
   rest =
       +ℤ-assoc t (getD xs i (pos 0)) (total (drop (i + 1) xs))
-      ∙ ap (λ (ys : List ℤ). t +ℤ total ys) (next xs i h)
+      ∙ ap (λ (ys : List ℤ). t +ℤ total ys) (drop-next xs i h)
       ∙ s .rest;
 }
 
@@ -117,13 +117,13 @@ pub folded-more : (f : ℤ → ℤ → ℤ) (xs : List ℤ) (b : ℤ) (i : ℕ) 
 unfolding foldFrom
 folded-more f xs b i s h = record {
   within = omega arith;
-  rest = ap (λ (ys : List ℤ). Number (foldFrom f b ys)) (next xs i h) ∙ s .rest;
+  rest = ap (λ (ys : List ℤ). Number (foldFrom f b ys)) (drop-next xs i h) ∙ s .rest;
 }
 
 pub folded-all : (f : ℤ → ℤ → ℤ) (xs : List ℤ) (b : ℤ) (i : ℕ) → Folded f xs b i → length xs ≤ i → Number b ≡ extreme f xs
 unfolding foldFrom
 folded-all f xs b i s h = ap (λ (ys : List ℤ). Number (foldFrom f b ys)) (sym (drop-of-length-le xs h)) ∙ s .rest
 
-pub folded-none : (f : ℤ → ℤ → ℤ) (xs : List ℤ) → length xs ≡ 0 → xs ≡ []
-folded-none f [] h = refl
-folded-none f (x ∷ xs) h = absurd (omega arith)
+pub no-readings : (xs : List ℤ) → length xs ≡ 0 → xs ≡ []
+no-readings [] h = refl
+no-readings (x ∷ xs) h = absurd (omega arith)

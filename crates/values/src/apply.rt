@@ -22,6 +22,7 @@ pub enum Applied {
     Run { start: u16, length: u16 },
 }
 
+// Whether nothing is shown.
 pub fn is_missing(v: Value) -> bool
     ensures { λ r. ⌜ r ≡ Rules.isMissing v ⌝ }
 {
@@ -37,6 +38,7 @@ pub fn is_missing(v: Value) -> bool
     }
 }
 
+// Whether it waits for a variable.
 pub fn is_delayed(v: Value) -> bool
     ensures { λ r. ⌜ r ≡ Rules.isDelayed v ⌝ }
 {
@@ -52,6 +54,7 @@ pub fn is_delayed(v: Value) -> bool
     }
 }
 
+// A kind by its number in the member table.
 fn kind_number(k: Kind) -> u8
     ensures { λ r. ⌜ r ≡ kindNumber k ⌝ }
 {
@@ -63,6 +66,7 @@ fn kind_number(k: Kind) -> u8
     }
 }
 
+// A value's kind by its number: 0 for one that no member can take.
 fn value_kind(v: Value) -> u8
     ensures { λ r. ⌜ r ≡ kindNumber (kindOf v) ⌝ }
 {
@@ -78,12 +82,14 @@ fn value_kind(v: Value) -> u8
     }
 }
 
+// Whether a value is of a kind.
 fn is_kind(v: Value, k: Kind) -> bool
     ensures { λ r. ⌜ r ≡ Rules.isKind v k ⌝ }
 {
     value_kind(v) == kind_number(k)
 }
 
+// The rule of a member with no argument.
 fn rule0(m: Member, xs: &[i32], v: Value) -> Value
     ensures { λ r. ⌜ r ≡ Rules.rule0 m (now (xs .entry)) v ⌝ }
 {
@@ -109,6 +115,7 @@ pub fn apply0(m: Member, xs: &[i32], u: Value) -> Value
     Value::Missing(2)
 }
 
+// The rule of a member on a number.
 fn rule_number(m: Member, a: i32, w: Value) -> Value
     ensures { λ r. ⌜ r ≡ Rules.ruleNumber m a w ⌝ }
 {
@@ -118,6 +125,7 @@ fn rule_number(m: Member, a: i32, w: Value) -> Value
     }
 }
 
+// The rule of a member on a window.
 fn rule_window(m: Member, xs: &[i32], start: u16, length: u16, w: Value) -> Applied
     requires { ⌜ start + length ≤ 65535 ⌝ }
     ensures { λ r. ⌜ r ≡ ruledWindow m (now (xs .entry)) start length w ⌝ }
@@ -129,6 +137,7 @@ fn rule_window(m: Member, xs: &[i32], start: u16, length: u16, w: Value) -> Appl
     }
 }
 
+// The rule of a member with one argument.
 fn rule1(m: Member, xs: &[i32], v: Value, w: Value) -> Applied
     requires { ⌜ Bounded v ⌝ }
     ensures { λ r. ⌜ r ≡ ruled1 m (now (xs .entry)) v w ⌝ }

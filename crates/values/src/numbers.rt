@@ -19,25 +19,28 @@ pub fn number(z: i64) -> Value
     Value::Number(z as i32)
 }
 
+// The sum.
 pub fn add(a: i32, b: i32) -> Value
     ensures { λ r. ⌜ r ≡ onNumbers Members.Add a b ⌝ }
 {
     number(a as i64 + b as i64)
 }
 
+// The difference.
 pub fn sub(a: i32, b: i32) -> Value
     ensures { λ r. ⌜ r ≡ onNumbers Members.Sub a b ⌝ }
 {
     number(a as i64 - b as i64)
 }
 
+// The product.
 pub fn mul(a: i32, b: i32) -> Value
     ensures { λ r. ⌜ r ≡ onNumbers Members.Mul a b ⌝ }
 {
     number(a as i64 * b as i64)
 }
 
-// Towards zero; reason 3 for a zero divisor.
+// The quotient, towards zero; reason 3 for a zero divisor.
 pub fn div(a: i32, b: i32) -> Value
     ensures { λ r. ⌜ r ≡ onNumbers Members.Div a b ⌝ }
 {
@@ -47,6 +50,7 @@ pub fn div(a: i32, b: i32) -> Value
     number(a as i64 / b as i64)
 }
 
+// 1 where a is greater than b, and otherwise 0.
 pub fn gt(a: i32, b: i32) -> Value
     ensures { λ r. ⌜ r ≡ onNumbers Members.Gt a b ⌝ }
 {
@@ -57,6 +61,7 @@ pub fn gt(a: i32, b: i32) -> Value
     }
 }
 
+// 1 where they are equal, and otherwise 0.
 pub fn eq(a: i32, b: i32) -> Value
     ensures { λ r. ⌜ r ≡ onNumbers Members.Eq a b ⌝ }
 {

@@ -13,6 +13,7 @@ const DELAYED: u64 = 25769803776;
 
 const MISSING: u64 = 34359738368;
 
+// The cell of a value: never 0.
 pub fn pack(v: Value) -> u64
     ensures { λ r. ⌜ r ≡ packOf v ⌝ }
 {
@@ -25,6 +26,7 @@ pub fn pack(v: Value) -> u64
     }
 }
 
+// The number that a cell of the first range holds.
 fn number_in(cell: u64) -> i32
     ensures { λ r. ⌜ r ≡ numberIn cell ⌝ }
 {

@@ -17,6 +17,7 @@ pub struct Tally {
     pub total: i64,
 }
 
+// Before the first result.
 pub fn start() -> Tally
     ensures { λ r. ⌜ r ≡ begun ⌝ }
 {
@@ -30,6 +31,7 @@ pub fn start() -> Tally
     }
 }
 
+// Stopped, for a reason.
 fn halt(reason: u8) -> Tally
     ensures { λ r. ⌜ r ≡ halted reason ⌝ }
 {
@@ -43,12 +45,14 @@ fn halt(reason: u8) -> Tally
     }
 }
 
+// The greater of two lengths.
 fn longer(a: u16, b: u16) -> u16
     ensures { λ r. ⌜ r ≡ max a b ⌝ }
 {
     if a < b { b } else { a }
 }
 
+// One more number.
 fn note(t: Tally, z: i32) -> Tally
     requires { ⌜ Within 65534 t ⌝ }
     ensures { λ r. ⌜ r ≡ noted t z ⌝ }

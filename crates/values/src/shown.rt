@@ -11,6 +11,7 @@ pub struct Shown {
     pub second: u32,
 }
 
+// The numbers of a value.
 pub fn numbers(v: Value) -> Shown
     ensures { λ r. ⌜ r ≡ shownNumbers v ⌝ }
 {

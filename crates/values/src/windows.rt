@@ -24,7 +24,7 @@ pub fn part(xs: &[i32], start: u16, length: u16) -> &[i32]
     &xs[from..to]
 }
 
-// Exact: only the final total is tested for its range.
+// The sum, exact: only the final total is tested for its range.
 pub fn sum(xs: &[i32], start: u16, length: u16) -> Value
     ensures { λ r. ⌜ r ≡ ofWindow Members.Sum (now (xs .entry)) start length ⌝ }
 {
@@ -38,19 +38,21 @@ pub fn sum(xs: &[i32], start: u16, length: u16) -> Value
     number(total)
 }
 
+// The lesser of two.
 fn lesser_of(a: i32, b: i32) -> i32
     ensures { λ r. ⌜ r ≡ lesser a b ⌝ }
 {
     if b < a { b } else { a }
 }
 
+// The greater of two.
 fn greater_of(a: i32, b: i32) -> i32
     ensures { λ r. ⌜ r ≡ greater a b ⌝ }
 {
     if a < b { b } else { a }
 }
 
-// Reason 5 for an empty window, here and in greatest.
+// The least reading; reason 5 for an empty window.
 pub fn least(xs: &[i32], start: u16, length: u16) -> Value
     ensures { λ r. ⌜ r ≡ ofWindow Members.Min (now (xs .entry)) start length ⌝ }
 {
@@ -67,6 +69,7 @@ pub fn least(xs: &[i32], start: u16, length: u16) -> Value
     Value::Number(best)
 }
 
+// The greatest reading; reason 5 for an empty window.
 pub fn greatest(xs: &[i32], start: u16, length: u16) -> Value
     ensures { λ r. ⌜ r ≡ ofWindow Members.Max (now (xs .entry)) start length ⌝ }
 {
@@ -107,7 +110,7 @@ fn clip(count: u32, length: u16) -> u16
     }
 }
 
-// Reason 5 for a negative count, here and in take; the start moves on by what is skipped.
+// The start moves on by what is skipped; reason 5 for a negative count.
 pub fn skip(start: u16, length: u16, n: i32) -> Value
     requires { ⌜ start + length ≤ 65535 ⌝ }
     ensures { λ r. ⌜ r ≡ unlessNegative n (skipped start length) ⌝ }
@@ -122,6 +125,7 @@ pub fn skip(start: u16, length: u16, n: i32) -> Value
     }
 }
 
+// The start stays; reason 5 for a negative count.
 pub fn take(start: u16, length: u16, n: i32) -> Value
     ensures { λ r. ⌜ r ≡ unlessNegative n (taken start length) ⌝ }
 {

@@ -1,15 +1,12 @@
+-- `evaluator::frames::start_frame` meets its contract: each path is a law of Framing. Assumes nothing.
 use Rattle.evaluator.proofs.Framing.{start-turn, start-end}
 use Rattle.evaluator.specs.Frames.{startFrom}
 use native.Mathlib.Nat.{sub-zero}
 use borrow.Author.Needs.{needs}
-use native.Mathlib.Omega.{arith}
 use Prim.Native.Nat.{_-_, _≤_}
 use mathlib.Core.Path.{_≡_}
 use Rattle.evaluator.proofs.frames.start_frame.Statement.{statement}
 use Rattle.evaluator.proofs.frames.start_frame.Tie as tie
-use Rattle.evaluator.proofs.frames.start_frame.Reads as reads
-use Rattle.evaluator.proofs.frames.start_frame.Lts as lts
-use Rattle.evaluator.proofs.frames.start_at.Reads as start-at-reads
 
 abbrev Inv-loop : tie.InvT-loop
 Inv-loop size links cells n frame₀ i₀ frame i = (i ≤ n) × (startFrom size links cells (n - i) i frame ≡ startFrom size links cells n 0 frame₀)
@@ -17,35 +14,27 @@ Inv-loop size links cells n frame₀ i₀ frame i = (i ≤ n) × (startFrom size
 abbrev μ-loop : tie.MeasureT-loop
 μ-loop size links cells n frame₀ i₀ frame i = n - i
 
--- src/frames.rt:51:5
 loop-holds : tie.Need-loop-holds Inv-loop μ-loop
 loop-holds c = (search needs, rw sub-zero)
 
--- src/frames.rt:52:20
 start-at-requires : tie.Need-start-at-requires Inv-loop μ-loop
 start-at-requires c κs = search needs
 
--- src/frames.rt:52:9
 mul-frame : tie.Need-mul-frame Inv-loop μ-loop
 mul-frame c = search needs
 
--- src/frames.rt:52:9
 element-write-frame : tie.Need-element-write-frame Inv-loop μ-loop
 element-write-frame c = search needs
 
--- src/frames.rt:53:9
 add-i : tie.Need-add-i Inv-loop μ-loop
 add-i c = search needs
 
--- src/frames.rt:51:5
 loop-less : tie.Need-loop-less Inv-loop μ-loop
 loop-less c = search needs
 
--- src/frames.rt:51:5
 loop-again : tie.Need-loop-again Inv-loop μ-loop
 loop-again c = (search needs, search (needs, start-turn))
 
--- src/frames.rt:46:1
 returns : tie.Need-returns Inv-loop μ-loop
 returns c = search (needs, start-end)
 

@@ -1,22 +1,17 @@
+-- `evaluator::links::link` meets its contract: past the end a read is 0. Assumes nothing.
 use Rattle.evaluator.proofs.Framing.{framing}
 use Rattle.evaluator.proofs.links.link.Statement.{statement}
 use Rattle.evaluator.proofs.links.link.Tie as tie
-use Rattle.evaluator.proofs.links.link.Reads as reads
-use Rattle.evaluator.proofs.links.link.Lts as lts
 
--- src/links.rt:9:26
 mul-result : tie.Need-mul-result
 mul-result c = search framing
 
--- src/links.rt:9:26
 shared-slice-read-result : tie.Need-shared-slice-read-result
 shared-slice-read-result c = search framing
 
--- src/links.rt:6:1
 returns : tie.Need-returns
 returns c = search framing
 
--- src/links.rt:6:1
 returns-2 : tie.Need-returns-2
 returns-2 c = search framing
 

@@ -1,42 +1,31 @@
+-- `evaluator::reach::flag` meets its contract: each path is a law of Reaching. Assumes nothing.
 use Rattle.evaluator.proofs.Reaching.{reaching}
 use Rattle.evaluator.proofs.Waiting.{below-one, below-most}
 use native.Mathlib.Omega.{arith}
 use Rattle.evaluator.proofs.reach.flag.Statement.{statement}
 use Rattle.evaluator.proofs.reach.flag.Tie as tie
-use Rattle.evaluator.proofs.reach.flag.Reads as reads
-use Rattle.evaluator.proofs.reach.flag.Lts as lts
-use Rattle.evaluator.proofs.links.is_below.Reads as is-below-reads
-use Rattle.evaluator.proofs.reach.moves.Reads as moves-reads
 
--- src/reach.rt:26:8
 is-below-requires : tie.Need-is-below-requires
 is-below-requires c κs = search reaching
 
--- src/reach.rt:27:28
 sub-moves : tie.Need-sub-moves
 sub-moves c = omega (arith, below-one (c .before .before .args .link) (c .before .before .args .j) (c .before .is-below .result) (c .before .is-below .ensures) (c .if1 .taken), below-most (c .before .before .args .link) (c .before .before .args .j) (c .before .is-below .result) (c .before .is-below .ensures) (c .if1 .taken))
 
--- src/reach.rt:27:12
 moves-requires : tie.Need-moves-requires
 moves-requires c κs = omega (arith, below-one (c .before .before .args .link) (c .before .before .args .j) (c .before .is-below .result) (c .before .is-below .ensures) (c .if1 .taken), below-most (c .before .before .args .link) (c .before .before .args .j) (c .before .is-below .result) (c .before .is-below .ensures) (c .if1 .taken))
 
--- src/reach.rt:28:19
 sub-flags : tie.Need-sub-flags
 sub-flags c = omega (arith, below-one (c .before .before .before .before .args .link) (c .before .before .before .before .args .j) (c .before .before .before .is-below .result) (c .before .before .before .is-below .ensures) (c .before .before .if1 .taken), below-most (c .before .before .before .before .args .link) (c .before .before .before .before .args .j) (c .before .before .before .is-below .result) (c .before .before .before .is-below .ensures) (c .before .before .if1 .taken))
 
--- src/reach.rt:28:13
 element-write-flags : tie.Need-element-write-flags
 element-write-flags c = omega (arith, below-one (c .before .before .before .before .args .link) (c .before .before .before .before .args .j) (c .before .before .before .is-below .result) (c .before .before .before .is-below .ensures) (c .before .before .if1 .taken), below-most (c .before .before .before .before .args .link) (c .before .before .before .before .args .j) (c .before .before .before .is-below .result) (c .before .before .before .is-below .ensures) (c .before .before .if1 .taken))
 
--- src/reach.rt:22:1
 returns : tie.Need-returns
 returns c = search reaching
 
--- src/reach.rt:22:1
 returns-2 : tie.Need-returns-2
 returns-2 c = search reaching
 
--- src/reach.rt:22:1
 returns-3 : tie.Need-returns-3
 returns-3 c = search reaching
 

@@ -1,15 +1,12 @@
+-- `evaluator::waits::fill_waits` meets its contract: each path is a law of Waiting. Assumes nothing.
 use Rattle.evaluator.proofs.Waiting.{waits-turn, waits-end}
 use Rattle.evaluator.specs.Waits.{waitsFrom}
 use native.Mathlib.Nat.{sub-zero}
 use borrow.Author.Needs.{needs}
-use native.Mathlib.Omega.{arith}
 use Prim.Native.Nat.{_-_, _≤_}
 use mathlib.Core.Path.{_≡_}
 use Rattle.evaluator.proofs.waits.fill_waits.Statement.{statement}
 use Rattle.evaluator.proofs.waits.fill_waits.Tie as tie
-use Rattle.evaluator.proofs.waits.fill_waits.Reads as reads
-use Rattle.evaluator.proofs.waits.fill_waits.Lts as lts
-use Rattle.evaluator.proofs.waits.waits_at.Reads as waits-at-reads
 
 abbrev Inv-loop : tie.InvT-loop
 Inv-loop links cells n waits₀ i₀ waits i = (i ≤ n) × (waitsFrom links cells (n - i) i waits ≡ waitsFrom links cells n 0 waits₀)
@@ -17,35 +14,27 @@ Inv-loop links cells n waits₀ i₀ waits i = (i ≤ n) × (waitsFrom links cel
 abbrev μ-loop : tie.MeasureT-loop
 μ-loop links cells n waits₀ i₀ waits i = n - i
 
--- src/waits.rt:94:5
 loop-holds : tie.Need-loop-holds Inv-loop μ-loop
 loop-holds c = (search needs, rw sub-zero)
 
--- src/waits.rt:95:20
 waits-at-requires : tie.Need-waits-at-requires Inv-loop μ-loop
 waits-at-requires c κs = search needs
 
--- src/waits.rt:95:9
 mul-waits : tie.Need-mul-waits Inv-loop μ-loop
 mul-waits c = search needs
 
--- src/waits.rt:95:9
 element-write-waits : tie.Need-element-write-waits Inv-loop μ-loop
 element-write-waits c = search needs
 
--- src/waits.rt:96:9
 add-i : tie.Need-add-i Inv-loop μ-loop
 add-i c = search needs
 
--- src/waits.rt:94:5
 loop-less : tie.Need-loop-less Inv-loop μ-loop
 loop-less c = search needs
 
--- src/waits.rt:94:5
 loop-again : tie.Need-loop-again Inv-loop μ-loop
 loop-again c = (search needs, search (needs, waits-turn))
 
--- src/waits.rt:89:1
 returns : tie.Need-returns Inv-loop μ-loop
 returns c = search (needs, waits-end)
 

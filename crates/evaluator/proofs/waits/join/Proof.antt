@@ -1,38 +1,29 @@
+-- `evaluator::waits::join` meets its contract: each path is a law of Waiting. Assumes nothing.
 use Rattle.evaluator.proofs.Waiting.{waiting}
 use Rattle.evaluator.proofs.waits.join.Statement.{statement}
 use Rattle.evaluator.proofs.waits.join.Tie as tie
-use Rattle.evaluator.proofs.waits.join.Reads as reads
-use Rattle.evaluator.proofs.waits.join.Lts as lts
 
--- src/waits.rt:26:9
 returns : tie.Need-returns
 returns c = search waiting
 
--- src/waits.rt:29:9
 returns-2 : tie.Need-returns-2
 returns-2 c = search waiting
 
--- src/waits.rt:32:16
 mul-result : tie.Need-mul-result
 mul-result c = search waiting
 
--- src/waits.rt:32:16
 add-result : tie.Need-add-result
 add-result c = search waiting
 
--- src/waits.rt:32:9
 returns-3 : tie.Need-returns-3
 returns-3 c = search waiting
 
--- src/waits.rt:34:5
 mul-result-2 : tie.Need-mul-result-2
 mul-result-2 c = search waiting
 
--- src/waits.rt:34:5
 add-result-2 : tie.Need-add-result-2
 add-result-2 c = search waiting
 
--- src/waits.rt:22:1
 returns-4 : tie.Need-returns-4
 returns-4 c = search waiting
 

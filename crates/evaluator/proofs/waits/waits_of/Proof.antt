@@ -1,33 +1,24 @@
+-- `evaluator::waits::waits_of` meets its contract: each path is a law of Waiting. Assumes nothing.
 use Rattle.evaluator.proofs.Waiting.{waiting, below-one, below-most}
 use native.Mathlib.Omega.{arith}
-use Rattle.evaluator.proofs.Waiting.{waiting}
 use Rattle.evaluator.proofs.waits.waits_of.Statement.{statement}
 use Rattle.evaluator.proofs.waits.waits_of.Tie as tie
-use Rattle.evaluator.proofs.waits.waits_of.Reads as reads
-use Rattle.evaluator.proofs.waits.waits_of.Lts as lts
-use Rattle.evaluator.proofs.links.is_below.Reads as is-below-reads
 
--- src/waits.rt:63:8
 is-below-requires : tie.Need-is-below-requires
 is-below-requires c κs = search waiting
 
--- src/waits.rt:64:22
 sub-result : tie.Need-sub-result
 sub-result c = omega (arith, below-one (c .before .before .args .link) (c .before .before .args .i) (c .before .is-below .result) (c .before .is-below .ensures) (c .if1 .taken), below-most (c .before .before .args .link) (c .before .before .args .i) (c .before .is-below .result) (c .before .is-below .ensures) (c .if1 .taken))
 
--- src/waits.rt:64:16
 mul-result : tie.Need-mul-result
 mul-result c = omega (arith, below-one (c .before .before .args .link) (c .before .before .args .i) (c .before .is-below .result) (c .before .is-below .ensures) (c .if1 .taken), below-most (c .before .before .args .link) (c .before .before .args .i) (c .before .is-below .result) (c .before .is-below .ensures) (c .if1 .taken))
 
--- src/waits.rt:64:16
 element-copy-out-result : tie.Need-element-copy-out-result
 element-copy-out-result c = omega (arith, below-one (c .before .before .args .link) (c .before .before .args .i) (c .before .is-below .result) (c .before .is-below .ensures) (c .if1 .taken), below-most (c .before .before .args .link) (c .before .before .args .i) (c .before .is-below .result) (c .before .is-below .ensures) (c .if1 .taken))
 
--- src/waits.rt:64:9
 returns : tie.Need-returns
 returns c = search waiting
 
--- src/waits.rt:59:1
 returns-2 : tie.Need-returns-2
 returns-2 c = search waiting
 

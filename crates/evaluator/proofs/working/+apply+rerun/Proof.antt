@@ -2,13 +2,12 @@
 -- Assumes nothing.
 use borrow.Author.Needs.{needs}
 use native.Mathlib.Omega.{arith}
-use Prim.Native.Nat.{_+_, _*_, _-_, _≤_}
+use Prim.Native.Nat.{_+_, _*_, _-_, _≤_, ℕ, _<_}
 use mathlib.Core.Path.{_≡_, refl}
 use lib.ListN.{drop}
 use Rattle.values.specs.Windows.{readingsIn}
 use Rattle.evaluator.specs.Working.{graph}
 use Rattle.evaluator.proofs.Running.{done-applies, judge-applies, run-applies, Runs, runs-begin, runs-within, runs-end, runs-stop, runs-again, Works, works-stop, works-end, works-again}
-use Prim.Native.Nat.{ℕ, _<_}
 use borrow.Fn.Kinds.{In}
 use borrow.Fn.PlainCycle.{Measures, is, falls, and}
 use Rattle.evaluator.proofs.working.apply.Reads as apply

@@ -1,98 +1,70 @@
+-- `evaluator::working::run` meets its contract: each path is a law of Planning. Assumes nothing.
 use native.Mathlib.Omega.{arith}
 use Rattle.evaluator.proofs.Waiting.{below-one, below-most}
-use Rattle.evaluator.proofs.Planning.{task-right}
-use Rattle.evaluator.proofs.Planning.{planning}
+use Rattle.evaluator.proofs.Planning.{task-right, planning}
 use Rattle.evaluator.proofs.working.run.Statement.{statement}
 use Rattle.evaluator.proofs.working.run.Tie as tie
-use Rattle.evaluator.proofs.working.run.Reads as reads
-use Rattle.evaluator.proofs.working.run.Lts as lts
-use Rattle.evaluator.proofs.links.is_below.Reads as is-below-reads
-use Rattle.evaluator.proofs.links.link.Reads as link-reads
-use Rattle.evaluator.proofs.waits.own.Reads as own-reads
-use Rattle.evaluator.proofs.working.body_task.Reads as body-task-reads
-use Rattle.evaluator.proofs.working.done.Reads as done-reads
 
--- src/working.rt:148:20
 mul-link : tie.Need-mul-link
 mul-link c = search planning
 
--- src/working.rt:148:8
 link-requires : tie.Need-link-requires
 link-requires c κs = search planning
 
--- src/working.rt:149:33
 mul-link-2 : tie.Need-mul-link-2
 mul-link-2 c = search planning
 
--- src/working.rt:149:33
 add-link : tie.Need-add-link
 add-link c = search planning
 
--- src/working.rt:149:21
 link-requires-2 : tie.Need-link-requires-2
 link-requires-2 c κs = search planning
 
--- src/working.rt:149:21
 cast-first : tie.Need-cast-first
 cast-first c = search planning
 
--- src/working.rt:150:12
 is-below-requires : tie.Need-is-below-requires
 is-below-requires c κs = search planning
 
--- src/working.rt:151:24
 sub-body : tie.Need-sub-body
 sub-body c = omega (arith, below-one (c .before .before .link2 .result) (c .before .before .before .before .before .before .args .f) (c .before .is-below .result) (c .before .is-below .ensures) (c .if2 .taken), below-most (c .before .before .link2 .result) (c .before .before .before .before .before .before .args .f) (c .before .is-below .result) (c .before .is-below .ensures) (c .if2 .taken))
 
--- src/working.rt:152:32
 mul-own : tie.Need-mul-own
 mul-own c = search planning
 
--- src/working.rt:152:32
 element-copy-out-own : tie.Need-element-copy-out-own
 element-copy-out-own c = omega (arith, below-one (c .before .before .link2 .result) (c .before .before .before .before .before .before .args .f) (c .before .is-below .result) (c .before .is-below .ensures) (c .if2 .taken), below-most (c .before .before .link2 .result) (c .before .before .before .before .before .before .args .f) (c .before .is-below .result) (c .before .is-below .ensures) (c .if2 .taken))
 
--- src/working.rt:152:45
 mul-own-2 : tie.Need-mul-own-2
 mul-own-2 c = search planning
 
--- src/working.rt:152:45
 element-copy-out-own-2 : tie.Need-element-copy-out-own-2
 element-copy-out-own-2 c = search planning
 
--- src/working.rt:152:17
 own-requires : tie.Need-own-requires
 own-requires c κs = search planning
 
--- src/working.rt:154:17
 body-task-requires : tie.Need-body-task-requires
 body-task-requires c κs = search planning
 
--- src/working.rt:154:17
 returns : tie.Need-returns
 returns c = (search planning, λ d. task-right (c .before .before .before .before .before .before .before .before .before .before .before .args .f) (c .before .before .before .before .before .before .before .before .before .before .before .args .kind) (c .before .before .before .before .before .before .before .before .before .before .before .args .start) (c .before .before .before .before .before .before .before .before .before .before .before .args .length) _ (c .before .before .own .result) _ (c .body-task .ensures) (omega (arith, below-one (c .before .before .before .before .before .before .before .link2 .result) (c .before .before .before .before .before .before .before .before .before .before .before .args .f) (c .before .before .before .before .before .before .is-below .result) (c .before .before .before .before .before .before .is-below .ensures) (c .before .before .before .before .before .if2 .taken), below-most (c .before .before .before .before .before .before .before .link2 .result) (c .before .before .before .before .before .before .before .before .before .before .before .args .f) (c .before .before .before .before .before .before .is-below .result) (c .before .before .before .before .before .before .is-below .ensures) (c .before .before .before .before .before .if2 .taken))) (c .before .if3 .taken) d)
 
--- src/working.rt:156:13
 done-requires : tie.Need-done-requires
 done-requires c κs = search planning
 
--- src/working.rt:156:13
 returns-2 : tie.Need-returns-2
 returns-2 c = search planning
 
--- src/working.rt:158:9
 done-requires-2 : tie.Need-done-requires-2
 done-requires-2 c κs = search planning
 
--- src/working.rt:158:9
 returns-3 : tie.Need-returns-3
 returns-3 c = search planning
 
--- src/working.rt:160:5
 done-requires-3 : tie.Need-done-requires-3
 done-requires-3 c κs = search planning
 
--- src/working.rt:143:1
 returns-4 : tie.Need-returns-4
 returns-4 c = search planning
 

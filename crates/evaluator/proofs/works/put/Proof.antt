@@ -1,65 +1,49 @@
+-- `evaluator::works::put` meets its contract: each path is a law of Choosing. Assumes nothing.
 use native.Mathlib.Omega.{arith}
 use lib.ListN.{length-set}
-use Rattle.evaluator.proofs.Choosing.{put-is}
-use Rattle.evaluator.proofs.Choosing.{choosing}
+use Rattle.evaluator.proofs.Choosing.{put-is, choosing}
 use Rattle.evaluator.proofs.works.put.Statement.{statement}
 use Rattle.evaluator.proofs.works.put.Tie as tie
-use Rattle.evaluator.proofs.works.put.Reads as reads
-use Rattle.evaluator.proofs.works.put.Lts as lts
 
--- src/works.rt:94:11
 mul-cells : tie.Need-mul-cells
 mul-cells c = search choosing
 
--- src/works.rt:94:11
 add-cells : tie.Need-add-cells
 add-cells c = search choosing
 
--- src/works.rt:94:5
 mul-cells-2 : tie.Need-mul-cells-2
 mul-cells-2 c = search choosing
 
--- src/works.rt:94:5
 slice-write-cells : tie.Need-slice-write-cells
 slice-write-cells c = search choosing
 
--- src/works.rt:95:11
 mul-cells-3 : tie.Need-mul-cells-3
 mul-cells-3 c = search choosing
 
--- src/works.rt:95:11
 add-cells-2 : tie.Need-add-cells-2
 add-cells-2 c = search choosing
 
--- src/works.rt:95:5
 mul-cells-4 : tie.Need-mul-cells-4
 mul-cells-4 c = search choosing
 
--- src/works.rt:95:5
 slice-write-cells-2 : tie.Need-slice-write-cells-2
 slice-write-cells-2 c = simp length-set (omega arith)
 
--- src/works.rt:96:11
 mul-cells-5 : tie.Need-mul-cells-5
 mul-cells-5 c = search choosing
 
--- src/works.rt:96:11
 add-cells-3 : tie.Need-add-cells-3
 add-cells-3 c = search choosing
 
--- src/works.rt:96:5
 mul-cells-6 : tie.Need-mul-cells-6
 mul-cells-6 c = search choosing
 
--- src/works.rt:96:5
 slice-write-cells-3 : tie.Need-slice-write-cells-3
 slice-write-cells-3 c = search choosing
 
--- src/works.rt:90:1
 same-length : tie.Need-same-length
 same-length c = search choosing
 
--- src/works.rt:90:1
 returns : tie.Need-returns
 returns c = put-is _ _ _ _ _
 

@@ -1,29 +1,22 @@
+-- `evaluator::works::raise` meets its contract: each path is a law of Choosing. Assumes nothing.
 use Rattle.evaluator.proofs.Choosing.{choosing}
 use native.Mathlib.Omega.{arith}
 use Rattle.evaluator.proofs.Waiting.{below-one, below-most}
 use Rattle.evaluator.proofs.works.raise.Statement.{statement}
 use Rattle.evaluator.proofs.works.raise.Tie as tie
-use Rattle.evaluator.proofs.works.raise.Reads as reads
-use Rattle.evaluator.proofs.works.raise.Lts as lts
-use Rattle.evaluator.proofs.links.is_below.Reads as is-below-reads
 
--- src/works.rt:22:8
 is-below-requires : tie.Need-is-below-requires
 is-below-requires c κs = search choosing
 
--- src/works.rt:23:15
 sub-flags : tie.Need-sub-flags
 sub-flags c = omega (arith, below-one (c .before .before .args .link) (c .before .before .args .j) (c .before .is-below .result) (c .before .is-below .ensures) (c .if1 .taken), below-most (c .before .before .args .link) (c .before .before .args .j) (c .before .is-below .result) (c .before .is-below .ensures) (c .if1 .taken))
 
--- src/works.rt:23:9
 element-write-flags : tie.Need-element-write-flags
 element-write-flags c = omega (arith, below-one (c .before .before .args .link) (c .before .before .args .j) (c .before .is-below .result) (c .before .is-below .ensures) (c .if1 .taken), below-most (c .before .before .args .link) (c .before .before .args .j) (c .before .is-below .result) (c .before .is-below .ensures) (c .if1 .taken))
 
--- src/works.rt:18:1
 returns : tie.Need-returns
 returns c = search choosing
 
--- src/works.rt:18:1
 returns-2 : tie.Need-returns-2
 returns-2 c = search choosing
 

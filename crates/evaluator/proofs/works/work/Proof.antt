@@ -1,18 +1,10 @@
-use native.Mathlib.Omega.{arith}
 -- The invariant: what is left of the work comes to the same. Assumes nothing.
+use native.Mathlib.Omega.{arith}
 use borrow.Author.Needs.{needs}
 use Prim.Native.Nat.{_+_, _-_}
 use Rattle.evaluator.proofs.Choosing.{Going, work-begin, work-take, work-skip, work-stop, work-end}
 use Rattle.evaluator.proofs.works.work.Statement.{statement}
 use Rattle.evaluator.proofs.works.work.Tie as tie
-use Rattle.evaluator.proofs.works.work.Reads as reads
-use Rattle.evaluator.proofs.works.work.Lts as lts
-use Rattle.evaluator.proofs.frames.start_frame.Reads as start-frame-reads
-use Rattle.evaluator.proofs.waits.fill_waits.Reads as fill-waits-reads
-use Rattle.evaluator.proofs.working.apply.Reads as apply-reads
-use Rattle.evaluator.proofs.works.chosen.Reads as chosen-reads
-use Rattle.evaluator.proofs.works.keep.Reads as keep-reads
-use Rattle.evaluator.proofs.works.need.Reads as need-reads
 
 abbrev Inv-loop : tie.InvT-loop
 Inv-loop readings links cells₀ n allowance waits frame₀ flags count₀ i₀ cells frame count i = Going readings links cells₀ n allowance waits flags cells frame count i
@@ -20,103 +12,78 @@ Inv-loop readings links cells₀ n allowance waits frame₀ flags count₀ i₀ 
 abbrev μ-loop : tie.MeasureT-loop
 μ-loop readings links cells₀ n allowance waits frame₀ flags count₀ i₀ cells frame count i = n + 1 - i
 
--- src/works.rt:124:30
 add-fill-waits : tie.Need-add-fill-waits Inv-loop μ-loop
 add-fill-waits c = search needs
 
--- src/works.rt:124:5
 fill-waits-requires : tie.Need-fill-waits-requires Inv-loop μ-loop
 fill-waits-requires c κs = search needs
 
--- src/works.rt:126:17
 cast-start-frame : tie.Need-cast-start-frame Inv-loop μ-loop
 cast-start-frame c = search needs
 
--- src/works.rt:126:54
 add-start-frame : tie.Need-add-start-frame Inv-loop μ-loop
 add-start-frame c = search needs
 
--- src/works.rt:126:5
 start-frame-requires : tie.Need-start-frame-requires Inv-loop μ-loop
 start-frame-requires c κs = search needs
 
--- src/works.rt:128:5
 need-requires : tie.Need-need-requires Inv-loop μ-loop
 need-requires c κs = search needs
 
--- src/works.rt:131:5
 loop-holds : tie.Need-loop-holds Inv-loop μ-loop
 loop-holds c = search (needs, work-begin)
 
--- src/works.rt:132:12
 chosen-requires : tie.Need-chosen-requires Inv-loop μ-loop
 chosen-requires c κs = search needs
 
--- src/works.rt:134:21
 apply-requires : tie.Need-apply-requires Inv-loop μ-loop
 apply-requires c κs = search needs
 
--- src/works.rt:135:35
 mul-keep : tie.Need-mul-keep Inv-loop μ-loop
 mul-keep c = search needs
 
--- src/works.rt:135:35
 array-read-keep : tie.Need-array-read-keep Inv-loop μ-loop
 array-read-keep c = search needs
 
--- src/works.rt:135:17
 keep-requires : tie.Need-keep-requires Inv-loop μ-loop
 keep-requires c κs = search needs
 
--- src/works.rt:136:17
 mul-frame : tie.Need-mul-frame Inv-loop μ-loop
 mul-frame c = search needs
 
--- src/works.rt:136:17
 array-write-frame : tie.Need-array-write-frame Inv-loop μ-loop
 array-write-frame c = search needs
 
--- src/works.rt:137:17
 add-count : tie.Need-add-count Inv-loop μ-loop
 add-count c = omega (arith, c .before .before .before .before .before .before .before .if2 .taken, c .before .before .before .before .before .before .before .before .before .before .before .before .before .before .before .before .before .before .before .before .before .before .before .before .fits .allowance)
 
--- src/works.rt:138:17
 add-i : tie.Need-add-i Inv-loop μ-loop
 add-i c = search needs
 
--- src/works.rt:131:5
 loop-less : tie.Need-loop-less Inv-loop μ-loop
 loop-less c = search needs
 
--- src/works.rt:131:5
 loop-again : tie.Need-loop-again Inv-loop μ-loop
 loop-again c = work-take (c .before .before .before .before .before .before .before .before .before .before .before .before .before .before .before .before .before .before .before .before .before .before .before .before .args .readings .now) (c .before .before .before .before .before .before .before .before .before .before .before .before .before .before .before .before .before .before .before .before .before .before .before .before .args .links .now) _ (c .before .before .before .before .before .before .before .before .before .before .before .before .before .before .before .before .before .before .before .before .before .before .before .before .args .n) (c .before .before .before .before .before .before .before .before .before .before .before .before .before .before .before .before .before .before .before .before .before .before .before .before .args .allowance) _ _ (c .before .before .before .before .before .before .before .before .before .before .before .before .before .loop .cells) (c .before .before .before .before .before .before .before .before .before .before .before .before .before .loop .frame) (c .before .before .before .before .before .before .before .before .before .before .before .before .before .loop .count) (c .before .before .before .before .before .before .before .before .before .before .before .before .before .loop .i) (c .before .before .before .before .before .before .before .before .before .before .before .before .before .loop .inv) (c .before .before .before .before .before .before .before .before .before .before .before .before .loop-test .taken) (c .before .before .before .before .before .before .before .before .before .chosen .result) (c .before .before .before .before .before .before .before .before .before .chosen .ensures) (c .before .before .before .before .apply .result) _ (c .before .before .before .before .before .before .before .before .if1 .taken) (c .before .before .before .before .before .before .before .if2 .taken) (omega (arith, c .before .before .before .before .before .before .before .before .before .before .before .before .loop-test .taken, c .before .before .before .before .before .before .before .before .before .before .before .before .before .before .before .before .before .before .before .before .before .before .before .before .pre .entry)) (c .before .before .before .before .apply .ensures) (c .before .before .keep .ensures)
 
--- src/works.rt:140:17
 same-length : tie.Need-same-length Inv-loop μ-loop
 same-length c = search needs
 
--- src/works.rt:140:17
 returns : tie.Need-returns Inv-loop μ-loop
 returns c = search (needs, work-stop)
 
--- src/works.rt:143:13
 add-i-2 : tie.Need-add-i-2 Inv-loop μ-loop
 add-i-2 c = search needs
 
--- src/works.rt:131:5
 loop-less-2 : tie.Need-loop-less-2 Inv-loop μ-loop
 loop-less-2 c = search needs
 
--- src/works.rt:131:5
 loop-again-2 : tie.Need-loop-again-2 Inv-loop μ-loop
 loop-again-2 c = search (needs, work-skip)
 
--- src/works.rt:119:1
 same-length-2 : tie.Need-same-length-2 Inv-loop μ-loop
 same-length-2 c = search needs
 
--- src/works.rt:119:1
 returns-2 : tie.Need-returns-2 Inv-loop μ-loop
 returns-2 c = search (needs, work-end)
 

@@ -1,17 +1,18 @@
 -- `values::apply::rule_window` meets its contract. The number's arm is `on_window`, and a function is left to be run. The last arm stands
 -- for the other variants. Assumes nothing.
+use borrow.Author.Needs.{needs}
 use Rattle.values.proofs.ApplyRules.{apply-rules}
 use Rattle.values.proofs.apply.rule_window.Statement.{statement}
 use Rattle.values.proofs.apply.rule_window.Tie as tie
 
 enum-known-w : tie.Need-enum-known-w
-enum-known-w c = search apply-rules
+enum-known-w c = search needs
 
 on-window-requires : tie.Need-on-window-requires
-on-window-requires c κs = search apply-rules
+on-window-requires c κs = search needs
 
 enum-told : tie.Need-enum-told
-enum-told c = search apply-rules
+enum-told c = search needs
 
 returns : tie.Need-returns
 returns c = search apply-rules

@@ -1,5 +1,6 @@
 -- `values::numbers::div` meets its contract. A zero divisor is tested first. Any other quotient of two i32 fits an i64, that of the least
 -- number by -1 too, and `number` tests its range. Assumes nothing.
+use borrow.Author.Needs.{needs}
 use Rattle.values.proofs.NumberRules.{number-rules}
 use Rattle.values.proofs.numbers.div.Statement.{statement}
 use Rattle.values.proofs.numbers.div.Tie as tie
@@ -17,7 +18,7 @@ div-number : tie.Need-div-number
 div-number c = search number-rules
 
 number-requires : tie.Need-number-requires
-number-requires c κs = search number-rules
+number-requires c κs = search needs
 
 returns-2 : tie.Need-returns-2
 returns-2 c = search number-rules

@@ -1,44 +1,45 @@
 -- `values::numbers::on_numbers` meets its contract. Each arm is its member's own function. The last one stands for the members that are
 -- used on no number. Assumes nothing.
+use borrow.Author.Needs.{needs}
 use Rattle.values.proofs.NumberRules.{number-rules}
 use Rattle.values.proofs.numbers.on_numbers.Statement.{statement}
 use Rattle.values.proofs.numbers.on_numbers.Tie as tie
 
 enum-told : tie.Need-enum-told
-enum-told c = search number-rules
+enum-told c = search needs
 
 add-requires : tie.Need-add-requires
-add-requires c κs = search number-rules
+add-requires c κs = search needs
 
 enum-told-2 : tie.Need-enum-told-2
-enum-told-2 c = search number-rules
+enum-told-2 c = search needs
 
 sub-requires : tie.Need-sub-requires
-sub-requires c κs = search number-rules
+sub-requires c κs = search needs
 
 enum-told-3 : tie.Need-enum-told-3
-enum-told-3 c = search number-rules
+enum-told-3 c = search needs
 
 mul-requires : tie.Need-mul-requires
-mul-requires c κs = search number-rules
+mul-requires c κs = search needs
 
 enum-told-4 : tie.Need-enum-told-4
-enum-told-4 c = search number-rules
+enum-told-4 c = search needs
 
 div-requires : tie.Need-div-requires
-div-requires c κs = search number-rules
+div-requires c κs = search needs
 
 enum-told-5 : tie.Need-enum-told-5
-enum-told-5 c = search number-rules
+enum-told-5 c = search needs
 
 gt-requires : tie.Need-gt-requires
-gt-requires c κs = search number-rules
+gt-requires c κs = search needs
 
 enum-told-6 : tie.Need-enum-told-6
-enum-told-6 c = search number-rules
+enum-told-6 c = search needs
 
 eq-requires : tie.Need-eq-requires
-eq-requires c κs = search number-rules
+eq-requires c κs = search needs
 
 returns : tie.Need-returns
 returns c = search number-rules

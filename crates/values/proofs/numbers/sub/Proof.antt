@@ -1,5 +1,6 @@
 -- `values::numbers::sub` meets its contract. The difference of two i32 fits an i64, so it is exact there, and `number` tests its range.
 -- Assumes nothing.
+use borrow.Author.Needs.{needs}
 use Rattle.values.proofs.NumberRules.{number-rules}
 use Rattle.values.proofs.numbers.sub.Statement.{statement}
 use Rattle.values.proofs.numbers.sub.Tie as tie
@@ -14,7 +15,7 @@ sub-number : tie.Need-sub-number
 sub-number c = search number-rules
 
 number-requires : tie.Need-number-requires
-number-requires c κs = search number-rules
+number-requires c κs = search needs
 
 returns : tie.Need-returns
 returns c = search number-rules

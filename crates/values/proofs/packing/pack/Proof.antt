@@ -1,11 +1,12 @@
 -- `values::packing::pack` meets its contract. A number moved up by 2^31 is not negative and fits. The other kinds are sums that fit.
 -- Assumes nothing.
+use borrow.Author.Needs.{needs}
 use Rattle.values.proofs.PackingRules.{packing-rules}
 use Rattle.values.proofs.packing.pack.Statement.{statement}
 use Rattle.values.proofs.packing.pack.Tie as tie
 
 enum-known-v : tie.Need-enum-known-v
-enum-known-v c = search packing-rules
+enum-known-v c = search needs
 
 cast-result : tie.Need-cast-result
 cast-result c = search packing-rules
@@ -20,37 +21,37 @@ add-result-2 : tie.Need-add-result-2
 add-result-2 c = search packing-rules
 
 enum-known-v-2 : tie.Need-enum-known-v-2
-enum-known-v-2 c = search packing-rules
+enum-known-v-2 c = search needs
 
 cast-result-3 : tie.Need-cast-result-3
-cast-result-3 c = search packing-rules
+cast-result-3 c = search needs
 
 mul-result : tie.Need-mul-result
-mul-result c = search packing-rules
+mul-result c = search needs
 
 cast-result-4 : tie.Need-cast-result-4
-cast-result-4 c = search packing-rules
+cast-result-4 c = search needs
 
 add-result-3 : tie.Need-add-result-3
-add-result-3 c = search packing-rules
+add-result-3 c = search needs
 
 add-result-4 : tie.Need-add-result-4
-add-result-4 c = search packing-rules
+add-result-4 c = search needs
 
 enum-told : tie.Need-enum-told
-enum-told c = search packing-rules
+enum-told c = search needs
 
 enum-told-2 : tie.Need-enum-told-2
-enum-told-2 c = search packing-rules
+enum-told-2 c = search needs
 
 enum-known-v-3 : tie.Need-enum-known-v-3
-enum-known-v-3 c = search packing-rules
+enum-known-v-3 c = search needs
 
 cast-result-5 : tie.Need-cast-result-5
-cast-result-5 c = search packing-rules
+cast-result-5 c = search needs
 
 add-result-5 : tie.Need-add-result-5
-add-result-5 c = search packing-rules
+add-result-5 c = search needs
 
 returns : tie.Need-returns
 returns c = search packing-rules
@@ -59,10 +60,10 @@ returns-2 : tie.Need-returns-2
 returns-2 c = search packing-rules
 
 returns-3 : tie.Need-returns-3
-returns-3 c = search packing-rules
+returns-3 c = search needs
 
 returns-4 : tie.Need-returns-4
-returns-4 c = search packing-rules
+returns-4 c = search needs
 
 returns-5 : tie.Need-returns-5
 returns-5 c = search packing-rules

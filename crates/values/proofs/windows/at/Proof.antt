@@ -1,5 +1,6 @@
 -- `values::windows::at` meets its contract. An index that is not negative is its own size. Below the number of readings the reading is
 -- there, and otherwise there is none. Assumes nothing.
+use borrow.Author.Needs.{needs}
 use Rattle.values.proofs.WindowRules.{count-cast, window-rules}
 use Rattle.values.proofs.windows.at.Statement.{statement}
 use Rattle.values.proofs.windows.at.Tie as tie
@@ -8,7 +9,7 @@ returns : tie.Need-returns
 returns c = search window-rules
 
 part-requires : tie.Need-part-requires
-part-requires c κs = search window-rules
+part-requires c κs = search needs
 
 cast-i : tie.Need-cast-i
 cast-i c = count-cast _ (c .before .before .fits .n) (c .before .if1 .left)
@@ -17,10 +18,10 @@ cast-i-2 : tie.Need-cast-i-2
 cast-i-2 c = search window-rules
 
 mul-t11 : tie.Need-mul-t11
-mul-t11 c = search window-rules
+mul-t11 c = search needs
 
 shared-slice-copy-out-t13 : tie.Need-shared-slice-copy-out-t13
-shared-slice-copy-out-t13 c = search window-rules
+shared-slice-copy-out-t13 c = search needs
 
 returns-2 : tie.Need-returns-2
 returns-2 c = search window-rules

@@ -1,5 +1,6 @@
 -- `values::windows::least` meets its contract. At the loop's head the best so far, folded on over the readings from i on, is the least of
 -- all. The measure is how many are left. Assumes nothing.
+use borrow.Author.Needs.{needs}
 use Prim.Native.Nat.{_-_}
 use lib.ListN as L
 use mir.Syntax.{w32}
@@ -17,31 +18,31 @@ abbrev μ-loop : tie.MeasureT-loop
 μ-loop xs start length readings best₀ i₀ best i = L.length readings - i
 
 part-requires : tie.Need-part-requires Inv-loop μ-loop
-part-requires c κs = search window-rules
+part-requires c κs = search needs
 
 returns : tie.Need-returns Inv-loop μ-loop
 returns c = search window-rules
 
 shared-slice-copy-out-best : tie.Need-shared-slice-copy-out-best Inv-loop μ-loop
-shared-slice-copy-out-best c = search window-rules
+shared-slice-copy-out-best c = search needs
 
 loop-holds : tie.Need-loop-holds Inv-loop μ-loop
 loop-holds c = search window-rules
 
 mul-lesser-of : tie.Need-mul-lesser-of Inv-loop μ-loop
-mul-lesser-of c = search window-rules
+mul-lesser-of c = search needs
 
 shared-slice-copy-out-lesser-of : tie.Need-shared-slice-copy-out-lesser-of Inv-loop μ-loop
-shared-slice-copy-out-lesser-of c = search window-rules
+shared-slice-copy-out-lesser-of c = search needs
 
 lesser-of-requires : tie.Need-lesser-of-requires Inv-loop μ-loop
-lesser-of-requires c κs = search window-rules
+lesser-of-requires c κs = search needs
 
 add-i : tie.Need-add-i Inv-loop μ-loop
-add-i c = search window-rules
+add-i c = search needs
 
 loop-less : tie.Need-loop-less Inv-loop μ-loop
-loop-less c = search window-rules
+loop-less c = search needs
 
 loop-again : tie.Need-loop-again Inv-loop μ-loop
 loop-again c = search window-rules

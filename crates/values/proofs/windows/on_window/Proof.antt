@@ -1,26 +1,27 @@
 -- `values::windows::on_window` meets its contract. Each arm is its member's own function. The last one stands for the members that take no
 -- number on a window. Assumes nothing.
+use borrow.Author.Needs.{needs}
 use Rattle.values.proofs.WindowRules.{window-rules}
 use Rattle.values.proofs.windows.on_window.Statement.{statement}
 use Rattle.values.proofs.windows.on_window.Tie as tie
 
 enum-told : tie.Need-enum-told
-enum-told c = search window-rules
+enum-told c = search needs
 
 skip-requires : tie.Need-skip-requires
-skip-requires c κs = search window-rules
+skip-requires c κs = search needs
 
 enum-told-2 : tie.Need-enum-told-2
-enum-told-2 c = search window-rules
+enum-told-2 c = search needs
 
 take-requires : tie.Need-take-requires
-take-requires c κs = search window-rules
+take-requires c κs = search needs
 
 enum-told-3 : tie.Need-enum-told-3
-enum-told-3 c = search window-rules
+enum-told-3 c = search needs
 
 at-requires : tie.Need-at-requires
-at-requires c κs = search window-rules
+at-requires c κs = search needs
 
 returns : tie.Need-returns
 returns c = search window-rules

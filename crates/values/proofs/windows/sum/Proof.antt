@@ -1,6 +1,7 @@
 -- `values::windows::sum` meets its contract. At the loop's head the total and the sum of the readings from i on make the whole sum, and
 -- the total is at most i times 2^31 in size.
 -- The measure is how many readings are left. Assumes nothing.
+use borrow.Author.Needs.{needs}
 use Prim.Native.Nat.{_-_}
 use lib.ListN as L
 use mir.Syntax.{w64}
@@ -17,16 +18,16 @@ abbrev μ-loop : tie.MeasureT-loop
 μ-loop xs start length readings total₀ i₀ total i = L.length readings - i
 
 part-requires : tie.Need-part-requires Inv-loop μ-loop
-part-requires c κs = search window-rules
+part-requires c κs = search needs
 
 loop-holds : tie.Need-loop-holds Inv-loop μ-loop
 loop-holds c = search window-rules
 
 mul-total : tie.Need-mul-total Inv-loop μ-loop
-mul-total c = search window-rules
+mul-total c = search needs
 
 shared-slice-copy-out-total : tie.Need-shared-slice-copy-out-total Inv-loop μ-loop
-shared-slice-copy-out-total c = search window-rules
+shared-slice-copy-out-total c = search needs
 
 cast-total : tie.Need-cast-total Inv-loop μ-loop
 cast-total c = search window-rules
@@ -35,16 +36,16 @@ add-total : tie.Need-add-total Inv-loop μ-loop
 add-total c = search window-rules
 
 add-i : tie.Need-add-i Inv-loop μ-loop
-add-i c = search window-rules
+add-i c = search needs
 
 loop-less : tie.Need-loop-less Inv-loop μ-loop
-loop-less c = search window-rules
+loop-less c = search needs
 
 loop-again : tie.Need-loop-again Inv-loop μ-loop
 loop-again c = search window-rules
 
 number-requires : tie.Need-number-requires Inv-loop μ-loop
-number-requires c κs = search window-rules
+number-requires c κs = search needs
 
 returns : tie.Need-returns Inv-loop μ-loop
 returns c = search window-rules

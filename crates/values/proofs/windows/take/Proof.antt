@@ -1,4 +1,5 @@
 -- `values::windows::take` meets its contract. A count that is not negative is its own size, and is clipped to the length. Assumes nothing.
+use borrow.Author.Needs.{needs}
 use Rattle.values.proofs.WindowRules.{count-cast, window-rules}
 use Rattle.values.proofs.windows.take.Statement.{statement}
 use Rattle.values.proofs.windows.take.Tie as tie
@@ -10,7 +11,7 @@ cast-clip : tie.Need-cast-clip
 cast-clip c = count-cast _ (c .before .fits .n) (c .if1 .left)
 
 clip-requires : tie.Need-clip-requires
-clip-requires c κs = search window-rules
+clip-requires c κs = search needs
 
 returns-2 : tie.Need-returns-2
 returns-2 c = search window-rules

@@ -1,0 +1,75 @@
+-- The cells that are kept for an entry show what its form shows: the number, the window, the function's name, the awaited names in the order
+-- of first occurrence, or the reason. Assumes nothing.
+use mathlib.Core.Path.{_≡_, refl, sym, ap, _∙_}
+use mathlib.Core.Bool.{Bool, true, false, cond}
+use mathlib.Core.List.{List, [], _∷_}
+use Prim.Native.Nat.{ℕ, suc, _+_, _*_, _-_, _≤_}
+use native.Mathlib.Omega.{arith}
+use borrow.Author.Tests.{ne-eqb}
+use lib.Dec.{leb, eqb}
+use lib.IntN.{ℤ, pos, natAbs, _+ℤ_}
+use lib.ListN.{getD}
+use Rattle.values.specs.declared.Value.{Value}
+use Rattle.values.specs.declared.Value.the-variants.{Number, Window, Function, Delayed, Missing}
+use Rattle.values.specs.Shown.{shownNumbers}
+use Rattle.values.specs.Kept.{Kept}
+use Rattle.values.specs.Packing.{packOf, unpackOf, functionCell, delayedCell}
+use Rattle.values.specs.PackingLaws.{round}
+use Rattle.values.specs.Ranges.{up-size}
+use Rattle.meaning.specs.Forms.{Form, nameOf}
+use Rattle.meaning.specs.Evaluation.{awaited, Shown, aNumber, aWindow, aFunction, aDelay, aReason, shownAs}
+use Rattle.evaluator.specs.declared.works.View.{View}
+use Rattle.evaluator.specs.Links.{keyAt}
+use Rattle.evaluator.specs.Waits.{slotA, slotB}
+use Rattle.evaluator.specs.Works.{slotName, nameFor, otherFor, view}
+
+-- 01's cases of what is shown, as the plain numbers and names of the answer
+abbrev pub nameAt : List ℕ → ℕ → ℕ
+nameAt names k = getD names k 0
+
+unfoldable pub viewOf : Shown → View
+viewOf (aNumber z) = record { kind = 1; first = z; second = 0; name = 0; other = 0 }
+viewOf (aWindow s l) = record { kind = 2; first = pos s; second = l; name = 0; other = 0 }
+viewOf (aFunction x) = record { kind = 3; first = pos 0; second = 0; name = x; other = 0 }
+viewOf (aDelay names) = record { kind = 4; first = pos 0; second = 0; name = nameAt names 0; other = nameAt names 1 }
+viewOf (aReason r) = record { kind = 5; first = pos r; second = 0; name = 0; other = 0 }
+
+-- the names of the variables that an entry awaits
+abbrev pub slotNames : List ℕ → ℕ → List ℕ
+slotNames cells w = cond (leb 1 (slotA w)) (keyAt cells (slotA w - 1) ∷ cond (leb 1 (slotB w)) (keyAt cells (slotB w - 1) ∷ []) []) []
+
+first-name : (a b : Bool) (x y : ℕ) → cond a x 0 ≡ nameAt (cond a (x ∷ cond b (y ∷ []) []) []) 0
+first-name true b x y = refl
+first-name false b x y = refl
+
+second-name : (a b : Bool) (x y : ℕ) → (a ≡ false → b ≡ false) → cond b y 0 ≡ nameAt (cond a (x ∷ cond b (y ∷ []) []) []) 1
+second-name true true x y h = refl
+second-name true false x y h = refl
+second-name false b x y h = rw (h refl)
+
+module _ (n : ℕ) (cells : List ℕ) (i w : ℕ) (f : Form) (full : leb 1 (slotA w) ≡ false → leb 1 (slotB w) ≡ false) (names : slotNames cells w ≡ awaited f) where
+  pub kept-shows : (v : Value) → Kept n v → n ≤ 1024 → (v ≡ Function → keyAt cells i ≡ nameOf f)
+      → view (shownNumbers (unpackOf (packOf v))) (nameFor cells i (packOf v) w) (otherFor cells (packOf v) w) ≡ viewOf (shownAs f v)
+  unfolding viewOf nameFor otherFor
+  kept-shows (Number z) k h g =
+      let a : eqb (packOf (Number z)) functionCell ≡ false = ne-eqb (packOf (Number z)) functionCell (λ (e : _≡_ {A = ℕ} (suc (natAbs (z +ℤ pos 2147483648))) 17179869184). omega (arith, up-size 2147483648 z (k .held))) in
+      let b : eqb (packOf (Number z)) delayedCell ≡ false = ne-eqb (packOf (Number z)) delayedCell (λ (e : _≡_ {A = ℕ} (suc (natAbs (z +ℤ pos 2147483648))) 25769803776). omega (arith, up-size 2147483648 z (k .held))) in
+      rw (round (Number z) (k .held), a, b)
+  kept-shows (Window s l) k h g =
+      let a : eqb (packOf (Window s l)) functionCell ≡ false = ne-eqb (packOf (Window s l)) functionCell (λ (e : _≡_ {A = ℕ} (8589934592 + (s * 65536 + l)) 17179869184). omega (arith, k .held .0, k .held .1)) in
+      let b : eqb (packOf (Window s l)) delayedCell ≡ false = ne-eqb (packOf (Window s l)) delayedCell (λ (e : _≡_ {A = ℕ} (8589934592 + (s * 65536 + l)) 25769803776). omega (arith, k .held .0, k .held .1)) in
+      rw (round (Window s l) (k .held), a, b)
+  kept-shows Function k h g = rw (round Function tt, g refl)
+  kept-shows Delayed k h g =
+      rw (round Delayed tt)
+      (λ t. view (shownNumbers Delayed) (p t) (q t))
+    where
+      p : slotName cells (slotA w) ≡ nameAt (awaited f) 0
+      p = first-name (leb 1 (slotA w)) (leb 1 (slotB w)) (keyAt cells (slotA w - 1)) (keyAt cells (slotB w - 1)) ∙ ap (λ (l : List ℕ). nameAt l 0) names
+
+      q : slotName cells (slotB w) ≡ nameAt (awaited f) 1
+      q = second-name (leb 1 (slotA w)) (leb 1 (slotB w)) (keyAt cells (slotA w - 1)) (keyAt cells (slotB w - 1)) full ∙ ap (λ (l : List ℕ). nameAt l 1) names
+  kept-shows (Missing r) k h g =
+      let a : eqb (packOf (Missing r)) functionCell ≡ false = ne-eqb (packOf (Missing r)) functionCell (λ (e : _≡_ {A = ℕ} (34359738368 + r) 17179869184). omega arith) in
+      let b : eqb (packOf (Missing r)) delayedCell ≡ false = ne-eqb (packOf (Missing r)) delayedCell (λ (e : _≡_ {A = ℕ} (34359738368 + r) 25769803776). omega arith) in
+      rw (round (Missing r) (k .held), a, b)

@@ -1,0 +1,159 @@
+-- A table whose entries stand for forms, and what an entry sees of those below it: an entry whose every free name is free all the way up.
+-- Assumes nothing.
+use mathlib.Core.Path.{_≡_}
+use mathlib.Core.Logic.{_⊎_}
+use mathlib.Core.Bool.{Bool, true, false, cond, not}
+use mathlib.Core.List.{List}
+use Prim.Native.Nat.{ℕ, zero, suc, _≤_, _<_}
+use native.Mathlib.Omega.{arith}
+use lib.Dec.{eqb}
+use lib.IntN.{ℤ, pos}
+use lib.ListN.{length, getD}
+use lib.Signed.{mag}
+use Rattle.language.specs.declared.members.Member.{Member}
+use Rattle.values.specs.declared.Value.{Value}
+use Rattle.values.specs.declared.Value.the-variants.{Number, Window, Function, Delayed, Missing}
+use Rattle.values.specs.Kept.{Kept}
+use Rattle.values.specs.Ranges.{down-range}
+use Rattle.values.specs.KeptApply.{kept-apply0, kept-apply1}
+use Rattle.meaning.specs.Forms.{Form, number, variable, unbound, readings, ask, call, function}
+use Rattle.meaning.specs.Evaluation.{Result, plain, runs, valueOf, runOf, Environment, nowhere, bind, lookup, settled, functionOf, evaluate}
+use Rattle.table.specs.Nodes.{memberKind, numberOfKey}
+use Rattle.evaluator.specs.Links.{kindAt, firstAt, secondAt, keyAt}
+use Rattle.evaluator.specs.Waits.{slotA, slotB, holds, awaits}
+use Rattle.refine.specs.Free.{free, split}
+
+-- what entry i is, with the form that it stands for
+pub data EntryAt (links cells : List ℕ) (φ : ℕ → Form) (i : ℕ) : Type 0 where
+  is-number : kindAt links i ≡ 0 → keyAt cells i < 4294967296 → φ i ≡ number (numberOfKey (keyAt cells i)) → EntryAt links cells φ i
+  is-variable : kindAt links i ≡ 1 → firstAt links i ≡ 0 → secondAt links i ≡ 0 → φ i ≡ variable (keyAt cells i) → EntryAt links cells φ i
+  is-unbound : kindAt links i ≡ 2 → φ i ≡ unbound (keyAt cells i) → EntryAt links cells φ i
+  is-readings : kindAt links i ≡ 3 → φ i ≡ readings → EntryAt links cells φ i
+  is-function : (b : ℕ) → kindAt links i ≡ 4 → firstAt links i ≡ suc b → b < i → φ i ≡ function (keyAt cells i) (φ b) → EntryAt links cells φ i
+  is-ask : (m : Member) (d : ℕ) → kindAt links i ≡ memberKind m → firstAt links i ≡ suc d → secondAt links i ≡ 0 → d < i → φ i ≡ ask m (φ d) → EntryAt links cells φ i
+  is-call : (m : Member) (d a : ℕ) → kindAt links i ≡ memberKind m → firstAt links i ≡ suc d → secondAt links i ≡ suc a → d < i → a < i → φ i ≡ call m (φ d) (φ a) → EntryAt links cells φ i
+
+-- a slot of what an entry awaits is a variable's entry, not above it
+pub record Slot (links : List ℕ) (i v : ℕ) : Type 0 where
+  pub at : ℕ
+  pub is : v ≡ suc at
+  pub below : at ≤ i
+  pub kind : kindAt links at ≡ 1
+
+pub record Good (links cells waits : List ℕ) (xs : List ℤ) (n : ℕ) (φ : ℕ → Form) : Type 0 where
+  pub most : n ≤ 512
+  pub few : length xs ≤ 1024
+  pub small : (k : ℕ) → k < length xs → mag (getD xs k (pos 0)) < 2147483648
+  pub entries : (i : ℕ) → i < n → EntryAt links cells φ i
+  -- what is awaited is what is free
+  pub awaited : (i j : ℕ) → i < n → j < n → kindAt links j ≡ 1 → awaits (getD waits i 0) (suc j) ≡ free (keyAt cells j) (φ i)
+  pub slots : (i v : ℕ) → i < n → 1 ≤ v → holds (getD waits i 0) v ≡ true → Slot links i v
+  -- a name has one variable
+  pub one : (i j : ℕ) → i < n → j < n → kindAt links i ≡ 1 → kindAt links j ≡ 1 → keyAt cells i ≡ keyAt cells j → i ≡ j
+  pub filled : (i : ℕ) → i < n → slotA (getD waits i 0) ≡ 0 → slotB (getD waits i 0) ≡ 0
+
+-- the values that variables have: numbers within signed 32 bits, or none yet
+abbrev pub PlainValue : Value → Type 0
+PlainValue (Number z) = mag z < 2147483648
+PlainValue (Window s l) = ⊥
+PlainValue Function = ⊥
+PlainValue Delayed = Unit {0}
+PlainValue (Missing r) = ⊥
+
+abbrev pub Plain : Environment → Type 0
+Plain nowhere = Unit {0}
+Plain (bind x v ρ) = PlainValue v × Plain ρ
+
+pub plain-lookup : (ρ : Environment) → Plain ρ → (y : ℕ) → PlainValue (lookup ρ y)
+unfolding lookup
+plain-lookup nowhere p y = tt
+plain-lookup (bind x v ρ) p y = split (eqb x y) (λ q. rw q (p .0)) (λ q. rw q (plain-lookup ρ (p .1) y))
+
+plain-kept : (n : ℕ) (v : Value) → PlainValue v → Kept n v
+plain-kept n (Number z) h = record { held = h; inside = tt; reasoned = tt }
+plain-kept n Delayed h = record { held = tt; inside = tt; reasoned = tt }
+plain-kept n (Window s l) h = absurd h
+plain-kept n Function h = absurd h
+plain-kept n (Missing r) h = absurd h
+
+reason-kept : (n r : ℕ) → 1 ≤ r → r ≤ 5 → Kept n (Missing r)
+reason-kept n r h k = record { held = omega arith; inside = tt; reasoned = (h, k) }
+
+function-kept : (n : ℕ) (v : Value) (s : Bool) (g : ℤ → Result) → Kept n v → Kept n (valueOf (functionOf v s g))
+unfolding valueOf
+function-kept n v s g k = by v s k
+  where
+    settles : (s : Bool) → Kept n (valueOf (cond s (runs g) (plain Delayed)))
+    settles true = record { held = tt; inside = tt; reasoned = tt }
+    settles false = record { held = tt; inside = tt; reasoned = tt }
+
+    by : (v : Value) (s : Bool) → Kept n v → Kept n (valueOf (functionOf v s g))
+    by (Missing r) s k = k
+    by (Number z) s k = settles s
+    by (Window a l) s k = settles s
+    by Function s k = settles s
+    by Delayed s k = settles s
+
+run-function : (n : ℕ) (v : Value) (s : Bool) (g : ℤ → Result) (z : ℤ) → Kept n (valueOf (g z)) → Kept n (runOf (functionOf v s g) z)
+unfolding runOf
+run-function n v s g z k = by v s
+  where
+    settles : (s : Bool) → Kept n (runOf (cond s (runs g) (plain Delayed)) z)
+    settles true = k
+    settles false = reason-kept n 2 (omega arith) (omega arith)
+
+    by : (v : Value) (s : Bool) → Kept n (runOf (functionOf v s g) z)
+    by (Missing r) s = reason-kept n 2 (omega arith) (omega arith)
+    by (Number y) s = settles s
+    by (Window a l) s = settles s
+    by Function s = settles s
+    by Delayed s = settles s
+
+module _ (links cells waits : List ℕ) (xs : List ℤ) (n : ℕ) (φ : ℕ → Form) (good : Good links cells waits xs n φ) where
+  -- what every entry comes to can be kept, and so can what a run of it gives
+  mutual-kept : (k i : ℕ) → i < k → i < n → (ρ : Environment) → Plain ρ → Kept (length xs) (valueOf (evaluate xs ρ (φ i))) × ((z : ℤ) → mag z < 2147483648 → Kept (length xs) (runOf (evaluate xs ρ (φ i)) z))
+  unfolding evaluate valueOf runOf
+  mutual-kept zero i h h′ ρ p = absurd (omega arith)
+  mutual-kept (suc k) i h h′ ρ p = by (good .entries i h′) (λ j l σ q. mutual-kept k j (omega arith) (omega arith) σ q)
+    where
+      wrong : Kept (length xs) (Missing 2)
+      wrong = reason-kept (length xs) 2 (omega arith) (omega arith)
+
+      by : EntryAt links cells φ i → ((j : ℕ) → j < i → (σ : Environment) → Plain σ → Kept (length xs) (valueOf (evaluate xs σ (φ j))) × ((z : ℤ) → mag z < 2147483648 → Kept (length xs) (runOf (evaluate xs σ (φ j)) z)))
+          → Kept (length xs) (valueOf (evaluate xs ρ (φ i))) × ((z : ℤ) → mag z < 2147483648 → Kept (length xs) (runOf (evaluate xs ρ (φ i)) z))
+      by (is-number _ l e) again = rw e (record { held = down-range 2147483648 (keyAt cells i) (omega arith); inside = tt; reasoned = tt }, λ z m. wrong)
+      by (is-variable _ _ _ e) again = rw e (plain-kept (length xs) (lookup ρ (keyAt cells i)) (plain-lookup ρ p (keyAt cells i)), λ z m. wrong)
+      by (is-unbound _ e) again = rw e (reason-kept (length xs) 1 (omega arith) (omega arith), λ z m. wrong)
+      by (is-readings _ e) again = rw e (record { held = (omega arith, omega (arith, good .few)); inside = omega arith; reasoned = tt }, λ z m. wrong)
+      by (is-function b _ _ l e) again =
+          rw e (
+            function-kept (length xs) (valueOf (evaluate xs (bind (keyAt cells i) Delayed ρ) (φ b))) (settled (bind (keyAt cells i) (Number (pos 0)) ρ) (φ b)) (λ z. evaluate xs (bind (keyAt cells i) (Number z) ρ) (φ b)) (again b l (bind (keyAt cells i) Delayed ρ) (tt, p) .0),
+            λ z m. run-function (length xs) (valueOf (evaluate xs (bind (keyAt cells i) Delayed ρ) (φ b))) (settled (bind (keyAt cells i) (Number (pos 0)) ρ) (φ b)) (λ y. evaluate xs (bind (keyAt cells i) (Number y) ρ) (φ b)) z (again b l (bind (keyAt cells i) (Number z) ρ) (m, p) .0),
+          )
+      by (is-ask m d _ _ _ l e) again = rw e (kept-apply0 (length xs) (omega (arith, good .few)) m xs (good .small) (valueOf (evaluate xs ρ (φ d))) (again d l ρ p .0), λ z m. wrong)
+      by (is-call m d a _ _ _ l l′ e) again =
+          rw e (kept-apply1 (length xs) (omega (arith, good .few)) m xs (good .small) (runOf (evaluate xs ρ (φ a))) (λ z q. again a l′ ρ p .1 z (q .held)) (valueOf (evaluate xs ρ (φ d))) (valueOf (evaluate xs ρ (φ a))) (again d l ρ p .0) (again a l′ ρ p .0), λ z m. wrong)
+
+  pub kept-entry : (i : ℕ) → i < n → (ρ : Environment) → Plain ρ → Kept (length xs) (valueOf (evaluate xs ρ (φ i)))
+  kept-entry i h ρ p = mutual-kept (suc i) i (omega arith) h ρ p .0
+
+-- ---- dependencies, and what is seen
+abbrev pub Link : List ℕ → ℕ → ℕ → Type 0
+Link links i d = (d < i) × ((firstAt links i ≡ suc d) ⊎ (secondAt links i ≡ suc d))
+
+pub data Sees (links : List ℕ) (φ : ℕ → Form) : ℕ → ℕ → Type 0 where
+  here : (i : ℕ) → Sees links φ i i
+  down : (i d m : ℕ) → Link links i d → Sees links φ d m → ((y : ℕ) → free y (φ m) ≡ true → free y (φ i) ≡ true) → Sees links φ i m
+
+module _ (links : List ℕ) (φ : ℕ → Form) where
+  pub sees-free : (i m : ℕ) → Sees links φ i m → (y : ℕ) → free y (φ m) ≡ true → free y (φ i) ≡ true
+  sees-free i m (here _) y h = h
+  sees-free i m (down _ d _ l s f) y h = f y h
+
+  pub sees-below : (i m : ℕ) → Sees links φ i m → m ≤ i
+  sees-below i m (here _) = omega arith
+  sees-below i m (down _ d _ l s f) = omega (arith, sees-below d m s, l .0)
+
+  pub sees-trans : (i m d : ℕ) → Sees links φ i m → Sees links φ m d → Sees links φ i d
+  sees-trans i m d (here _) t = t
+  sees-trans i m d (down _ e _ l s f) t = down i e d l (sees-trans e m d s t) (λ y h. f y (sees-free m d t y h))

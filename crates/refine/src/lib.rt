@@ -1,0 +1,1 @@
+// Laws alone: what working out comes to, by the meaning of forms.

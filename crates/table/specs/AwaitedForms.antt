@@ -1,0 +1,117 @@
+-- What an entry awaits is what its form awaits: the free variables by first occurrence. Assumes nothing.
+use mathlib.Core.Path.{_≡_, refl, sym, ap, _∙_}
+use mathlib.Core.Bool.{Bool, true, false, cond, _&&_}
+use mathlib.Core.List.{List, [], _∷_}
+use Prim.Native.Nat.{ℕ, zero, suc, _-_, _≤_, _<_}
+use native.Mathlib.Omega.{arith}
+use borrow.Author.Tests.{eqb-true, eqb-false, eq-eqb, ne-eqb, lt-ltb}
+use lib.Dec.{eqb, ltb}
+use lib.ListN.{getD}
+use Rattle.language.specs.Members.{row}
+use Rattle.language.specs.declared.members.Member.{Member}
+use Rattle.language.specs.declared.members.Member.the-variants.{Add, Sub, Mul, Div, Gt, Eq, Skip, Take, Count, Sum, Min, Max, At, CountWhere, LongestRun, SumBy}
+use Rattle.language.specs.declared.members.Found.{Found}
+use Rattle.language.specs.declared.members.Found.the-variants.{Is, Unknown}
+use Rattle.meaning.specs.Forms.{Form, number, variable, unbound, readings, ask, call, function}
+use Rattle.meaning.specs.Evaluation.{joined, without, awaited}
+use Rattle.meaning.specs.EvaluationLaws.{split}
+use Rattle.table.specs.Memory.{Node}
+use Rattle.table.specs.Nodes.{pickForm, memberOfKind, memberArity, memberForm, arity, numberOfKey, build}
+use Rattle.table.specs.WellFormed.{awaitedBy, awaitedAfter}
+use Rattle.table.specs.Right.{numbered, nodeRight}
+use Rattle.table.specs.RightLaws.{first-low, first-given, second-low, second-given}
+use Rattle.table.specs.AwaitsLaws.{function-arity, after-at}
+
+-- no member takes more than one argument
+few-arguments : (m : Member) → row m .arguments ≤ 1
+unfolding row
+few-arguments Add = omega arith
+few-arguments Sub = omega arith
+few-arguments Mul = omega arith
+few-arguments Div = omega arith
+few-arguments Gt = omega arith
+few-arguments Eq = omega arith
+few-arguments Skip = omega arith
+few-arguments Take = omega arith
+few-arguments Count = omega arith
+few-arguments Sum = omega arith
+few-arguments Min = omega arith
+few-arguments Max = omega arith
+few-arguments At = omega arith
+few-arguments CountWhere = omega arith
+few-arguments LongestRun = omega arith
+few-arguments SumBy = omega arith
+
+-- what a member awaits, by the number of its dependencies
+member-awaits : (f : Found) (g a : Form) (k : ℕ) → k ≡ memberArity f
+    → cond (eqb k 1) (awaited g) (cond (eqb k 2) (joined (awaited g) (awaited a)) []) ≡ awaited (memberForm f g a)
+unfolding awaited
+member-awaits Unknown g a k e = rw e
+member-awaits (Is m) g a k e =
+    let l = few-arguments m in
+    split (eqb (row m .arguments) 0)
+    (λ p. let z : row m .arguments ≡ 0 = eqb-true _ _ p in let o : k ≡ 1 = omega arith in rw (o, p))
+    (λ p. let o : k ≡ 2 = (let z = eqb-false (row m .arguments) 0 p in omega arith) in rw (o, p))
+
+arity-as : (k : ℕ) → eqb k 4 ≡ false → arity k ≡ memberArity (memberOfKind k)
+unfolding arity
+arity-as k p = rw p
+
+leaf-arity : (k : ℕ) → k < 4 → arity k ≡ 0
+unfolding arity memberOfKind
+leaf-arity k h = rw (ne-eqb k 4 (λ e. omega arith), lt-ltb k 5 (omega arith))
+
+module _ (i : ℕ) (n : Node) (r : nodeRight i n ≡ true) (b : List (List ℕ)) (φ : ℕ → Form) (held : (j : ℕ) → j < i → getD b j [] ≡ awaited (φ j)) where
+  first-held : (arity (n .kind) ≡ 0 → ⊥) → getD b (n .first - 1) [] ≡ awaited (φ (n .first - 1))
+  first-held u = let g = first-given i n r u in let l = first-low i n r in held (n .first - 1) (omega arith)
+
+  second-held : arity (n .kind) ≡ 2 → getD b (n .second - 1) [] ≡ awaited (φ (n .second - 1))
+  second-held e = let g = second-given i n r e in let l = second-low i n r in held (n .second - 1) (omega arith)
+
+  works-awaits : eqb (n .kind) 4 ≡ false
+      → cond (eqb (arity (n .kind)) 1) (getD b (n .first - 1) []) (cond (eqb (arity (n .kind)) 2) (joined (getD b (n .first - 1) []) (getD b (n .second - 1) [])) [])
+      ≡ awaited (memberForm (memberOfKind (n .kind)) (φ (n .first - 1)) (φ (n .second - 1)))
+  works-awaits p =
+      same ∙ member-awaits (memberOfKind (n .kind)) (φ (n .first - 1)) (φ (n .second - 1)) (arity (n .kind)) (arity-as (n .kind) p)
+    where
+      same : cond (eqb (arity (n .kind)) 1) (getD b (n .first - 1) []) (cond (eqb (arity (n .kind)) 2) (joined (getD b (n .first - 1) []) (getD b (n .second - 1) [])) [])
+          ≡ cond (eqb (arity (n .kind)) 1) (awaited (φ (n .first - 1))) (cond (eqb (arity (n .kind)) 2) (joined (awaited (φ (n .first - 1))) (awaited (φ (n .second - 1)))) [])
+      same =
+          split (eqb (arity (n .kind)) 1)
+          (λ q. let z : arity (n .kind) ≡ 1 = eqb-true _ _ q in rw q (first-held (λ e. omega arith)))
+          (λ q. rw q
+          (split (eqb (arity (n .kind)) 2)
+          (λ u. let z : arity (n .kind) ≡ 2 = eqb-true _ _ u in rw u (rw (first-held (λ e. omega arith), second-held z)))
+          (λ u. rw u)))
+
+  -- the names of a right node are those of its form
+  pub awaited-build : awaitedBy b n ≡ awaited (build n φ)
+  unfolding awaitedBy build awaited
+  awaited-build =
+      split (eqb (n .kind) 1)
+      (λ p. let z : n .kind ≡ 1 = eqb-true _ _ p in rw (p, ne-eqb (n .kind) 0 (λ e. omega arith)))
+      (λ p.
+      split (eqb (n .kind) 4)
+      (λ q.
+      let z : n .kind ≡ 4 = eqb-true _ _ q in
+      rw (p, q, ne-eqb (n .kind) 0 (λ e. omega arith), ne-eqb (n .kind) 2 (λ e. omega arith), ne-eqb (n .kind) 3 (λ e. omega arith))
+      (rw (first-held (λ e. let y = function-arity (n .kind) z in omega arith))))
+      (λ q.
+      split (eqb (n .kind) 0) (λ u. let z : n .kind ≡ 0 = eqb-true _ _ u in rw (p, q, u, leaf-arity (n .kind) (omega arith)))
+      (λ u.
+      split (eqb (n .kind) 2) (λ v. let z : n .kind ≡ 2 = eqb-true _ _ v in rw (p, q, u, v, leaf-arity (n .kind) (omega arith)))
+      (λ v.
+      split (eqb (n .kind) 3) (λ w. let z : n .kind ≡ 3 = eqb-true _ _ w in rw (p, q, u, v, w, leaf-arity (n .kind) (omega arith)))
+      (λ w. rw (p, q, u, v, w) (works-awaits q))))))
+
+-- so of every entry, where each form is built from those of the entries before it
+pub awaited-forms : (ν : ℕ → Node) (φ : ℕ → Form) (n : ℕ) → ((i : ℕ) → i < n → nodeRight i (ν i) ≡ true) → ((i : ℕ) → i < n → φ i ≡ build (ν i) φ)
+    → (i : ℕ) → i < n → getD (awaitedAfter [] (numbered ν 0 n)) i [] ≡ awaited (φ i)
+awaited-forms ν φ n right forms i l = after-at ν i n l ∙ below n right forms i l
+  where
+    below : (n : ℕ) → ((i : ℕ) → i < n → nodeRight i (ν i) ≡ true) → ((i : ℕ) → i < n → φ i ≡ build (ν i) φ) → (i : ℕ) → i < n → awaitedBy (awaitedAfter [] (numbered ν 0 i)) (ν i) ≡ awaited (φ i)
+    below zero right forms i l = absurd (omega arith)
+    below (suc n) right forms i l =
+        awaited-build i (ν i) (right i l) (awaitedAfter [] (numbered ν 0 i)) φ
+        (λ j m. after-at ν j i m ∙ below n (λ k h. right k (omega arith)) (λ k h. forms k (omega arith)) j (omega arith))
+        ∙ ap awaited (sym (forms i l))
