@@ -1,30 +1,29 @@
 -- A cache after entries are appended: those held stay as they are, the new ones have nothing kept, and the cache stays well-formed where
 -- each new entry is right, new, and awaits two names at most. Assumes nothing.
 use mathlib.Core.Path.{_≡_, refl, sym, ap, _∙_, subst}
-use mathlib.Core.Bool.{Bool, true, false, cond, not, _&&_, _||_}
+use mathlib.Core.Bool.{Bool, true, false, _&&_}
 use mathlib.Core.List.{List, [], _∷_, _++_, map, append-assoc, append-nil}
 use Prim.Native.Nat.{ℕ, zero, suc, _+_, _-_, _*_, _≤_, _<_}
 use native.Mathlib.Decide.{decLt}
-use native.Mathlib.Numerals.{add-one}
 use native.Mathlib.Omega.{arith}
-use borrow.Author.Tests.{leb-true, le-leb, eq-eqb}
+use borrow.Author.Tests.{leb-true, le-leb}
 use lib.Dec.{eqb, leb}
-use lib.ListN.{length, getD, set, drop, length-set, length-append}
-use lib.Seq.{getD-set-same, getD-set-other, drop-at}
+use lib.ListN.{length, getD, set, length-set}
+use lib.Seq.{getD-set-same, getD-set-other}
 use Rattle.meaning.specs.FormsLaws.{no-way, and-left, and-right}
 use Rattle.meaning.specs.EvaluationLaws.{split}
-use Rattle.table.specs.Memory.{Memory, Node, Kept, Entry, nothingKept, fits, entryCount, readingCount, nodeAt, keptAt, entryAt, entriesFrom, entriesOf, nodesOf}
+use Rattle.table.specs.Memory.{Memory, Node, Entry, nothingKept, fits, entryCount, readingCount, nodeAt, keptAt, entryAt, entriesFrom, entriesOf}
 use Rattle.table.specs.Nodes.{kids}
-use Rattle.table.specs.WellFormed.{every, hasNode, distinct, awaitedBy, awaitedAfter, awaitsFew, isDone, doneAt, allDone, settled, namesRight, keptRight, wellFormed}
+use Rattle.table.specs.WellFormed.{every, hasNode, distinct, awaitedBy, awaitedAfter, awaitsFew, doneAt, allDone, settled, namesRight, keptRight, wellFormed}
 use Rattle.table.specs.Bind.{append, appendAll}
 use Rattle.table.specs.Right.{allFrom, numbered, nodeRight, rightAt}
 use Rattle.table.specs.RightLaws.{all-at, all-of, right-at}
-use Rattle.table.specs.Written.{Whole, linksWith, cellsWith}
+use Rattle.table.specs.Written.{linksWith, cellsWith}
 use Rattle.table.specs.WrittenLaws.{whole-is}
 use Rattle.table.specs.ChainLaws.{numbered-last, numbered-agree, distinct-snoc}
 use Rattle.table.specs.AwaitsLaws.{after-snoc}
-use Rattle.table.specs.Checked.{memory, keptOk, entriesRight}
-use Rattle.table.specs.CheckedLaws.{nodes-are, well-is}
+use Rattle.table.specs.Checked.{keptOk, entriesRight}
+use Rattle.table.specs.CheckedLaws.{well-is}
 
 -- a new entry
 abbrev pub newEntry : Node → Entry

@@ -1,22 +1,22 @@
 -- What an entry awaits is what its form awaits: the free variables by first occurrence. Assumes nothing.
-use mathlib.Core.Path.{_≡_, refl, sym, ap, _∙_}
-use mathlib.Core.Bool.{Bool, true, false, cond, _&&_}
-use mathlib.Core.List.{List, [], _∷_}
+use mathlib.Core.Path.{_≡_, sym, ap, _∙_}
+use mathlib.Core.Bool.{true, false, cond}
+use mathlib.Core.List.{List, []}
 use Prim.Native.Nat.{ℕ, zero, suc, _-_, _≤_, _<_}
 use native.Mathlib.Omega.{arith}
-use borrow.Author.Tests.{eqb-true, eqb-false, eq-eqb, ne-eqb, lt-ltb}
-use lib.Dec.{eqb, ltb}
+use borrow.Author.Tests.{eqb-true, eqb-false, ne-eqb, lt-ltb}
+use lib.Dec.{eqb}
 use lib.ListN.{getD}
 use Rattle.language.specs.Members.{row}
 use Rattle.language.specs.declared.members.Member.{Member}
 use Rattle.language.specs.declared.members.Member.the-variants.{Add, Sub, Mul, Div, Gt, Eq, Skip, Take, Count, Sum, Min, Max, At, CountWhere, LongestRun, SumBy}
 use Rattle.language.specs.declared.members.Found.{Found}
 use Rattle.language.specs.declared.members.Found.the-variants.{Is, Unknown}
-use Rattle.meaning.specs.Forms.{Form, number, variable, unbound, readings, ask, call, function}
-use Rattle.meaning.specs.Evaluation.{joined, without, awaited}
+use Rattle.meaning.specs.Forms.{Form}
+use Rattle.meaning.specs.Evaluation.{joined, awaited}
 use Rattle.meaning.specs.EvaluationLaws.{split}
 use Rattle.table.specs.Memory.{Node}
-use Rattle.table.specs.Nodes.{pickForm, memberOfKind, memberArity, memberForm, arity, numberOfKey, build}
+use Rattle.table.specs.Nodes.{memberOfKind, memberArity, memberForm, arity, build}
 use Rattle.table.specs.WellFormed.{awaitedBy, awaitedAfter}
 use Rattle.table.specs.Right.{numbered, nodeRight}
 use Rattle.table.specs.RightLaws.{first-low, first-given, second-low, second-given}

@@ -1,12 +1,12 @@
 -- The pass over the awaited names keeps to the definition: links are lower, and names are not 0. Assumes nothing.
 use mathlib.Core.Path.{_≡_, refl, sym, ap, _∙_, subst}
-use mathlib.Core.Bool.{Bool, true, false, cond, not, _&&_, _||_}
+use mathlib.Core.Bool.{Bool, true, false, cond, _||_}
 use mathlib.Core.List.{List, [], _∷_, _++_}
 use Prim.Native.Nat.{ℕ, zero, suc, _+_, _-_, _*_, _≤_, _<_}
 use native.Mathlib.Decide.{decLt}
 use native.Mathlib.Numerals.{add-one}
 use native.Mathlib.Omega.{arith}
-use borrow.Author.Tests.{not-true, not-false, eqb-true, eqb-false, eq-eqb, ne-eqb, lt-ltb, le-ltb, ltb-true, ltb-false, leb-true, le-leb, lt-leb}
+use borrow.Author.Tests.{not-true, not-false, eqb-true, eq-eqb, ne-eqb, lt-ltb, ltb-true, ltb-false, leb-true, le-leb}
 use lib.Dec.{eqb, ltb, leb}
 use lib.ListN.{length, getD, set, length-set, length-append, List·getD-append}
 use lib.Seq.{getD-set-same, getD-set-other, getD-at}
@@ -15,11 +15,11 @@ use Rattle.meaning.specs.FormsLaws.{no-way, and-left, and-right}
 use Rattle.meaning.specs.EvaluationLaws.{split}
 use Rattle.table.specs.Memory.{Node, nodeAt}
 use Rattle.table.specs.Nodes.{arity, wordNumber, isName}
-use Rattle.table.specs.WellFormed.{every, kindKnown, keyRight, arityRight, lower, awaitedBy, awaitedAfter, awaitsFew}
+use Rattle.table.specs.WellFormed.{every, awaitedBy, awaitedAfter, awaitsFew}
 use Rattle.table.specs.Right.{allFrom, numbered, nodeRight, rightAt}
 use Rattle.table.specs.RightLaws.{first-low, first-given, second-low, second-given, variable-named, right-at}
 use Rattle.table.specs.Held.{shaped}
-use Rattle.table.specs.ChainLaws.{numbered-zero, numbered-last, length-numbered}
+use Rattle.table.specs.ChainLaws.{numbered-zero, numbered-last}
 use Rattle.table.specs.Awaits.{names, firstName, secondName, encoded, namesAt, withName, withoutName, joinedNames, namesBy, Stored, Awaited}
 use Rattle.table.specs.declared.names.Names.{Names}
 use Rattle.table.specs.declared.nodes.Shape.{Shape}

@@ -2,13 +2,13 @@
 use mathlib.Core.Path.{_≡_, refl, sym, ap, _∙_, subst}
 use mathlib.Core.Bool.{Bool, true, false, cond, not, _&&_, _||_}
 use mathlib.Core.List.{List, [], _∷_, _++_}
-use Prim.Native.Nat.{ℕ, zero, suc, _+_, _-_, _*_, _/_, _%_, _≤_, _<_}
+use Prim.Native.Nat.{ℕ, zero, suc, _+_, _-_, _≤_, _<_}
 use native.Mathlib.Decide.{decLt}
 use native.Mathlib.Nat.{add-zero}
 use native.Mathlib.Numerals.{add-one}
 use native.Mathlib.Omega.{arith}
-use borrow.Author.Tests.{eqb-true, eqb-false, eq-eqb, ne-eqb, lt-ltb, le-ltb}
-use lib.Dec.{eqb, ltb}
+use borrow.Author.Tests.{eqb-true, eqb-false, eq-eqb, ne-eqb, lt-ltb}
+use lib.Dec.{eqb}
 use lib.ListN.{length, getD, set, replicate, length-set, length-append, length-replicate, getD-replicate}
 use lib.Seq.{getD-set-same, getD-set-other}
 use Rattle.meaning.specs.FormsLaws.{no-way, and-left, and-right}
@@ -17,9 +17,9 @@ use Rattle.table.specs.Memory.{Node, nodeAt}
 use Rattle.table.specs.Nodes.{sameNode}
 use Rattle.table.specs.WellFormed.{hasNode, distinct}
 use Rattle.table.specs.Bind.{find}
-use Rattle.table.specs.Right.{node, allFrom, numbered}
+use Rattle.table.specs.Right.{allFrom, numbered}
 use Rattle.table.specs.RightLaws.{all-stop, all-end}
-use Rattle.table.specs.Held.{freshAt, heldAt}
+use Rattle.table.specs.Held.{heldAt}
 use Rattle.table.specs.Chain.{hashOf, latest, lastSame, newAt, Chained, linked, Entered}
 
 -- the test is equality

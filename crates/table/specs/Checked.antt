@@ -3,7 +3,7 @@ use mathlib.Core.Bool.{Bool, _&&_}
 use mathlib.Core.List.{List}
 use Prim.Native.Nat.{ℕ}
 use lib.IntN.{ℤ}
-use Rattle.table.specs.Memory.{Memory, Node, Kept, Entry, nodeAt, entryAt, entriesFrom}
+use Rattle.table.specs.Memory.{Memory, Kept, nodeAt, entryAt, entriesFrom}
 use Rattle.table.specs.WellFormed.{distinct, awaitsFew, settled, keptRight}
 use Rattle.table.specs.Right.{allFrom, numbered, rightAt}
 

@@ -1,7 +1,7 @@
 -- The code's tests are the clauses of well-formedness. Assumes nothing.
 use mathlib.Core.Path.{_≡_, refl, sym, ap, _∙_}
-use mathlib.Core.Bool.{Bool, true, false, cond, not, _&&_, _||_}
-use mathlib.Core.List.{List, [], _∷_, map}
+use mathlib.Core.Bool.{Bool, true, false, not, _&&_, _||_}
+use mathlib.Core.List.{List, _∷_}
 use Prim.Native.Nat.{ℕ, zero, suc, _+_, _-_, _*_, _≤_, _<_}
 use native.Mathlib.Omega.{arith}
 use borrow.Author.Tests.{eq-eqb, ne-eqb, le-leb, lt-leb, ltb-true, ltb-false}
@@ -10,8 +10,8 @@ use lib.IntN.{ℤ}
 use lib.ListN.{getD}
 use Rattle.values.specs.Packing.{isPacked}
 use Rattle.meaning.specs.EvaluationLaws.{split}
-use Rattle.table.specs.Memory.{Node, Kept, Entry, nodeAt, keptAt, entryAt, entriesFrom, nodesOf}
-use Rattle.table.specs.Nodes.{worksKind, arity, listed, kids, isName}
+use Rattle.table.specs.Memory.{Node, Entry, nodeAt, keptAt, entryAt, entriesFrom, nodesOf}
+use Rattle.table.specs.Nodes.{arity, listed, kids, isName}
 use Rattle.table.specs.WellFormed.{every, kindKnown, keyRight, arityRight, lower, distinct, awaitsFew, isDone, doneAt, allDone, settled, namesRight, keptRight, wellFormed}
 use Rattle.table.specs.Right.{allFrom, numbered, nodeRight, rightAt}
 use Rattle.table.specs.Held.{shaped}

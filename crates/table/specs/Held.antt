@@ -1,6 +1,6 @@
 -- The nodes of the entries held, and of those that wait in a call's frame to be appended: two words each, a word of the kind and the
 -- links and one of the key. Assumes nothing: these are definitions.
-use mathlib.Core.Bool.{Bool, cond}
+use mathlib.Core.Bool.{cond}
 use mathlib.Core.List.{List}
 use Prim.Native.Nat.{ℕ, _+_, _-_, _*_, _/_, _%_}
 use lib.Dec.{ltb}

@@ -1,6 +1,6 @@
 -- Binding in the call's frame is binding by the definition. Assumes nothing.
-use mathlib.Core.Path.{_≡_, refl, sym, ap, _∙_, subst}
-use mathlib.Core.Bool.{Bool, true, false, cond, not, _&&_}
+use mathlib.Core.Path.{_≡_, refl, sym, ap, _∙_}
+use mathlib.Core.Bool.{true, cond}
 use mathlib.Core.List.{List, [], _∷_, _++_}
 use Prim.Native.Nat.{ℕ, zero, suc, _+_, _-_, _*_, _/_, _%_, _≤_, _<_}
 use native.Mathlib.Decide.{decLt}
@@ -13,7 +13,7 @@ use lib.ListN.{length, getD, set, take, drop, length-set, List·getD-eq-default}
 use lib.Seq.{getD-set-same, getD-set-other, getD-take, take-suc-set, length-take-le, drop-at}
 use Rattle.language.specs.Limits.{tableEntries}
 use Rattle.table.specs.Memory.{Node, nodeAt}
-use Rattle.table.specs.WellFormed.{hasNode, distinct}
+use Rattle.table.specs.WellFormed.{distinct}
 use Rattle.table.specs.Bind.{find, relinked, relink, Bound, bindOne, bindAll}
 use Rattle.table.specs.Right.{node, numbered}
 use Rattle.table.specs.RightLaws.{left-suc}

@@ -1,5 +1,5 @@
 -- The clauses of well-formedness as the code tests them: by number, over the slices. Assumes nothing: these are definitions.
-use mathlib.Core.Bool.{Bool, true, false, _&&_}
+use mathlib.Core.Bool.{Bool, true, _&&_}
 use mathlib.Core.List.{List, [], _∷_}
 use Prim.Native.Nat.{ℕ, zero, suc}
 use Rattle.table.specs.Memory.{Node, nodeAt}

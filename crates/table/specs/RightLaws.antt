@@ -1,15 +1,15 @@
 -- Laws of the tests of one entry, and of loops over numbers, each with a premise for every call and test on the code's way. Assumes nothing.
-use mathlib.Core.Path.{_≡_, refl, sym, ap, _∙_}
+use mathlib.Core.Path.{_≡_, refl, sym, _∙_}
 use mathlib.Core.Bool.{Bool, true, false, cond, not, _&&_, _||_}
-use mathlib.Core.List.{List, [], _∷_, _++_}
-use Prim.Native.Nat.{ℕ, zero, suc, _+_, _-_, _*_, _/_, _%_, _≤_, _<_, _^_}
+use mathlib.Core.List.{List, [], _∷_}
+use Prim.Native.Nat.{ℕ, zero, suc, _+_, _-_, _*_, _/_, _%_, _≤_, _<_}
 use native.Mathlib.Nat.{mod-eq-of-lt, sub-zero}
 use native.Mathlib.Numerals.{add-one}
 use native.Mathlib.Omega.{arith}
 use borrow.Author.Tests.{eq-eqb, ne-eqb, lt-ltb, le-ltb, leb-true}
 use lib.Dec.{eqb, leb, ltb}
 use lib.ListN.{length, getD}
-use Rattle.language.specs.Names.{isLetter, inWord, packed, packOnto, bytes, letWord, inWord!, dataWord}
+use Rattle.language.specs.Names.{isLetter, inWord, packOnto, bytes, letWord, inWord!, dataWord}
 use Rattle.language.specs.Members.{row, memberAt, foundIn, members}
 use Rattle.language.specs.declared.members.Member.{Member}
 use Rattle.language.specs.declared.members.Found.{Found}
@@ -17,9 +17,9 @@ use Rattle.language.specs.declared.members.Found.the-variants.{Is, Unknown}
 use Rattle.meaning.specs.FormsLaws.{and-left, and-right}
 use Rattle.meaning.specs.EvaluationLaws.{split}
 use Rattle.table.specs.Memory.{Node, nodeAt}
-use Rattle.table.specs.Nodes.{pickFound, memberOfKind, memberArity, arity, wordNumber, isName}
+use Rattle.table.specs.Nodes.{memberOfKind, memberArity, arity, wordNumber, isName}
 use Rattle.table.specs.WellFormed.{kindKnown, keyRight, arityRight, lower}
-use Rattle.table.specs.Right.{node, allFrom, numbered, nodeRight, rightAt}
+use Rattle.table.specs.Right.{node, allFrom, nodeRight, rightAt}
 
 -- what is left of n at i is one more than what is left at i + 1
 pub left-suc : (n i : ℕ) → i < n → n - i ≡ suc (n - (i + 1))

@@ -5,14 +5,15 @@ use crate::nodes::held_at;
 use crate::nodes::same;
 ghost use mathlib.Core.Path.{_≡_};
 ghost use mathlib.Core.Bool.{true};
-ghost use Prim.Native.Nat.{suc, _+_, _<_, _≤_};
+ghost use Prim.Native.Nat.{_+_, _<_, _≤_};
 ghost use lib.ListN.{length};
 ghost use Rattle.table.specs.Memory.{nodeAt};
 ghost use Rattle.table.specs.WellFormed.{distinct};
-ghost use Rattle.table.specs.Right.{numbered, allFrom};
+ghost use Rattle.table.specs.Right.{numbered};
 ghost use Rattle.table.specs.Held.{shaped, heldAt};
-ghost use Rattle.table.specs.Chain.{hashOf, lastSame, Chained, linked, newAt, Entered};
+ghost use Rattle.table.specs.Chain.{hashOf, lastSame, Chained, linked, Entered};
 
+// The chain of a node.
 pub fn hash(x: Shape) -> u16
     ensures { λ r. ⌜ r ≡ hashOf (shaped x) ⌝ }
 {

@@ -7,6 +7,7 @@ use crate::entries::arity;
 use crate::entries::is_name;
 use crate::entries::nodes_right;
 use crate::names::await_names;
+use crate::nodes::Shape;
 use crate::nodes::entry_of;
 use crate::nodes::node_at;
 use language::limits::Table;
@@ -22,12 +23,17 @@ ghost use Rattle.table.specs.WellFormed.{doneAt, allDone, namesRight, aw
 ghost use Rattle.table.specs.Right.{numbered, allFrom, rightAt};
 ghost use Rattle.table.specs.Checked.{memory, kept, keptOk, entriesRight};
 
+// The cells of a kept function and of a kept delay, whose names are kept beside them.
+const FUNCTION_CELL: u64 = 17179869184;
+
+const DELAYED_CELL: u64 = 25769803776;
+
 // Whether entry j of n is worked out.
 fn is_done(links: &[u16], cells: &[u64], n: u16, j: u16) -> bool
     ensures { λ r. ⌜ r ≡ doneAt (entriesFrom (now (links .entry)) (now (cells .entry)) 0 n) j ⌝ }
 {
     let at = j as usize;
-    (j < n) & (!(4 <= at16(links, 3 * at)) | (1 <= at64(cells, 4 * at + 1)))
+    (j < n) & (!(Shape::FUNCTION <= at16(links, 3 * at)) | (1 <= at64(cells, 4 * at + 1)))
 }
 
 // Whether the dependencies of entry i are worked out.
@@ -50,10 +56,10 @@ fn kids_done(links: &[u16], cells: &[u64], n: u16, i: u16) -> bool
 fn names_right(value: u64, name: u64, other: u64) -> bool
     ensures { λ r. ⌜ r ≡ namesRight (kept value name other) ⌝ }
 {
-    if value == 17179869184 {
+    if value == FUNCTION_CELL {
         return is_name(name) & (other == 0);
     }
-    if value == 25769803776 {
+    if value == DELAYED_CELL {
         return is_name(name) & ((other == 0) | is_name(other));
     }
     (name == 0) & (other == 0)
@@ -70,11 +76,12 @@ fn kept_right(links: &[u16], cells: &[u64], n: u16, readings: usize, i: u16) -> 
             return true;
         }
         return kids_done(links, cells, n, i)
-            & ((4 <= at16(links, 3 * at)) & is_packed(value, readings));
+            & ((Shape::FUNCTION <= at16(links, 3 * at)) & is_packed(value, readings));
     }
     false
 }
 
+// Whether what is kept of n entries is right.
 fn all_kept_right(links: &[u16], cells: &[u64], n: u16, readings: usize) -> bool
     ensures { λ r. ⌜ r ≡ allFrom (keptOk (now (links .entry)) (now (cells .entry)) n readings) n 0 ⌝ }
 {
@@ -99,6 +106,7 @@ fn few_names(links: &[u16], cells: &[u64], n: u16) -> bool
     await_names(links, cells, n, &mut names)
 }
 
+// The clauses after the counts, of n entries.
 fn entries_right(links: &[u16], cells: &[u64], n: u16, readings: usize) -> bool
     requires { ⌜ n ≤ 512 ⌝ }
     ensures { λ r. ⌜ r ≡ entriesRight (now (links .entry)) (now (cells .entry)) readings n ⌝ }

@@ -1,6 +1,7 @@
 // One entry: whether its kind, its key and its dependencies are right (01, refusal 4).
 use crate::cells::at16;
 use crate::cells::at64;
+use crate::nodes::Shape;
 use language::members::Found;
 use language::members::arguments;
 use language::members::member_at;
@@ -8,11 +9,11 @@ use language::names::in_word;
 use language::names::is_letter;
 ghost use mathlib.Core.Path.{_≡_};
 ghost use Prim.Native.Nat.{_%_};
-ghost use Rattle.table.specs.Memory.{nodeAt};
-ghost use Rattle.table.specs.Nodes.{memberArity, memberOfKind, arity, wordNumber, isName};
+ghost use Rattle.table.specs.Nodes.{memberArity, arity, wordNumber, isName};
 ghost use Rattle.table.specs.WellFormed.{keyRight, arityRight};
 ghost use Rattle.table.specs.Right.{node, rightAt, allFrom};
 
+// The last byte of a packed word.
 fn low_byte(k: u64) -> u8
     ensures { λ r. ⌜ r ≡ k % 256 ⌝ }
 {
@@ -46,6 +47,7 @@ pub fn is_name(k: u64) -> bool
     is_word(k) & !((k == 0x6c6574) | ((k == 0x696e) | (k == 0x64617461)))
 }
 
+// The receiver, and the argument if there is one.
 fn member_arity(f: Found) -> u16
     ensures { λ r. ⌜ r ≡ memberArity f ⌝ }
 {
@@ -59,30 +61,32 @@ fn member_arity(f: Found) -> u16
 pub fn arity(kind: u16) -> u16
     ensures { λ r. ⌜ r ≡ arity kind ⌝ }
 {
-    if kind == 4 {
+    if kind == Shape::FUNCTION {
         return 1;
     }
-    if kind < 5 {
+    if kind < Shape::MEMBERS {
         return 0;
     }
-    if kind < 21 {
-        return member_arity(member_at((kind - 5) as u8));
+    if kind < Shape::KINDS {
+        return member_arity(member_at((kind - Shape::MEMBERS) as u8));
     }
     0
 }
 
+// A number within 32 bits, a name, or 0, by kind.
 fn key_right(kind: u16, key: u64) -> bool
     ensures { λ r. ⌜ r ≡ keyRight (node kind key 0 0) ⌝ }
 {
-    if kind == 0 {
+    if kind == Shape::NUMBER {
         return key < 4294967296;
     }
-    if (kind == 1) | ((kind == 2) | (kind == 4)) {
+    if (kind == Shape::VARIABLE) | ((kind == Shape::UNBOUND) | (kind == Shape::FUNCTION)) {
         return is_name(key);
     }
     key == 0
 }
 
+// As many dependencies as the kind has.
 fn arity_right(kind: u16, first: u16, second: u16) -> bool
     ensures { λ r. ⌜ r ≡ arityRight (node kind 0 first second) ⌝ }
 {
@@ -105,7 +109,7 @@ fn node_right(links: &[u16], cells: &[u64], i: u16) -> bool
     let first = at16(links, 3 * at + 1);
     let second = at16(links, 3 * at + 2);
     let key = at64(cells, 4 * at);
-    if kind < 21 {
+    if kind < Shape::KINDS {
         key_right(kind, key) & (arity_right(kind, first, second) & ((first <= i) & (second <= i)))
     } else {
         false

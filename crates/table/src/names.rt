@@ -1,6 +1,7 @@
 // The names that each entry awaits, in one rising pass: two words an entry, 0 for none.
 use crate::cells::at64;
 use crate::entries::arity;
+use crate::nodes::Shape;
 use crate::nodes::entry_of;
 use crate::nodes::node_at;
 ghost use mathlib.Core.Path.{_≡_};
@@ -30,6 +31,7 @@ pub fn names_at(names: &[u64], i: u16) -> Names
     }
 }
 
+// One name more, if it is another.
 fn with_name(p: Names, y: u64) -> Names
     ensures { λ r. ⌜ r ≡ withName p y ⌝ }
 {
@@ -57,6 +59,7 @@ fn with_name(p: Names, y: u64) -> Names
     }
 }
 
+// One name less.
 fn without_name(p: Names, x: u64) -> Names
     ensures { λ r. ⌜ r ≡ withoutName p x ⌝ }
 {
@@ -84,6 +87,7 @@ fn without_name(p: Names, x: u64) -> Names
     p
 }
 
+// The names of both, each once.
 fn joined(a: Names, b: Names) -> Names
     ensures { λ r. ⌜ r ≡ joinedNames a b ⌝ }
 {
@@ -95,7 +99,7 @@ fn names_by(links: &[u16], cells: &[u64], names: &[u64; 1024], i: u16) -> Names
     ensures { λ r. ⌜ r ≡ namesBy (now (names .entry)) (nodeAt (now (links .entry)) (now (cells .entry)) i) ⌝ }
 {
     let x = node_at(links, cells, i);
-    if x.kind == 1 {
+    if x.kind == Shape::VARIABLE {
         return Names {
             first: x.key,
             second: 0,
@@ -103,7 +107,7 @@ fn names_by(links: &[u16], cells: &[u64], names: &[u64; 1024], i: u16) -> Names
         };
     }
     let a = names_at(names, entry_of(x.first));
-    if x.kind == 4 {
+    if x.kind == Shape::FUNCTION {
         return without_name(a, x.key);
     }
     let n = arity(x.kind);

@@ -16,6 +16,24 @@ pub struct Shape {
     pub second: u16,
 }
 
+// The kinds. The members follow, by their numbers, up to the first number that is no kind.
+impl Shape {
+    pub const NUMBER: u16 = 0;
+
+    pub const VARIABLE: u16 = 1;
+
+    pub const UNBOUND: u16 = 2;
+
+    pub const READINGS: u16 = 3;
+
+    pub const FUNCTION: u16 = 4;
+
+    pub const MEMBERS: u16 = 5;
+
+    pub const KINDS: u16 = 21;
+}
+
+// One node is the other: all pieces are equal.
 pub fn same(a: Shape, b: Shape) -> bool
     ensures { λ r. ⌜ r ≡ sameNode (shaped a) (shaped b) ⌝ }
 {
@@ -42,6 +60,7 @@ pub fn entry_of(link: u16) -> u16
     if 0 < link { link - 1 } else { 0 }
 }
 
+// A field of a word.
 fn narrow(x: u64) -> u16
     requires { ⌜ x < 1024 ⌝ }
     ensures { λ r. ⌜ r ≡ x ⌝ }

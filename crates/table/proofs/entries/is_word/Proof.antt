@@ -1,5 +1,5 @@
 -- What is left of the number decides, byte by byte from the last. Assumes nothing.
-use mathlib.Core.Path.{_≡_, refl}
+use mathlib.Core.Path.{_≡_}
 use borrow.Author.Needs.{needs}
 use Rattle.table.specs.Nodes.{wordNumber}
 use Rattle.table.specs.RightLaws.{entries}
