@@ -1,4 +1,5 @@
 mod CursorPaths
+mod ParserPaths
 mod ScratchPaths
 mod TokenPaths
 mod ValuePaths

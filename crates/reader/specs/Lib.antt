@@ -4,5 +4,7 @@ pub mod Lexing
 pub mod LexingLaws
 pub mod Loops
 pub mod LoopsLaws
+pub mod Parsing
+pub mod Reading
 pub mod Scratch
 pub mod TokenLaws

@@ -1,0 +1,533 @@
+-- What each path through a function of parser.rt gives: descent's rules of Paths and PathsCalls, at the states that the code's cursors and
+-- arrays stand for. Assumes nothing.
+use mathlib.Core.Path.{_≡_, refl, ap, sym, subst, _∙_}
+use mathlib.Core.Bool.{Bool, true, false}
+use mathlib.Core.List.{List, []}
+use Prim.Native.Nat.{ℕ, suc, _+_, _*_, _-_, _≤_, _<_}
+use native.Mathlib.Numerals.{add-one}
+use native.Mathlib.Omega.{arith}
+use lib.Dec.{eqb, lit<}
+use lib.ListN.{length, set}
+use borrow.Author.Tests.{eq-eqb, ne-eqb}
+use Rattle.grammar.specs.Tokens.{when}
+use Rattle.records.specs.Records.{node}
+use Rattle.descent.specs.Cursor as C
+use Rattle.descent.specs.Descent as D
+use Rattle.descent.specs.Descent.{State, moved, Mode, inExpression, inCalls, inArguments, inMore, firstGiven, nextGiven}
+use Rattle.descent.specs.Fit as F
+use Rattle.descent.specs.Fit.{Fit}
+use Rattle.descent.specs.FitRuns as G
+use Rattle.descent.specs.Kept.{depthOf, passes}
+use Rattle.descent.specs.Moves.{Moved, behind-some, moved-need, moved-let}
+use Rattle.descent.specs.Paths as Paths
+use Rattle.descent.specs.Paths.{Reads}
+use Rattle.descent.specs.PathsCalls as PathsCalls
+use Rattle.reader.specs.declared.cursor.Cursor.{Cursor}
+use Rattle.reader.specs.declared.scratch.Call.{Call}
+use Rattle.reader.specs.declared.tokens.Lexed.{Lexed}
+use Rattle.reader.specs.declared.answer.Read.{Read}
+use Rattle.reader.specs.declared.answer.Read.the-variants.{Done, Refused}
+use Rattle.reader.specs.Lexing.{lexAt, tokensFrom}
+use Rattle.reader.specs.Cursors.{cursorOf, stateOf, refusing, passing}
+use Rattle.reader.specs.CursorsLaws.{head-place, at-kind, not-kind}
+use Rattle.reader.specs.Scratch.{Wrote, WroteFor, NameAhead, NumberAhead, ShutAhead, Recorded, callOf}
+use Rattle.reader.specs.Parsing.{Ready, ReadyAt, Parses}
+use Rattle.reader.specs.Reading.{answerOf, noBinders, Reading}
+
+-- ---- one mark more, one binder more
+more-marks : {w : Bool} {marks depth : ℕ} (Q : Mode → Type 0) → Q (inExpression w (marks + 1) depth) → Q (inExpression w (suc marks) depth)
+more-marks {w} {marks} {depth} Q x = subst (λ (m : ℕ). Q (inExpression w m depth)) (add-one marks) x
+
+less-marks : {w : Bool} {marks depth : ℕ} (Q : Mode → Type 0) → Q (inExpression w (suc marks) depth) → Q (inExpression w (marks + 1) depth)
+less-marks {w} {marks} {depth} Q x = subst (λ (m : ℕ). Q (inExpression w m depth)) (sym (add-one marks)) x
+
+more-both : {w : Bool} {marks depth : ℕ} (Q : Mode → Type 0) → Q (inExpression w (marks + 1) (depth + 1)) → Q (inExpression w (suc marks) (suc depth))
+more-both {w} {marks} {depth} Q x = more-marks Q (subst (λ (d : ℕ). Q (inExpression w (marks + 1) d)) (add-one depth) x)
+
+less-both : {w : Bool} {marks depth : ℕ} (Q : Mode → Type 0) → Q (inExpression w (suc marks) (suc depth)) → Q (inExpression w (marks + 1) (depth + 1))
+less-both {w} {marks} {depth} Q x = subst (λ (d : ℕ). Q (inExpression w (marks + 1) d)) (sym (add-one depth)) (less-marks Q x)
+
+module _ (text : List ℕ) where
+  abbrev end : ℕ
+  end = length text
+
+  abbrev tokens-left : Cursor → ℕ
+  tokens-left c = length (tokensFrom text (c .at))
+
+  module _ (c : Cursor) (x : Lexed) (e : x ≡ lexAt text (c .at)) where
+    pub ahead : (k : ℕ) → x .kind ≡ k → C.isAt k (tokensFrom text (c .at)) ≡ true
+    ahead k q = at-kind text (c .at) x e k q
+
+    pub not-ahead : (k : ℕ) → (x .kind ≡ k → ⊥) → C.isAt k (tokensFrom text (c .at)) ≡ false
+    not-ahead k q = not-kind text (c .at) x e k q
+
+  -- ---- what any call leaves
+  module _ (m : Mode) (c a : Cursor) (R P S R′ P′ S′ : List ℕ) (h : Parses m text c R P S a R′ P′ S′) (z : a .number ≡ 0) where
+    pub read-less : tokens-left a + passes m ≤ tokens-left c
+    read-less = Paths.less-read end (h .reads) (eq-eqb (a .number) 0 z)
+
+    pub read-fit : Fit m (stateOf text c R P S) → Fit (inCalls (F.marksOf m) (depthOf m)) (stateOf text a R′ P′ S′)
+    read-fit f = Paths.reads-fit end (h .reads) f z
+
+    pub root-few : Fit m (stateOf text c R P S) → a .root < 128
+    root-few f = let g = read-fit f in omega (arith, g .own, g .count, g .parts)
+
+  -- ---- fewer tokens are left
+  pub shut-less : (k : Call) (c a : Cursor) (R P R′ P′ : List ℕ) (x : Lexed) → x ≡ lexAt text (c .at) → x .kind ≡ 8 → WroteFor text (D.readShut end (callOf k)) c R P a R′ P′
+      → a .number ≡ 0 → tokens-left a + 1 ≤ tokens-left c
+  shut-less k c a R P R′ P′ x e q h z = PathsCalls.less-shut end 0 0 (stateOf text c R P []) (callOf k) (ahead c x e 8 q) (h .same []) (eq-eqb (a .number) 0 z)
+
+  pub call-less : (marks : ℕ) (c h : Cursor) (x : Lexed) → x ≡ lexAt text (c .at) → x .kind ≡ 6 → cursorOf text h ≡ C.callHead end marks (cursorOf text c)
+      → h .number ≡ 0 → tokens-left h + 3 ≤ tokens-left c
+  call-less marks c h x e q p z = PathsCalls.less-call end marks 0 (stateOf text c [] [] []) (cursorOf text h) (ahead c x e 6 q) p (eq-eqb (h .number) 0 z)
+
+  pub comma-less : (more n : ℕ) (c h : Cursor) (x : Lexed) → x ≡ lexAt text (c .at) → x .kind ≡ 9 → n ≡ C.atComma more → cursorOf text h ≡ passing text n c
+      → h .number ≡ 0 → tokens-left h + 1 ≤ tokens-left c
+  comma-less more n c h x e q o p z =
+      PathsCalls.less-comma end 0 0 (stateOf text c [] [] []) (record { kind = 0; takes = more; receiver = 0; place = 0; argument = 0 }) (cursorOf text h) (ahead c x e 9 q)
+      (p ∙ ap (λ (j : ℕ). passing text j c) o) (eq-eqb (h .number) 0 z)
+
+  pub name-less : (w : Bool) (depth : ℕ) (c a : Cursor) (R P S R′ P′ : List ℕ) (x : Lexed) → x ≡ lexAt text (c .at) → x .kind ≡ 10
+      → stateOf text a R′ P′ S ≡ D.readName end w depth (stateOf text c R P S) → a .number ≡ 0 → tokens-left a + 1 ≤ tokens-left c
+  name-less w depth c a R P S R′ P′ x e q h z = Paths.less-name end w 0 depth (stateOf text c R P S) (ahead c x e 10 q) h (eq-eqb (a .number) 0 z)
+
+  pub number-less : (w : Bool) (c a : Cursor) (R P R′ P′ : List ℕ) (x : Lexed) → x ≡ lexAt text (c .at) → x .kind ≡ 11 → WroteFor text (D.readNumber end w) c R P a R′ P′
+      → a .number ≡ 0 → tokens-left a + 1 ≤ tokens-left c
+  number-less w c a R P R′ P′ x e q h z = Paths.less-number end w 0 0 (stateOf text c R P []) (ahead c x e 11 q) (h .same []) (eq-eqb (a .number) 0 z)
+
+  -- ---- arguments and more
+  module _ (marks depth : ℕ) (k : Call) (c : Cursor) (R P S : List ℕ) where
+    abbrev s : State
+    s = stateOf text c R P S
+
+    pub arguments-room : Ready (inArguments (callOf k) marks depth) text c R P S → ShutAhead k c
+    arguments-room h =
+        let f = h .fit in
+        let o = f .own in
+        let n = f .count in
+        let p = f .parts in
+        let r = o .receiver in
+        let a = o .argument in
+        let q = o .place in
+        record { count = omega arith; place = omega arith; kind = o .kind; receiver = omega arith; argument = omega arith }
+
+    pub more-room : Ready (inMore (callOf k) marks depth) text c R P S → ShutAhead k c
+    more-room h =
+        let f = h .fit in
+        let o = f .own in
+        let n = f .count in
+        let p = f .parts in
+        let r = o .receiver in
+        let a = o .argument in
+        let q = o .place in
+        record { count = omega arith; place = omega arith; kind = o .kind; receiver = omega arith; argument = omega arith }
+
+    module _ (x : Lexed) (a : Cursor) (R′ P′ : List ℕ) (e : x ≡ lexAt text (c .at)) (q : x .kind ≡ 8)
+        (h : WroteFor text (D.readShut end (callOf k)) c R P a R′ P′) where
+      pub arguments-none-refused : (a .number ≡ 0 → ⊥) → Parses (inArguments (callOf k) marks depth) text c R P S a R′ P′ S
+      arguments-none-refused z = record { reads = PathsCalls.none-refused end marks depth s (callOf k) (ahead c x e 8 q) (h .same S) (ne-eqb (a .number) 0 z) }
+
+      pub more-last-refused : (a .number ≡ 0 → ⊥) → Parses (inMore (callOf k) marks depth) text c R P S a R′ P′ S
+      more-last-refused z = record { reads = PathsCalls.last-refused end marks depth s (callOf k) (ahead c x e 8 q) (h .same S) (ne-eqb (a .number) 0 z) }
+
+      module _ (z : a .number ≡ 0) where
+        not-refused : D.readShut end (callOf k) s .cursor .number ≡ 0
+        not-refused = sym (ap (λ (u : State). u .cursor .number) (h .same S)) ∙ z
+
+        pub arguments-shut-fit : Ready (inArguments (callOf k) marks depth) text c R P S → Ready (inCalls marks depth) text a R′ P′ S
+        arguments-shut-fit f =
+            record { fit = subst (Fit (inCalls marks depth)) (sym (h .same S)) (G.fit-shut-arguments end marks depth s (callOf k) (f .fit) (ahead c x e 8 q) not-refused) }
+
+        pub more-shut-fit : Ready (inMore (callOf k) marks depth) text c R P S → Ready (inCalls marks depth) text a R′ P′ S
+        more-shut-fit f =
+            record { fit = subst (Fit (inCalls marks depth)) (sym (h .same S)) (G.fit-shut-more end marks depth s (callOf k) (f .fit) (ahead c x e 8 q) not-refused) }
+
+        module _ (r : Cursor) (R″ P″ S″ : List ℕ) (y : Parses (inCalls marks depth) text a R′ P′ S r R″ P″ S″) where
+          pub arguments-none : Parses (inArguments (callOf k) marks depth) text c R P S r R″ P″ S″
+          arguments-none = record { reads = PathsCalls.none-read end marks depth s (callOf k) (ahead c x e 8 q) (h .same S) (eq-eqb (a .number) 0 z) (y .reads) }
+
+          pub more-last : Parses (inMore (callOf k) marks depth) text c R P S r R″ P″ S″
+          more-last = record { reads = PathsCalls.last-read end marks depth s (callOf k) (ahead c x e 8 q) (h .same S) (eq-eqb (a .number) 0 z) (y .reads) }
+
+    pub argument-fit : Ready (inArguments (callOf k) marks depth) text c R P S → Ready (inExpression (eqb (k .takes) 0) (marks + 1) depth) text c R P S
+    argument-fit f = record { fit = less-marks (λ m. Fit m s) (F.fit-argument end marks depth s (callOf k) (f .fit)) }
+
+    module _ (a : Cursor) (R′ P′ S′ : List ℕ) (h : Parses (inExpression (eqb (k .takes) 0) (marks + 1) depth) text c R P S a R′ P′ S′) where
+      first-reads : Reads end (inExpression (eqb (k .takes) 0) (suc marks) depth) s (stateOf text a R′ P′ S′)
+      first-reads = more-marks (λ m. Reads end m s (stateOf text a R′ P′ S′)) (h .reads)
+
+      pub arguments-first-refused : (x : Lexed) → x ≡ lexAt text (c .at) → (x .kind ≡ 8 → ⊥) → (a .number ≡ 0 → ⊥) → Parses (inArguments (callOf k) marks depth) text c R P S a R′ P′ S′
+      arguments-first-refused x e q z = record { reads = PathsCalls.first-refused end marks depth s (callOf k) (not-ahead c x e 8 q) first-reads (ne-eqb (a .number) 0 z) }
+
+      module _ (z : a .number ≡ 0) (g : Call) (u : callOf g ≡ firstGiven (a .root) (callOf k)) where
+        pub first-fit : Ready (inArguments (callOf k) marks depth) text c R P S → Ready (inMore (callOf g) marks depth) text a R′ P′ S′
+        first-fit f =
+            record { fit = subst (λ (j : D.Call). Fit (inMore j marks depth) (stateOf text a R′ P′ S′)) (sym u) (Paths.first-fit end (callOf k) marks depth (f .fit) first-reads z) }
+
+        pub arguments-first : (x : Lexed) → x ≡ lexAt text (c .at) → (x .kind ≡ 8 → ⊥) → {r : Cursor} {R″ P″ S″ : List ℕ} → Parses (inMore (callOf g) marks depth) text a R′ P′ S′ r R″ P″ S″
+            → Parses (inArguments (callOf k) marks depth) text c R P S r R″ P″ S″
+        arguments-first x e q {r} {R″} {P″} {S″} y =
+            record {
+              reads = PathsCalls.first-read end marks depth s (callOf k) (not-ahead c x e 8 q) first-reads (eq-eqb (a .number) 0 z)
+                  (subst (λ (j : D.Call). Reads end (inMore j marks depth) (stateOf text a R′ P′ S′) (stateOf text r R″ P″ S″)) u (y .reads));
+            }
+
+    -- another argument
+    pub more-refused : (x : Lexed) (r : Cursor) → x ≡ lexAt text (c .at) → (x .kind ≡ 8 → ⊥) → (x .kind ≡ 9 → ⊥) → cursorOf text r ≡ refusing text 5 c
+        → Parses (inMore (callOf k) marks depth) text c R P S r R P S
+    more-refused x r e p q g =
+        record { reads = subst (λ (v : C.Cursor). Reads end (inMore (callOf k) marks depth) s (moved s v)) (sym g) (PathsCalls.more-refused end marks depth s (callOf k) (not-ahead c x e 8 p) (not-ahead c x e 9 q)) }
+
+    module _ (x : Lexed) (n : ℕ) (h : Cursor) (e : x ≡ lexAt text (c .at)) (q : x .kind ≡ 9) (o : n ≡ C.atComma (k .takes)) (p : cursorOf text h ≡ passing text n c) where
+      comma-is : cursorOf text h ≡ passing text (C.atComma (k .takes)) c
+      comma-is = p ∙ ap (λ (j : ℕ). passing text j c) o
+
+      pub comma-refused : (h .number ≡ 0 → ⊥) → Parses (inMore (callOf k) marks depth) text c R P S h R P S
+      comma-refused z = record { reads = PathsCalls.comma-refused end marks depth s (callOf k) (cursorOf text h) (ahead c x e 9 q) comma-is (ne-eqb (h .number) 0 z) }
+
+      module _ (z : h .number ≡ 0) where
+        pub comma-fit : Ready (inMore (callOf k) marks depth) text c R P S → Ready (inExpression false (marks + 1) depth) text h R P S
+        comma-fit f =
+            record {
+              fit = less-marks (λ m. Fit m (stateOf text h R P S))
+                  (subst (λ (v : C.Cursor). Fit (inExpression false (suc marks) depth) (moved s v)) (sym comma-is) (F.fit-comma end marks depth s (callOf k) (f .fit) (ahead c x e 9 q)));
+            }
+
+        module _ (a : Cursor) (R′ P′ S′ : List ℕ) (y : Parses (inExpression false (marks + 1) depth) text h R P S a R′ P′ S′) where
+          next-reads : Reads end (inExpression false (suc marks) depth) (stateOf text h R P S) (stateOf text a R′ P′ S′)
+          next-reads = more-marks (λ m. Reads end m (stateOf text h R P S) (stateOf text a R′ P′ S′)) (y .reads)
+
+          pub more-next-refused : (a .number ≡ 0 → ⊥) → Parses (inMore (callOf k) marks depth) text c R P S a R′ P′ S′
+          more-next-refused v =
+              record { reads = PathsCalls.next-refused end marks depth s (callOf k) (cursorOf text h) (ahead c x e 9 q) comma-is (eq-eqb (h .number) 0 z) next-reads (ne-eqb (a .number) 0 v) }
+
+          module _ (v : a .number ≡ 0) (g : Call) (u : callOf g ≡ nextGiven (callOf k)) where
+            pub next-fit : Ready (inMore (callOf k) marks depth) text c R P S → Ready (inMore (callOf g) marks depth) text a R′ P′ S′
+            next-fit f =
+                record {
+                  fit = subst (λ (j : D.Call). Fit (inMore j marks depth) (stateOf text a R′ P′ S′)) (sym u)
+                      (Paths.next-fit end (callOf k) marks depth (cursorOf text h) (f .fit) (ahead c x e 9 q) comma-is z next-reads v);
+                }
+
+            pub more-next : {r : Cursor} {R″ P″ S″ : List ℕ} → Parses (inMore (callOf g) marks depth) text a R′ P′ S′ r R″ P″ S″
+                → Parses (inMore (callOf k) marks depth) text c R P S r R″ P″ S″
+            more-next {r} {R″} {P″} {S″} w =
+                record {
+                  reads = PathsCalls.next-read end marks depth s (callOf k) (cursorOf text h) (ahead c x e 9 q) comma-is (eq-eqb (h .number) 0 z) next-reads (eq-eqb (a .number) 0 v)
+                      (subst (λ (j : D.Call). Reads end (inMore j marks depth) (stateOf text a R′ P′ S′) (stateOf text r R″ P″ S″)) u (w .reads));
+                }
+
+  -- ---- calls
+  module _ (marks depth : ℕ) (c : Cursor) (R P S : List ℕ) (x : Lexed) (e : x ≡ lexAt text (c .at)) where
+    abbrev here : State
+    here = stateOf text c R P S
+
+    pub calls-over : (x .kind ≡ 6 → ⊥) → Parses (inCalls marks depth) text c R P S c R P S
+    calls-over q = record { reads = PathsCalls.calls-over end marks depth here (not-ahead c x e 6 q) }
+
+    module _ (h : Cursor) (q : x .kind ≡ 6) (p : cursorOf text h ≡ C.callHead end marks (cursorOf text c)) where
+      pub call-head-refused : (h .number ≡ 0 → ⊥) → Parses (inCalls marks depth) text c R P S h R P S
+      call-head-refused z = record { reads = PathsCalls.call-head-refused end marks depth here (cursorOf text h) (ahead c x e 6 q) p (ne-eqb (h .number) 0 z) }
+
+      module _ (z : h .number ≡ 0) where
+        pub call-fit : Ready (inCalls marks depth) text c R P S → Ready (inArguments (D.newCall (cursorOf text c) (cursorOf text h)) marks depth) text h R P S
+        call-fit f =
+            record {
+              fit = subst (λ (v : C.Cursor). Fit (inArguments (D.newCall (cursorOf text c) v) marks depth) (moved here v)) (sym p)
+                  (F.fit-call end marks depth here (f .fit) (ahead c x e 6 q) (sym (ap (λ (v : C.Cursor). v .number) p) ∙ z));
+            }
+
+        pub call-read : {r : Cursor} {R′ P′ S′ : List ℕ} → Parses (inArguments (D.newCall (cursorOf text c) (cursorOf text h)) marks depth) text h R P S r R′ P′ S′
+            → Parses (inCalls marks depth) text c R P S r R′ P′ S′
+        call-read y = record { reads = PathsCalls.call-read end marks depth here (cursorOf text h) (ahead c x e 6 q) p (eq-eqb (h .number) 0 z) (y .reads) }
+
+  -- ---- expression
+  module _ (w : Bool) (marks depth : ℕ) (c : Cursor) (R P S : List ℕ) where
+    abbrev E : Mode
+    E = inExpression w marks depth
+
+    abbrev at-it : State
+    at-it = stateOf text c R P S
+
+    module _ (x : Lexed) (e : x ≡ lexAt text (c .at)) where
+      pub ready-at : (k : ℕ) → x .kind ≡ k → Ready E text c R P S → ReadyAt k E text c R P S
+      ready-at k q f = record { ahead = ahead c x e k q; fit = f .fit }
+
+      pub name-ahead : x .kind ≡ 10 → Ready E text c R P S → NameAhead text depth c S
+      name-ahead q f =
+          let g = f .fit in
+          let n = g .count in
+          let m = g .marks in
+          let d = g .depth in
+          record { ahead = ahead c x e 10 q; parts = g .parts; count = omega arith; depth = omega arith; links = g .links }
+
+      pub number-ahead : x .kind ≡ 11 → Ready E text c R P S → NumberAhead text c
+      number-ahead q f = let g = f .fit in let n = g .count in record { ahead = ahead c x e 11 q; parts = g .parts; count = omega arith }
+
+      module _ (a : Cursor) (R′ P′ : List ℕ) (q : x .kind ≡ 10) (h : stateOf text a R′ P′ S ≡ D.readName end w depth at-it) where
+        pub name-refused : (a .number ≡ 0 → ⊥) → Parses E text c R P S a R′ P′ S
+        name-refused z = record { reads = Paths.name-refused end w marks depth at-it (ahead c x e 10 q) h (ne-eqb (a .number) 0 z) }
+
+        module _ (z : a .number ≡ 0) where
+          pub name-fit : Ready E text c R P S → Ready (inCalls marks depth) text a R′ P′ S
+          name-fit f =
+              record { fit = subst (Fit (inCalls marks depth)) (sym h) (G.fit-name end marks depth at-it w (f .fit) (ahead c x e 10 q) (sym (ap (λ (u : State). u .cursor .number) h) ∙ z)) }
+
+          pub name-read : {r : Cursor} {R″ P″ S″ : List ℕ} → Parses (inCalls marks depth) text a R′ P′ S r R″ P″ S″ → Parses E text c R P S r R″ P″ S″
+          name-read y = record { reads = Paths.name-read end w marks depth at-it (ahead c x e 10 q) h (eq-eqb (a .number) 0 z) (y .reads) }
+
+      module _ (a : Cursor) (R′ P′ : List ℕ) (q : x .kind ≡ 11) (h : WroteFor text (D.readNumber end w) c R P a R′ P′) where
+        pub number-refused : (a .number ≡ 0 → ⊥) → Parses E text c R P S a R′ P′ S
+        number-refused z = record { reads = Paths.number-refused end w marks depth at-it (ahead c x e 11 q) (h .same S) (ne-eqb (a .number) 0 z) }
+
+        module _ (z : a .number ≡ 0) where
+          pub number-fit : Ready E text c R P S → Ready (inCalls marks depth) text a R′ P′ S
+          number-fit f =
+              record { fit = subst (Fit (inCalls marks depth)) (sym (h .same S)) (G.fit-number end marks depth at-it w (f .fit) (ahead c x e 11 q) (sym (ap (λ (u : State). u .cursor .number) (h .same S)) ∙ z)) }
+
+          pub number-read : {r : Cursor} {R″ P″ S″ : List ℕ} → Parses (inCalls marks depth) text a R′ P′ S r R″ P″ S″ → Parses E text c R P S r R″ P″ S″
+          number-read y = record { reads = Paths.number-read end w marks depth at-it (ahead c x e 11 q) (h .same S) (eq-eqb (a .number) 0 z) (y .reads) }
+
+      pub expression-refused : (r : Cursor) → (x .kind ≡ 1 → ⊥) → (x .kind ≡ 4 → ⊥) → (x .kind ≡ 7 → ⊥) → (x .kind ≡ 10 → ⊥) → (x .kind ≡ 11 → ⊥)
+          → cursorOf text r ≡ refusing text 5 c → Parses E text c R P S r R P S
+      expression-refused r n₁ n₂ n₃ n₄ n₅ g =
+          record {
+            reads = subst (λ (v : C.Cursor). Reads end E at-it (moved at-it v)) (sym g)
+                (Paths.expression-refused end w marks depth at-it (not-ahead c x e 1 n₁) (not-ahead c x e 4 n₂) (not-ahead c x e 7 n₃) (not-ahead c x e 10 n₄) (not-ahead c x e 11 n₅));
+          }
+
+    -- ---- brackets
+    module _ (n : ℕ) (h : Cursor) (f : ReadyAt 7 E text c R P S) (o : n ≡ C.atBracket w marks) (p : cursorOf text h ≡ passing text n c) where
+      open-is : cursorOf text h ≡ passing text (C.atBracket w marks) c
+      open-is = p ∙ ap (λ (j : ℕ). passing text j c) o
+
+      pub bracket-refused : (h .number ≡ 0 → ⊥) → Parses E text c R P S h R P S
+      bracket-refused z = record { reads = Paths.bracket-refused end w marks depth at-it (cursorOf text h) (f .ahead) open-is (ne-eqb (h .number) 0 z) }
+
+      module _ (z : h .number ≡ 0) where
+        pub bracket-less : tokens-left h + 1 ≤ tokens-left c
+        bracket-less = Paths.less-bracket end w marks depth at-it (cursorOf text h) (f .ahead) open-is (eq-eqb (h .number) 0 z)
+
+        inner-fit : Fit (inExpression false (suc marks) depth) (stateOf text h R P S)
+        inner-fit =
+            subst (λ (v : C.Cursor). Fit (inExpression false (suc marks) depth) (moved at-it v)) (sym open-is)
+            (F.fit-bracketed end marks depth at-it w (f .fit) (f .ahead) (sym (ap (λ (v : C.Cursor). v .number) open-is) ∙ z))
+
+        pub bracket-fit : Ready (inExpression false (marks + 1) depth) text h R P S
+        bracket-fit = record { fit = less-marks (λ m. Fit m (stateOf text h R P S)) inner-fit }
+
+        module _ (v : Cursor) (R′ P′ S′ : List ℕ) (y : Parses (inExpression false (marks + 1) depth) text h R P S v R′ P′ S′) where
+          inner-reads : Reads end (inExpression false (suc marks) depth) (stateOf text h R P S) (stateOf text v R′ P′ S′)
+          inner-reads = more-marks (λ m. Reads end m (stateOf text h R P S) (stateOf text v R′ P′ S′)) (y .reads)
+
+          pub bracketed-refused : (v .number ≡ 0 → ⊥) → Parses E text c R P S v R′ P′ S′
+          bracketed-refused u =
+              record { reads = Paths.bracketed-refused end w marks depth at-it (cursorOf text h) (f .ahead) open-is (eq-eqb (h .number) 0 z) inner-reads (ne-eqb (v .number) 0 u) }
+
+          module _ (a : Cursor) (u : v .number ≡ 0) (g : cursorOf text a ≡ C.need end 8 (cursorOf text v)) where
+            pub bracket-shut-refused : (a .number ≡ 0 → ⊥) → Parses E text c R P S a R′ P′ S′
+            bracket-shut-refused t =
+                record { reads = Paths.bracket-shut-refused end w marks depth at-it (cursorOf text h) (f .ahead) open-is (eq-eqb (h .number) 0 z) (cursorOf text a) inner-reads (eq-eqb (v .number) 0 u) g (ne-eqb (a .number) 0 t) }
+
+            pub bracket-calls-fit : Ready (inCalls marks depth) text a R′ P′ S′
+            bracket-calls-fit =
+                record {
+                  fit = subst (λ (b : C.Cursor). Fit (inCalls marks depth) (moved (stateOf text v R′ P′ S′) b)) (sym g)
+                      (F.fit-bracket-calls end marks depth (stateOf text v R′ P′ S′) (f .fit .depth) (Paths.reads-fit end inner-reads inner-fit u));
+                }
+
+            pub bracket-read : {r : Cursor} {R″ P″ S″ : List ℕ} → a .number ≡ 0 → Parses (inCalls marks depth) text a R′ P′ S′ r R″ P″ S″ → Parses E text c R P S r R″ P″ S″
+            bracket-read t k =
+                record { reads = Paths.bracket-read end w marks depth at-it (cursorOf text h) (f .ahead) open-is (eq-eqb (h .number) 0 z) (cursorOf text a) inner-reads (eq-eqb (v .number) 0 u) g (eq-eqb (a .number) 0 t) (k .reads) }
+
+    -- ---- lambda
+    module _ (h : Cursor) (f : ReadyAt 4 E text c R P S) (p : cursorOf text h ≡ C.lambdaHead end w marks depth S (cursorOf text c)) where
+      pub lambda-head-refused : (h .number ≡ 0 → ⊥) → Parses E text c R P S h R P S
+      lambda-head-refused z = record { reads = Paths.lambda-head-refused end w marks depth at-it (cursorOf text h) (f .ahead) p (ne-eqb (h .number) 0 z) }
+
+      module _ (z : h .number ≡ 0) where
+        lambda-zero : C.lambdaHead end w marks depth S (cursorOf text c) .number ≡ 0
+        lambda-zero = sym (ap (λ (v : C.Cursor). v .number) p) ∙ z
+
+        pub lambda-few : marks < 16
+        lambda-few = F.lambda-few end w marks depth S (cursorOf text c) lambda-zero
+
+        pub lambda-deep : depth < 16
+        lambda-deep = let m = lambda-few in let d = f .fit .depth in omega arith
+
+        pub lambda-less : tokens-left h + 3 ≤ tokens-left c
+        lambda-less = Paths.less-lambda end w marks depth at-it (cursorOf text h) (f .ahead) p (eq-eqb (h .number) 0 z)
+
+        module _ (S₁ : List ℕ) (u : S₁ ≡ set (set S (2 * depth) (h .name)) (2 * depth + 1) 0) where
+          entered : D.enter depth (h .name) 0 (stateOf text h R P S) ≡ stateOf text h R P S₁
+          unfolding D.enter
+          entered = ap (stateOf text h R P) (sym u)
+
+          body-fit : Fit (inExpression false (suc marks) (suc depth)) (stateOf text h R P S₁)
+          body-fit =
+              subst (Fit (inExpression false (suc marks) (suc depth)))
+              (ap (λ (v : C.Cursor). D.enter depth (v .name) 0 (moved at-it v)) (sym p) ∙ entered)
+              (F.fit-lambda-body end marks depth at-it w (f .fit) (f .ahead) lambda-zero)
+
+          pub lambda-fit : Ready (inExpression false (marks + 1) (depth + 1)) text h R P S₁
+          lambda-fit = record { fit = less-both (λ m. Fit m (stateOf text h R P S₁)) body-fit }
+
+          module _ (r : Cursor) (R′ P′ S′ : List ℕ) (y : Parses (inExpression false (marks + 1) (depth + 1)) text h R P S₁ r R′ P′ S′) where
+            body-reads : Reads end (inExpression false (suc marks) (suc depth)) (D.enter depth (h .name) 0 (stateOf text h R P S)) (stateOf text r R′ P′ S′)
+            body-reads =
+                subst (λ (v : State). Reads end (inExpression false (suc marks) (suc depth)) v (stateOf text r R′ P′ S′)) (sym entered)
+                (more-both (λ m. Reads end m (stateOf text h R P S₁) (stateOf text r R′ P′ S′)) (y .reads))
+
+            pub lambda-body-refused : (r .number ≡ 0 → ⊥) → Parses E text c R P S r R′ P′ S′
+            lambda-body-refused t =
+                record { reads = Paths.lambda-body-refused end w marks depth at-it (cursorOf text h) (f .ahead) p (eq-eqb (h .number) 0 z) body-reads (ne-eqb (r .number) 0 t) }
+
+            module _ (t : r .number ≡ 0) where
+              pub lambda-root : r .root < 128
+              lambda-root = root-few _ _ _ _ _ _ _ _ _ y t (lambda-fit .fit)
+
+              pub lambda-room : Recorded r (c .parts) 4 (r .root + 1) 0
+              lambda-room =
+                  let m = Paths.lambda-room end w marks depth at-it (cursorOf text h) (f .fit) (f .ahead) p z body-reads t in
+                  let k = lambda-root in
+                  record { count = m .count; place = m .place; kind = omega arith; first = omega arith; second = omega arith }
+
+              pub lambda-read : {q : Cursor} {R″ P″ : List ℕ} → Wrote (D.put (c .parts) (node 4 (h .name) (r .root + 1) 0)) r R′ P′ q R″ P″ → Parses E text c R P S q R″ P″ S′
+              lambda-read d =
+                  record {
+                    reads = subst (Reads end E at-it)
+                        (ap (λ (j : ℕ). D.put (c .parts) (node 4 (h .name) j 0) (stateOf text r R′ P′ S′)) (sym (add-one (r .root))) ∙ sym (d .same text S′))
+                        (Paths.lambda-read end w marks depth at-it (cursorOf text h) (f .ahead) p (eq-eqb (h .number) 0 z) body-reads (eq-eqb (r .number) 0 t));
+                  }
+
+    -- ---- let
+    module _ (h : Cursor) (f : ReadyAt 1 E text c R P S) (p : cursorOf text h ≡ C.letHead end w marks (cursorOf text c)) where
+      pub let-head-refused : (h .number ≡ 0 → ⊥) → Parses E text c R P S h R P S
+      let-head-refused z = record { reads = Paths.let-head-refused end w marks depth at-it (cursorOf text h) (f .ahead) p (ne-eqb (h .number) 0 z) }
+
+      module _ (z : h .number ≡ 0) where
+        let-zero : C.letHead end w marks (cursorOf text c) .number ≡ 0
+        let-zero = sym (ap (λ (v : C.Cursor). v .number) p) ∙ z
+
+        pub let-few : marks < 16
+        let-few = F.let-few end w marks (cursorOf text c) let-zero
+
+        pub let-deep : depth < 16
+        let-deep = let m = let-few in let d = f .fit .depth in omega arith
+
+        pub let-less : tokens-left h + 3 ≤ tokens-left c
+        let-less = Paths.less-let end w marks depth at-it (cursorOf text h) (f .ahead) p (eq-eqb (h .number) 0 z)
+
+        pub let-place : c .parts < 128
+        let-place =
+            G.room-part w marks depth 3 at-it (cursorOf text h) (f .fit)
+            (subst (Moved 3 1 (cursorOf text c)) (sym p) (moved-let end w marks (cursorOf text c) (behind-some 1 (tokensFrom text (c .at)) (lit< tt) (f .ahead)))) z .place
+
+        value-fit : Fit (inExpression false (suc marks) depth) (stateOf text h R P S)
+        value-fit =
+            subst (λ (v : C.Cursor). Fit (inExpression false (suc marks) depth) (moved at-it v)) (sym p) (F.fit-let-value end marks depth at-it w (f .fit) (f .ahead) let-zero)
+
+        pub let-value-fit : Ready (inExpression false (marks + 1) depth) text h R P S
+        let-value-fit = record { fit = less-marks (λ m. Fit m (stateOf text h R P S)) value-fit }
+
+        module _ (v : Cursor) (R₁ P₁ S₁ : List ℕ) (y : Parses (inExpression false (marks + 1) depth) text h R P S v R₁ P₁ S₁) where
+          value-reads : Reads end (inExpression false (suc marks) depth) (stateOf text h R P S) (stateOf text v R₁ P₁ S₁)
+          value-reads = more-marks (λ m. Reads end m (stateOf text h R P S) (stateOf text v R₁ P₁ S₁)) (y .reads)
+
+          pub let-value-refused : (v .number ≡ 0 → ⊥) → Parses E text c R P S v R₁ P₁ S₁
+          let-value-refused u =
+              record { reads = Paths.let-value-refused end w marks depth at-it (cursorOf text h) (f .ahead) p (eq-eqb (h .number) 0 z) value-reads (ne-eqb (v .number) 0 u) }
+
+          module _ (b : Cursor) (u : v .number ≡ 0) (g : cursorOf text b ≡ C.need end 2 (cursorOf text v)) where
+            pub let-in-refused : (b .number ≡ 0 → ⊥) → Parses E text c R P S b R₁ P₁ S₁
+            let-in-refused t =
+                record { reads = Paths.let-in-refused end w marks depth at-it (cursorOf text h) (f .ahead) p (eq-eqb (h .number) 0 z) (cursorOf text b) value-reads (eq-eqb (v .number) 0 u) g (ne-eqb (b .number) 0 t) }
+
+            module _ (t : b .number ≡ 0) (S₂ : List ℕ) (q : S₂ ≡ set (set S₁ (2 * depth) (h .name)) (2 * depth + 1) (v .root + 1)) where
+              bound : D.enter depth (h .name) (suc (v .root)) (stateOf text b R₁ P₁ S₁) ≡ stateOf text b R₁ P₁ S₂
+              unfolding D.enter
+              bound = ap (stateOf text b R₁ P₁) (ap (set (set S₁ (2 * depth) (h .name)) (2 * depth + 1)) (sym (add-one (v .root))) ∙ sym q)
+
+              in-fit : Fit (inExpression false (suc marks) (suc depth)) (stateOf text b R₁ P₁ S₂)
+              in-fit =
+                  subst (Fit (inExpression false (suc marks) (suc depth)))
+                  (ap (λ (a : C.Cursor). D.enter depth (h .name) (suc (v .root)) (moved (stateOf text v R₁ P₁ S₁) a)) (sym g) ∙ bound)
+                  (F.fit-let-body end marks depth (stateOf text v R₁ P₁ S₁) (h .name) (f .fit .depth) (Paths.reads-fit end value-reads value-fit u))
+
+              pub let-body-fit : Ready (inExpression false (marks + 1) (depth + 1)) text b R₁ P₁ S₂
+              let-body-fit = record { fit = less-both (λ m. Fit m (stateOf text b R₁ P₁ S₂)) in-fit }
+
+              module _ (r : Cursor) (R₂ P₂ S₃ : List ℕ) (k : Parses (inExpression false (marks + 1) (depth + 1)) text b R₁ P₁ S₂ r R₂ P₂ S₃) where
+                in-reads : Reads end (inExpression false (suc marks) (suc depth)) (D.enter depth (h .name) (suc (v .root)) (stateOf text b R₁ P₁ S₁)) (stateOf text r R₂ P₂ S₃)
+                in-reads =
+                    subst (λ (a : State). Reads end (inExpression false (suc marks) (suc depth)) a (stateOf text r R₂ P₂ S₃)) (sym bound)
+                    (more-both (λ m. Reads end m (stateOf text b R₁ P₁ S₂) (stateOf text r R₂ P₂ S₃)) (k .reads))
+
+                pub let-body-refused : (r .number ≡ 0 → ⊥) → Parses E text c R P S r R₂ P₂ S₃
+                let-body-refused a =
+                    record { reads = Paths.let-body-refused end w marks depth at-it (cursorOf text h) (f .ahead) p (eq-eqb (h .number) 0 z) (cursorOf text b) value-reads (eq-eqb (v .number) 0 u) g (eq-eqb (b .number) 0 t) in-reads (ne-eqb (r .number) 0 a) }
+
+                module _ (a : r .number ≡ 0) where
+                  pub let-root : r .root < 128
+                  let-root = root-few _ _ _ _ _ _ _ _ _ k a (let-body-fit .fit)
+
+                  pub let-read : (P₃ : List ℕ) → P₃ ≡ set P₂ (c .parts) (r .root) → Parses E text c R P S r R₂ P₃ S₃
+                  unfolding D.mark
+                  let-read P₃ d =
+                      record {
+                        reads = subst (λ (l : List ℕ). Reads end E at-it (stateOf text r R₂ l S₃)) (sym d)
+                            (Paths.let-read end w marks depth at-it (cursorOf text h) (f .ahead) p (eq-eqb (h .number) 0 z) (cursorOf text b) value-reads (eq-eqb (v .number) 0 u) g (eq-eqb (b .number) 0 t) in-reads (eq-eqb (r .number) 0 a));
+                      }
+
+  -- ---- a token that is due
+  pub need-less : (k : ℕ) (v a : Cursor) → 0 < k → cursorOf text a ≡ C.need end k (cursorOf text v) → a .number ≡ 0 → tokens-left a + 1 ≤ tokens-left v
+  need-less k v a l g z = subst (Moved 1 0 (cursorOf text v)) (sym g) (moved-need end k (cursorOf text v) l) .went z .0
+
+-- ---- a call behind an argument
+module _ (k : Call) (n : ℕ) (e : n ≡ k .takes - 1) where
+  pub first-is : (root : ℕ)
+      → callOf (record { kind = k .kind; takes = n; receiver = k .receiver; place = k .place; argument = root + 1 }) ≡ firstGiven root (callOf k)
+  first-is root = λ i. record { kind = k .kind; takes = e i; receiver = k .receiver; place = k .place; argument = add-one root i }
+
+  pub next-is : callOf (record { kind = k .kind; takes = n; receiver = k .receiver; place = k .place; argument = k .argument }) ≡ nextGiven (callOf k)
+  next-is = λ i. record { kind = k .kind; takes = e i; receiver = k .receiver; place = k .place; argument = k .argument }
+
+-- ---- a whole text
+abbrev at-start : Cursor
+at-start = record { at = 0; parts = 0; count = 0; root = 0; name = 0; takes = 0; number = 0; place = 0 }
+
+pub start-ready : (text R P S : List ℕ) → Ready (inExpression false 0 0) text at-start R P S
+start-ready text R P S = record { fit = Paths.start-fit (tokensFrom text 0) R P S }
+
+module _ (text R P : List ℕ) (a : Cursor) (R′ P′ S′ : List ℕ) (h : Parses (inExpression false 0 0) text at-start R P noBinders a R′ P′ S′) where
+  abbrev whole : State
+  whole = stateOf text a R′ P′ S′
+
+  reading : (r : Read) (u : C.Cursor) → D.ended (length text) whole ≡ moved whole u → r ≡ answerOf u → Reading text R P r R′ P′
+  reading r u e q =
+      let w = Paths.whole-read text R P noBinders (h .reads) ∙ e in
+      record { answer = q ∙ ap (λ (s : State). answerOf (s .cursor)) (sym w); records = ap (λ (s : State). s .records) (sym w); places = ap (λ (s : State). s .places) (sym w) }
+
+  pub read-refused : (a .number ≡ 0 → ⊥) → Reading text R P (Refused (a .number) (a .place)) R′ P′
+  unfolding D.ended answerOf when
+  read-refused z = reading _ (cursorOf text a) (Paths.then-stop _ refl (ne-eqb (a .number) 0 z)) (rw (ne-eqb (a .number) 0 z))
+
+  module _ (z : a .number ≡ 0) where
+    pub read-counts : (a .parts ≤ 128) × ((a .count ≤ 128) × (a .root ≤ 128))
+    read-counts =
+        let f = Paths.reads-fit (length text) (h .reads) (start-ready text R P noBinders .fit) z in
+        let p = f .parts in
+        let n = f .count in
+        let r = f .own in
+        (omega arith, (omega arith, omega arith))
+
+    module _ (x : Lexed) (e : x ≡ lexAt text (a .at)) where
+      pub read-done : x .kind ≡ 0 → Reading text R P (Done (a .parts) (a .count) (a .root)) R′ P′
+      unfolding D.ended C.judge C.atMark answerOf when
+      read-done q = reading _ (cursorOf text a) (Paths.then-go _ refl (eq-eqb (a .number) 0 z) (rw (at-kind text (a .at) x e 0 q))) (rw (eq-eqb (a .number) 0 z))
+
+      pub read-more : (x .kind ≡ 0 → ⊥) → Reading text R P (Refused 5 (x .start)) R′ P′
+      unfolding D.ended C.judge C.atMark C.refuse answerOf when
+      read-more q =
+          reading _ (C.refuse (length text) 5 (cursorOf text a)) (Paths.then-go _ refl (eq-eqb (a .number) 0 z) (rw (not-kind text (a .at) x e 0 q)))
+          (ap (Refused 5) (sym (head-place text (a .at) x e)))

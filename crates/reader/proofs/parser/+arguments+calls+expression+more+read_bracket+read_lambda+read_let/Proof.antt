@@ -1,0 +1,1731 @@
+-- Each path through a reader is one of descent's rules, and the state at each call is fit and has fewer tokens left, or the call comes
+-- later in the order of those that pass none. Assumes nothing.
+use native.Mathlib.Omega.{arith}
+use borrow.Author.Needs.{needs}
+use Rattle.reader.specs.Parsing.{measure}
+use Rattle.reader.proofs.ParserPaths as L
+use Prim.Native.Nat.{ℕ, _<_}
+use borrow.Fn.Kinds.{In}
+use borrow.Fn.PlainCycle.{Measures, is, falls, and}
+use Rattle.reader.proofs.parser.arguments.Reads as arguments
+use Rattle.reader.proofs.parser.arguments.Kinds as arguments-kinds
+use Rattle.reader.proofs.parser.+arguments+calls+expression+more+read_bracket+read_lambda+read_let.Lts-arguments as arguments-lts
+use Rattle.reader.proofs.parser.calls.Reads as calls
+use Rattle.reader.proofs.parser.calls.Kinds as calls-kinds
+use Rattle.reader.proofs.parser.+arguments+calls+expression+more+read_bracket+read_lambda+read_let.Lts-calls as calls-lts
+use Rattle.reader.proofs.parser.expression.Reads as expression
+use Rattle.reader.proofs.parser.expression.Kinds as expression-kinds
+use Rattle.reader.proofs.parser.+arguments+calls+expression+more+read_bracket+read_lambda+read_let.Lts-expression as expression-lts
+use Rattle.reader.proofs.parser.more.Reads as more
+use Rattle.reader.proofs.parser.more.Kinds as more-kinds
+use Rattle.reader.proofs.parser.+arguments+calls+expression+more+read_bracket+read_lambda+read_let.Lts-more as more-lts
+use Rattle.reader.proofs.parser.read_bracket.Reads as read-bracket
+use Rattle.reader.proofs.parser.read_bracket.Kinds as read-bracket-kinds
+use Rattle.reader.proofs.parser.+arguments+calls+expression+more+read_bracket+read_lambda+read_let.Lts-read_bracket as read-bracket-lts
+use Rattle.reader.proofs.parser.read_lambda.Reads as read-lambda
+use Rattle.reader.proofs.parser.read_lambda.Kinds as read-lambda-kinds
+use Rattle.reader.proofs.parser.+arguments+calls+expression+more+read_bracket+read_lambda+read_let.Lts-read_lambda as read-lambda-lts
+use Rattle.reader.proofs.parser.read_let.Reads as read-let
+use Rattle.reader.proofs.parser.read_let.Kinds as read-let-kinds
+use Rattle.reader.proofs.parser.+arguments+calls+expression+more+read_bracket+read_lambda+read_let.Lts-read_let as read-let-lts
+use Rattle.reader.proofs.cursor.at_bracket.Reads as at-bracket-reads
+use Rattle.reader.proofs.cursor.at_comma.Reads as at-comma-reads
+use Rattle.reader.proofs.cursor.call_head.Reads as call-head-reads
+use Rattle.reader.proofs.cursor.judged.Reads as judged-reads
+use Rattle.reader.proofs.cursor.lambda_head.Reads as lambda-head-reads
+use Rattle.reader.proofs.cursor.let_head.Reads as let-head-reads
+use Rattle.reader.proofs.cursor.need.Reads as need-reads
+use Rattle.reader.proofs.cursor.refused.Reads as refused-reads
+use Rattle.reader.proofs.parser.first_given.Reads as first-given-reads
+use Rattle.reader.proofs.parser.next_given.Reads as next-given-reads
+use Rattle.reader.proofs.scratch.enter.Reads as enter-reads
+use Rattle.reader.proofs.scratch.mark.Reads as mark-reads
+use Rattle.reader.proofs.scratch.put.Reads as put-reads
+use Rattle.reader.proofs.scratch.read_name.Reads as read-name-reads
+use Rattle.reader.proofs.scratch.read_number.Reads as read-number-reads
+use Rattle.reader.proofs.scratch.read_shut.Reads as read-shut-reads
+use Rattle.reader.proofs.tokens.token.Reads as token-reads
+use Rattle.reader.proofs.parser.+arguments+calls+expression+more+read_bracket+read_lambda+read_let.{
+  statement,
+}
+use Rattle.reader.proofs.parser.+arguments+calls+expression+more+read_bracket+read_lambda+read_let.Tie.{
+  close,
+}
+
+abbrev μ-arguments : Measures 4 arguments-kinds.ps ℕ
+μ-arguments κs a = measure 2 (a .0 .now) (a .1 .1 .1 .1 .0)
+
+abbrev μ-calls : Measures 4 calls-kinds.ps ℕ
+μ-calls κs a = measure 0 (a .0 .now) (a .1 .1 .1 .0)
+
+abbrev μ-expression : Measures 4 expression-kinds.ps ℕ
+μ-expression κs a = measure 1 (a .0 .now) (a .1 .1 .1 .1 .0)
+
+abbrev μ-more : Measures 4 more-kinds.ps ℕ
+μ-more κs a = measure 0 (a .0 .now) (a .1 .1 .1 .1 .0)
+
+abbrev μ-read-bracket : Measures 4 read-bracket-kinds.ps ℕ
+μ-read-bracket κs a = measure 0 (a .0 .now) (a .1 .1 .1 .1 .0)
+
+abbrev μ-read-lambda : Measures 4 read-lambda-kinds.ps ℕ
+μ-read-lambda κs a = measure 0 (a .0 .now) (a .1 .1 .1 .1 .0)
+
+abbrev μ-read-let : Measures 4 read-let-kinds.ps ℕ
+μ-read-let κs a = measure 0 (a .0 .now) (a .1 .1 .1 .1 .0)
+
+abbrev arguments-at : ℕ → In 4 arguments-kinds.ps
+arguments-at t = and 4 arguments-kinds.ps (is 4 arguments-kinds.ps μ-arguments t) arguments.Pre
+
+abbrev arguments-below : ℕ → In 4 arguments-kinds.ps
+arguments-below t =
+    and 4 arguments-kinds.ps (falls 4 arguments-kinds.ps _<_ μ-arguments t) arguments.Pre
+
+abbrev calls-at : ℕ → In 4 calls-kinds.ps
+calls-at t = and 4 calls-kinds.ps (is 4 calls-kinds.ps μ-calls t) calls.Pre
+
+abbrev calls-below : ℕ → In 4 calls-kinds.ps
+calls-below t = and 4 calls-kinds.ps (falls 4 calls-kinds.ps _<_ μ-calls t) calls.Pre
+
+abbrev expression-at : ℕ → In 4 expression-kinds.ps
+expression-at t =
+    and 4 expression-kinds.ps (is 4 expression-kinds.ps μ-expression t) expression.Pre
+
+abbrev expression-below : ℕ → In 4 expression-kinds.ps
+expression-below t =
+    and 4 expression-kinds.ps (falls 4 expression-kinds.ps _<_ μ-expression t) expression.Pre
+
+abbrev more-at : ℕ → In 4 more-kinds.ps
+more-at t = and 4 more-kinds.ps (is 4 more-kinds.ps μ-more t) more.Pre
+
+abbrev more-below : ℕ → In 4 more-kinds.ps
+more-below t = and 4 more-kinds.ps (falls 4 more-kinds.ps _<_ μ-more t) more.Pre
+
+abbrev read-bracket-at : ℕ → In 4 read-bracket-kinds.ps
+read-bracket-at t =
+    and 4 read-bracket-kinds.ps (is 4 read-bracket-kinds.ps μ-read-bracket t) read-bracket.Pre
+
+abbrev read-bracket-below : ℕ → In 4 read-bracket-kinds.ps
+read-bracket-below t =
+    and
+    4
+    read-bracket-kinds.ps
+    (falls 4 read-bracket-kinds.ps _<_ μ-read-bracket t)
+    read-bracket.Pre
+
+abbrev read-lambda-at : ℕ → In 4 read-lambda-kinds.ps
+read-lambda-at t =
+    and 4 read-lambda-kinds.ps (is 4 read-lambda-kinds.ps μ-read-lambda t) read-lambda.Pre
+
+abbrev read-lambda-below : ℕ → In 4 read-lambda-kinds.ps
+read-lambda-below t =
+    and 4 read-lambda-kinds.ps (falls 4 read-lambda-kinds.ps _<_ μ-read-lambda t) read-lambda.Pre
+
+abbrev read-let-at : ℕ → In 4 read-let-kinds.ps
+read-let-at t = and 4 read-let-kinds.ps (is 4 read-let-kinds.ps μ-read-let t) read-let.Pre
+
+abbrev read-let-below : ℕ → In 4 read-let-kinds.ps
+read-let-below t =
+    and 4 read-let-kinds.ps (falls 4 read-let-kinds.ps _<_ μ-read-let t) read-let.Pre
+
+arguments-token-requires : (t : ℕ) → arguments-lts.Need-token-requires (
+  token-reads.Asked,
+  token-reads.Learnt,
+  read-shut-reads.Asked,
+  read-shut-reads.Learnt,
+  calls-below t,
+  calls.Post,
+  expression-below t,
+  expression.Post,
+  first-given-reads.Asked,
+  first-given-reads.Learnt,
+  more-below t,
+  more.Post,
+) (arguments-at t) arguments.Post
+arguments-token-requires t c κs = search needs
+
+arguments-read-shut-requires : (t : ℕ) → arguments-lts.Need-read-shut-requires (
+  token-reads.Asked,
+  token-reads.Learnt,
+  read-shut-reads.Asked,
+  read-shut-reads.Learnt,
+  calls-below t,
+  calls.Post,
+  expression-below t,
+  expression.Post,
+  first-given-reads.Asked,
+  first-given-reads.Learnt,
+  more-below t,
+  more.Post,
+) (arguments-at t) arguments.Post
+arguments-read-shut-requires t c κs = L.arguments-room _ _ _ _ _ _ _ _ (c .before .before .before .before .before .before .pre .1)
+
+arguments-calls-requires : (t : ℕ) → arguments-lts.Need-calls-requires (
+  token-reads.Asked,
+  token-reads.Learnt,
+  read-shut-reads.Asked,
+  read-shut-reads.Learnt,
+  calls-below t,
+  calls.Post,
+  expression-below t,
+  expression.Post,
+  first-given-reads.Asked,
+  first-given-reads.Learnt,
+  more-below t,
+  more.Post,
+) (arguments-at t) arguments.Post
+arguments-calls-requires t c κs = (omega (arith, c .before .before .before .before .before .before .before .before .before .before .before .before .pre .0, L.shut-less _ _ _ _ _ _ _ _ _ (c .before .before .before .before .before .before .before .before .before .before .token .ensures) (c .before .before .before .before .before .before .before .before .if1 .taken) (c .before .before .before .before .before .read-shut .ensures) (c .before .before .before .if2 .taken)), L.arguments-shut-fit _ _ _ _ _ _ _ _ _ _ _ _ (c .before .before .before .before .before .before .before .before .before .before .token .ensures) (c .before .before .before .before .before .before .before .before .if1 .taken) (c .before .before .before .before .before .read-shut .ensures) (c .before .before .before .if2 .taken) (c .before .before .before .before .before .before .before .before .before .before .before .before .pre .1))
+
+arguments-add-expression : (t : ℕ) → arguments-lts.Need-add-expression (
+  token-reads.Asked,
+  token-reads.Learnt,
+  read-shut-reads.Asked,
+  read-shut-reads.Learnt,
+  calls-below t,
+  calls.Post,
+  expression-below t,
+  expression.Post,
+  first-given-reads.Asked,
+  first-given-reads.Learnt,
+  more-below t,
+  more.Post,
+) (arguments-at t) arguments.Post
+arguments-add-expression t c = omega (arith, c .before .before .before .before .before .pre .1 .fit .marks)
+
+arguments-expression-requires : (t : ℕ) → arguments-lts.Need-expression-requires (
+  token-reads.Asked,
+  token-reads.Learnt,
+  read-shut-reads.Asked,
+  read-shut-reads.Learnt,
+  calls-below t,
+  calls.Post,
+  expression-below t,
+  expression.Post,
+  first-given-reads.Asked,
+  first-given-reads.Learnt,
+  more-below t,
+  more.Post,
+) (arguments-at t) arguments.Post
+arguments-expression-requires t c κs = (omega (arith, c .before .before .before .before .before .before .before .before .pre .0), L.argument-fit _ _ _ _ _ _ _ _ (c .before .before .before .before .before .before .before .before .pre .1))
+
+arguments-first-given-requires : (t : ℕ) → arguments-lts.Need-first-given-requires (
+  token-reads.Asked,
+  token-reads.Learnt,
+  read-shut-reads.Asked,
+  read-shut-reads.Learnt,
+  calls-below t,
+  calls.Post,
+  expression-below t,
+  expression.Post,
+  first-given-reads.Asked,
+  first-given-reads.Learnt,
+  more-below t,
+  more.Post,
+) (arguments-at t) arguments.Post
+arguments-first-given-requires t c κs = omega (arith, L.root-few _ _ _ _ _ _ _ _ _ _ (c .before .before .expression .ensures) (c .if3 .taken) ((L.argument-fit _ _ _ _ _ _ _ _ (c .before .before .before .before .before .before .before .before .before .before .before .pre .1)) .fit))
+
+arguments-more-requires : (t : ℕ) → arguments-lts.Need-more-requires (
+  token-reads.Asked,
+  token-reads.Learnt,
+  read-shut-reads.Asked,
+  read-shut-reads.Learnt,
+  calls-below t,
+  calls.Post,
+  expression-below t,
+  expression.Post,
+  first-given-reads.Asked,
+  first-given-reads.Learnt,
+  more-below t,
+  more.Post,
+) (arguments-at t) arguments.Post
+arguments-more-requires t c κs = (omega (arith, c .before .before .before .before .before .before .before .before .before .before .before .before .before .before .before .pre .0, L.read-less _ _ _ _ _ _ _ _ _ _ (c .before .before .before .before .before .before .expression .ensures) (c .before .before .before .before .if3 .taken)), L.first-fit _ _ _ _ _ _ _ _ _ _ _ _ (c .before .before .before .before .before .before .expression .ensures) (c .before .before .before .before .if3 .taken) _ (c .before .before .before .first-given .ensures) (c .before .before .before .before .before .before .before .before .before .before .before .before .before .before .before .pre .1))
+
+arguments-returns : (t : ℕ) → arguments-lts.Need-returns (
+  token-reads.Asked,
+  token-reads.Learnt,
+  read-shut-reads.Asked,
+  read-shut-reads.Learnt,
+  calls-below t,
+  calls.Post,
+  expression-below t,
+  expression.Post,
+  first-given-reads.Asked,
+  first-given-reads.Learnt,
+  more-below t,
+  more.Post,
+) (arguments-at t) arguments.Post
+arguments-returns t c = L.arguments-none _ _ _ _ _ _ _ _ _ _ _ _ (c .before .before .before .before .before .before .before .before .before .before .before .token .ensures) (c .before .before .before .before .before .before .before .before .before .if1 .taken) (c .before .before .before .before .before .before .read-shut .ensures) (c .before .before .before .before .if2 .taken) _ _ _ _ (c .calls .ensures)
+
+arguments-returns-2 : (t : ℕ) → arguments-lts.Need-returns-2 (
+  token-reads.Asked,
+  token-reads.Learnt,
+  read-shut-reads.Asked,
+  read-shut-reads.Learnt,
+  calls-below t,
+  calls.Post,
+  expression-below t,
+  expression.Post,
+  first-given-reads.Asked,
+  first-given-reads.Learnt,
+  more-below t,
+  more.Post,
+) (arguments-at t) arguments.Post
+arguments-returns-2 t c = L.arguments-none-refused _ _ _ _ _ _ _ _ _ _ _ _ (c .before .before .before .before .before .before .before .token .ensures) (c .before .before .before .before .before .if1 .taken) (c .before .before .read-shut .ensures) (c .if2 .left)
+
+arguments-returns-3 : (t : ℕ) → arguments-lts.Need-returns-3 (
+  token-reads.Asked,
+  token-reads.Learnt,
+  read-shut-reads.Asked,
+  read-shut-reads.Learnt,
+  calls-below t,
+  calls.Post,
+  expression-below t,
+  expression.Post,
+  first-given-reads.Asked,
+  first-given-reads.Learnt,
+  more-below t,
+  more.Post,
+) (arguments-at t) arguments.Post
+arguments-returns-3 t c = L.arguments-first _ _ _ _ _ _ _ _ _ _ _ _ (c .before .before .before .before .before .before .before .expression .ensures) (c .before .before .before .before .before .if3 .taken) _ (c .before .before .before .before .first-given .ensures) _ (c .before .before .before .before .before .before .before .before .before .before .before .before .before .before .token .ensures) (c .before .before .before .before .before .before .before .before .before .before .before .before .if1 .left) (c .more .ensures)
+
+arguments-returns-4 : (t : ℕ) → arguments-lts.Need-returns-4 (
+  token-reads.Asked,
+  token-reads.Learnt,
+  read-shut-reads.Asked,
+  read-shut-reads.Learnt,
+  calls-below t,
+  calls.Post,
+  expression-below t,
+  expression.Post,
+  first-given-reads.Asked,
+  first-given-reads.Learnt,
+  more-below t,
+  more.Post,
+) (arguments-at t) arguments.Post
+arguments-returns-4 t c = L.arguments-first-refused _ _ _ _ _ _ _ _ _ _ _ _ (c .before .before .expression .ensures) _ (c .before .before .before .before .before .before .before .before .before .token .ensures) (c .before .before .before .before .before .before .before .if1 .left) (c .if3 .left)
+
+calls-token-requires : (t : ℕ) → calls-lts.Need-token-requires (
+  token-reads.Asked,
+  token-reads.Learnt,
+  call-head-reads.Asked,
+  call-head-reads.Learnt,
+  arguments-below t,
+  arguments.Post,
+) (calls-at t) calls.Post
+calls-token-requires t c κs = search needs
+
+calls-call-head-requires : (t : ℕ) → calls-lts.Need-call-head-requires (
+  token-reads.Asked,
+  token-reads.Learnt,
+  call-head-reads.Asked,
+  call-head-reads.Learnt,
+  arguments-below t,
+  arguments.Post,
+) (calls-at t) calls.Post
+calls-call-head-requires t c κs = c .before .before .before .before .pre .1 .fit .parts
+
+calls-arguments-requires : (t : ℕ) → calls-lts.Need-arguments-requires (
+  token-reads.Asked,
+  token-reads.Learnt,
+  call-head-reads.Asked,
+  call-head-reads.Learnt,
+  arguments-below t,
+  arguments.Post,
+) (calls-at t) calls.Post
+calls-arguments-requires t c κs = (omega (arith, c .before .before .before .before .before .before .before .before .before .before .pre .0, L.call-less _ _ _ _ _ (c .before .before .before .before .before .before .before .before .token .ensures) (c .before .before .before .before .before .before .if1 .taken) (c .before .before .before .before .before .call-head .ensures) (c .before .before .before .if2 .taken)), L.call-fit _ _ _ _ _ _ _ _ (c .before .before .before .before .before .before .before .before .token .ensures) _ (c .before .before .before .before .before .before .if1 .taken) (c .before .before .before .before .before .call-head .ensures) (c .before .before .before .if2 .taken) (c .before .before .before .before .before .before .before .before .before .before .pre .1))
+
+calls-returns : (t : ℕ) → calls-lts.Need-returns (
+  token-reads.Asked,
+  token-reads.Learnt,
+  call-head-reads.Asked,
+  call-head-reads.Learnt,
+  arguments-below t,
+  arguments.Post,
+) (calls-at t) calls.Post
+calls-returns t c = L.call-read _ _ _ _ _ _ _ _ (c .before .before .before .before .before .before .before .before .before .token .ensures) _ (c .before .before .before .before .before .before .before .if1 .taken) (c .before .before .before .before .before .before .call-head .ensures) (c .before .before .before .before .if2 .taken) (c .arguments .ensures)
+
+calls-returns-2 : (t : ℕ) → calls-lts.Need-returns-2 (
+  token-reads.Asked,
+  token-reads.Learnt,
+  call-head-reads.Asked,
+  call-head-reads.Learnt,
+  arguments-below t,
+  arguments.Post,
+) (calls-at t) calls.Post
+calls-returns-2 t c = L.call-head-refused _ _ _ _ _ _ _ _ (c .before .before .before .before .before .token .ensures) _ (c .before .before .before .if1 .taken) (c .before .before .call-head .ensures) (c .if2 .left)
+
+calls-returns-3 : (t : ℕ) → calls-lts.Need-returns-3 (
+  token-reads.Asked,
+  token-reads.Learnt,
+  call-head-reads.Asked,
+  call-head-reads.Learnt,
+  arguments-below t,
+  arguments.Post,
+) (calls-at t) calls.Post
+calls-returns-3 t c = L.calls-over _ _ _ _ _ _ _ _ (c .before .before .token .ensures) (c .if1 .left)
+
+expression-token-requires : (t : ℕ) → expression-lts.Need-token-requires (
+  token-reads.Asked,
+  token-reads.Learnt,
+  read-let-below t,
+  read-let.Post,
+  read-lambda-below t,
+  read-lambda.Post,
+  read-bracket-below t,
+  read-bracket.Post,
+  read-name-reads.Asked,
+  read-name-reads.Learnt,
+  calls-below t,
+  calls.Post,
+  read-number-reads.Asked,
+  read-number-reads.Learnt,
+  refused-reads.Asked,
+  refused-reads.Learnt,
+) (expression-at t) expression.Post
+expression-token-requires t c κs = search needs
+
+expression-read-let-requires : (t : ℕ) → expression-lts.Need-read-let-requires (
+  token-reads.Asked,
+  token-reads.Learnt,
+  read-let-below t,
+  read-let.Post,
+  read-lambda-below t,
+  read-lambda.Post,
+  read-bracket-below t,
+  read-bracket.Post,
+  read-name-reads.Asked,
+  read-name-reads.Learnt,
+  calls-below t,
+  calls.Post,
+  read-number-reads.Asked,
+  read-number-reads.Learnt,
+  refused-reads.Asked,
+  refused-reads.Learnt,
+) (expression-at t) expression.Post
+expression-read-let-requires t c κs = (omega (arith, c .before .before .before .before .before .before .pre .0), L.ready-at _ _ _ _ _ _ _ _ _ (c .before .before .before .before .token .ensures) _ (c .before .before .before .if1 .taken) (c .before .before .before .before .before .before .pre .1))
+
+expression-returns : (t : ℕ) → expression-lts.Need-returns (
+  token-reads.Asked,
+  token-reads.Learnt,
+  read-let-below t,
+  read-let.Post,
+  read-lambda-below t,
+  read-lambda.Post,
+  read-bracket-below t,
+  read-bracket.Post,
+  read-name-reads.Asked,
+  read-name-reads.Learnt,
+  calls-below t,
+  calls.Post,
+  read-number-reads.Asked,
+  read-number-reads.Learnt,
+  refused-reads.Asked,
+  refused-reads.Learnt,
+) (expression-at t) expression.Post
+expression-returns t c = c .read-let .ensures
+
+expression-read-lambda-requires : (t : ℕ) → expression-lts.Need-read-lambda-requires (
+  token-reads.Asked,
+  token-reads.Learnt,
+  read-let-below t,
+  read-let.Post,
+  read-lambda-below t,
+  read-lambda.Post,
+  read-bracket-below t,
+  read-bracket.Post,
+  read-name-reads.Asked,
+  read-name-reads.Learnt,
+  calls-below t,
+  calls.Post,
+  read-number-reads.Asked,
+  read-number-reads.Learnt,
+  refused-reads.Asked,
+  refused-reads.Learnt,
+) (expression-at t) expression.Post
+expression-read-lambda-requires t c κs = (omega (arith, c .before .before .before .before .before .before .before .pre .0), L.ready-at _ _ _ _ _ _ _ _ _ (c .before .before .before .before .before .token .ensures) _ (c .before .before .before .if2 .taken) (c .before .before .before .before .before .before .before .pre .1))
+
+expression-returns-2 : (t : ℕ) → expression-lts.Need-returns-2 (
+  token-reads.Asked,
+  token-reads.Learnt,
+  read-let-below t,
+  read-let.Post,
+  read-lambda-below t,
+  read-lambda.Post,
+  read-bracket-below t,
+  read-bracket.Post,
+  read-name-reads.Asked,
+  read-name-reads.Learnt,
+  calls-below t,
+  calls.Post,
+  read-number-reads.Asked,
+  read-number-reads.Learnt,
+  refused-reads.Asked,
+  refused-reads.Learnt,
+) (expression-at t) expression.Post
+expression-returns-2 t c = c .read-lambda .ensures
+
+expression-read-bracket-requires : (t : ℕ) → expression-lts.Need-read-bracket-requires (
+  token-reads.Asked,
+  token-reads.Learnt,
+  read-let-below t,
+  read-let.Post,
+  read-lambda-below t,
+  read-lambda.Post,
+  read-bracket-below t,
+  read-bracket.Post,
+  read-name-reads.Asked,
+  read-name-reads.Learnt,
+  calls-below t,
+  calls.Post,
+  read-number-reads.Asked,
+  read-number-reads.Learnt,
+  refused-reads.Asked,
+  refused-reads.Learnt,
+) (expression-at t) expression.Post
+expression-read-bracket-requires t c κs = (omega (arith, c .before .before .before .before .before .before .before .before .pre .0), L.ready-at _ _ _ _ _ _ _ _ _ (c .before .before .before .before .before .before .token .ensures) _ (c .before .before .before .if3 .taken) (c .before .before .before .before .before .before .before .before .pre .1))
+
+expression-returns-3 : (t : ℕ) → expression-lts.Need-returns-3 (
+  token-reads.Asked,
+  token-reads.Learnt,
+  read-let-below t,
+  read-let.Post,
+  read-lambda-below t,
+  read-lambda.Post,
+  read-bracket-below t,
+  read-bracket.Post,
+  read-name-reads.Asked,
+  read-name-reads.Learnt,
+  calls-below t,
+  calls.Post,
+  read-number-reads.Asked,
+  read-number-reads.Learnt,
+  refused-reads.Asked,
+  refused-reads.Learnt,
+) (expression-at t) expression.Post
+expression-returns-3 t c = c .read-bracket .ensures
+
+expression-read-name-requires : (t : ℕ) → expression-lts.Need-read-name-requires (
+  token-reads.Asked,
+  token-reads.Learnt,
+  read-let-below t,
+  read-let.Post,
+  read-lambda-below t,
+  read-lambda.Post,
+  read-bracket-below t,
+  read-bracket.Post,
+  read-name-reads.Asked,
+  read-name-reads.Learnt,
+  calls-below t,
+  calls.Post,
+  read-number-reads.Asked,
+  read-number-reads.Learnt,
+  refused-reads.Asked,
+  refused-reads.Learnt,
+) (expression-at t) expression.Post
+expression-read-name-requires t c κs = L.name-ahead _ _ _ _ _ _ _ _ _ (c .before .before .before .before .before .before .before .token .ensures) (c .before .before .before .if4 .taken) (c .before .before .before .before .before .before .before .before .before .pre .1)
+
+expression-calls-requires : (t : ℕ) → expression-lts.Need-calls-requires (
+  token-reads.Asked,
+  token-reads.Learnt,
+  read-let-below t,
+  read-let.Post,
+  read-lambda-below t,
+  read-lambda.Post,
+  read-bracket-below t,
+  read-bracket.Post,
+  read-name-reads.Asked,
+  read-name-reads.Learnt,
+  calls-below t,
+  calls.Post,
+  read-number-reads.Asked,
+  read-number-reads.Learnt,
+  refused-reads.Asked,
+  refused-reads.Learnt,
+) (expression-at t) expression.Post
+expression-calls-requires t c κs = (omega (arith, c .before .before .before .before .before .before .before .before .before .before .before .before .before .before .before .pre .0, L.name-less _ _ _ _ _ _ _ _ _ _ _ (c .before .before .before .before .before .before .before .before .before .before .before .before .before .token .ensures) (c .before .before .before .before .before .before .before .before .before .if4 .taken) (c .before .before .before .before .before .read-name .ensures) (c .before .before .before .if5 .taken)), L.name-fit _ _ _ _ _ _ _ _ _ (c .before .before .before .before .before .before .before .before .before .before .before .before .before .token .ensures) _ _ _ (c .before .before .before .before .before .before .before .before .before .if4 .taken) (c .before .before .before .before .before .read-name .ensures) (c .before .before .before .if5 .taken) (c .before .before .before .before .before .before .before .before .before .before .before .before .before .before .before .pre .1))
+
+expression-returns-4 : (t : ℕ) → expression-lts.Need-returns-4 (
+  token-reads.Asked,
+  token-reads.Learnt,
+  read-let-below t,
+  read-let.Post,
+  read-lambda-below t,
+  read-lambda.Post,
+  read-bracket-below t,
+  read-bracket.Post,
+  read-name-reads.Asked,
+  read-name-reads.Learnt,
+  calls-below t,
+  calls.Post,
+  read-number-reads.Asked,
+  read-number-reads.Learnt,
+  refused-reads.Asked,
+  refused-reads.Learnt,
+) (expression-at t) expression.Post
+expression-returns-4 t c = L.name-read _ _ _ _ _ _ _ _ _ (c .before .before .before .before .before .before .before .before .before .before .before .before .before .before .token .ensures) _ _ _ (c .before .before .before .before .before .before .before .before .before .before .if4 .taken) (c .before .before .before .before .before .before .read-name .ensures) (c .before .before .before .before .if5 .taken) (c .calls .ensures)
+
+expression-returns-5 : (t : ℕ) → expression-lts.Need-returns-5 (
+  token-reads.Asked,
+  token-reads.Learnt,
+  read-let-below t,
+  read-let.Post,
+  read-lambda-below t,
+  read-lambda.Post,
+  read-bracket-below t,
+  read-bracket.Post,
+  read-name-reads.Asked,
+  read-name-reads.Learnt,
+  calls-below t,
+  calls.Post,
+  read-number-reads.Asked,
+  read-number-reads.Learnt,
+  refused-reads.Asked,
+  refused-reads.Learnt,
+) (expression-at t) expression.Post
+expression-returns-5 t c = L.name-refused _ _ _ _ _ _ _ _ _ (c .before .before .before .before .before .before .before .before .before .before .token .ensures) _ _ _ (c .before .before .before .before .before .before .if4 .taken) (c .before .before .read-name .ensures) (c .if5 .left)
+
+expression-read-number-requires : (t : ℕ) → expression-lts.Need-read-number-requires (
+  token-reads.Asked,
+  token-reads.Learnt,
+  read-let-below t,
+  read-let.Post,
+  read-lambda-below t,
+  read-lambda.Post,
+  read-bracket-below t,
+  read-bracket.Post,
+  read-name-reads.Asked,
+  read-name-reads.Learnt,
+  calls-below t,
+  calls.Post,
+  read-number-reads.Asked,
+  read-number-reads.Learnt,
+  refused-reads.Asked,
+  refused-reads.Learnt,
+) (expression-at t) expression.Post
+expression-read-number-requires t c κs = L.number-ahead _ _ _ _ _ _ _ _ _ (c .before .before .before .before .before .before .before .token .ensures) (c .before .before .if6 .taken) (c .before .before .before .before .before .before .before .before .before .pre .1)
+
+expression-calls-requires-2 : (t : ℕ) → expression-lts.Need-calls-requires-2 (
+  token-reads.Asked,
+  token-reads.Learnt,
+  read-let-below t,
+  read-let.Post,
+  read-lambda-below t,
+  read-lambda.Post,
+  read-bracket-below t,
+  read-bracket.Post,
+  read-name-reads.Asked,
+  read-name-reads.Learnt,
+  calls-below t,
+  calls.Post,
+  read-number-reads.Asked,
+  read-number-reads.Learnt,
+  refused-reads.Asked,
+  refused-reads.Learnt,
+) (expression-at t) expression.Post
+expression-calls-requires-2 t c κs = (omega (arith, c .before .before .before .before .before .before .before .before .before .before .before .before .before .before .before .pre .0, L.number-less _ _ _ _ _ _ _ _ _ (c .before .before .before .before .before .before .before .before .before .before .before .before .before .token .ensures) (c .before .before .before .before .before .before .before .before .if6 .taken) (c .before .before .before .before .before .read-number .ensures) (c .before .before .before .if7 .taken)), L.number-fit _ _ _ _ _ _ _ _ _ (c .before .before .before .before .before .before .before .before .before .before .before .before .before .token .ensures) _ _ _ (c .before .before .before .before .before .before .before .before .if6 .taken) (c .before .before .before .before .before .read-number .ensures) (c .before .before .before .if7 .taken) (c .before .before .before .before .before .before .before .before .before .before .before .before .before .before .before .pre .1))
+
+expression-returns-6 : (t : ℕ) → expression-lts.Need-returns-6 (
+  token-reads.Asked,
+  token-reads.Learnt,
+  read-let-below t,
+  read-let.Post,
+  read-lambda-below t,
+  read-lambda.Post,
+  read-bracket-below t,
+  read-bracket.Post,
+  read-name-reads.Asked,
+  read-name-reads.Learnt,
+  calls-below t,
+  calls.Post,
+  read-number-reads.Asked,
+  read-number-reads.Learnt,
+  refused-reads.Asked,
+  refused-reads.Learnt,
+) (expression-at t) expression.Post
+expression-returns-6 t c = L.number-read _ _ _ _ _ _ _ _ _ (c .before .before .before .before .before .before .before .before .before .before .before .before .before .before .token .ensures) _ _ _ (c .before .before .before .before .before .before .before .before .before .if6 .taken) (c .before .before .before .before .before .before .read-number .ensures) (c .before .before .before .before .if7 .taken) (c .calls2 .ensures)
+
+expression-returns-7 : (t : ℕ) → expression-lts.Need-returns-7 (
+  token-reads.Asked,
+  token-reads.Learnt,
+  read-let-below t,
+  read-let.Post,
+  read-lambda-below t,
+  read-lambda.Post,
+  read-bracket-below t,
+  read-bracket.Post,
+  read-name-reads.Asked,
+  read-name-reads.Learnt,
+  calls-below t,
+  calls.Post,
+  read-number-reads.Asked,
+  read-number-reads.Learnt,
+  refused-reads.Asked,
+  refused-reads.Learnt,
+) (expression-at t) expression.Post
+expression-returns-7 t c = L.number-refused _ _ _ _ _ _ _ _ _ (c .before .before .before .before .before .before .before .before .before .before .token .ensures) _ _ _ (c .before .before .before .before .before .if6 .taken) (c .before .before .read-number .ensures) (c .if7 .left)
+
+expression-refused-requires : (t : ℕ) → expression-lts.Need-refused-requires (
+  token-reads.Asked,
+  token-reads.Learnt,
+  read-let-below t,
+  read-let.Post,
+  read-lambda-below t,
+  read-lambda.Post,
+  read-bracket-below t,
+  read-bracket.Post,
+  read-name-reads.Asked,
+  read-name-reads.Learnt,
+  calls-below t,
+  calls.Post,
+  read-number-reads.Asked,
+  read-number-reads.Learnt,
+  refused-reads.Asked,
+  refused-reads.Learnt,
+) (expression-at t) expression.Post
+expression-refused-requires t c κs = search needs
+
+expression-returns-8 : (t : ℕ) → expression-lts.Need-returns-8 (
+  token-reads.Asked,
+  token-reads.Learnt,
+  read-let-below t,
+  read-let.Post,
+  read-lambda-below t,
+  read-lambda.Post,
+  read-bracket-below t,
+  read-bracket.Post,
+  read-name-reads.Asked,
+  read-name-reads.Learnt,
+  calls-below t,
+  calls.Post,
+  read-number-reads.Asked,
+  read-number-reads.Learnt,
+  refused-reads.Asked,
+  refused-reads.Learnt,
+) (expression-at t) expression.Post
+expression-returns-8 t c = L.expression-refused _ _ _ _ _ _ _ _ _ (c .before .before .before .before .before .before .token .ensures) _ (c .before .before .before .before .before .if1 .left) (c .before .before .before .before .if2 .left) (c .before .before .before .if3 .left) (c .before .before .if4 .left) (c .before .if6 .left) (c .refused .ensures)
+
+more-token-requires : (t : ℕ) → more-lts.Need-token-requires (
+  token-reads.Asked,
+  token-reads.Learnt,
+  read-shut-reads.Asked,
+  read-shut-reads.Learnt,
+  calls-below t,
+  calls.Post,
+  at-comma-reads.Asked,
+  at-comma-reads.Learnt,
+  judged-reads.Asked,
+  judged-reads.Learnt,
+  expression-below t,
+  expression.Post,
+  next-given-reads.Asked,
+  next-given-reads.Learnt,
+  more-below t,
+  more.Post,
+  refused-reads.Asked,
+  refused-reads.Learnt,
+) (more-at t) more.Post
+more-token-requires t c κs = search needs
+
+more-read-shut-requires : (t : ℕ) → more-lts.Need-read-shut-requires (
+  token-reads.Asked,
+  token-reads.Learnt,
+  read-shut-reads.Asked,
+  read-shut-reads.Learnt,
+  calls-below t,
+  calls.Post,
+  at-comma-reads.Asked,
+  at-comma-reads.Learnt,
+  judged-reads.Asked,
+  judged-reads.Learnt,
+  expression-below t,
+  expression.Post,
+  next-given-reads.Asked,
+  next-given-reads.Learnt,
+  more-below t,
+  more.Post,
+  refused-reads.Asked,
+  refused-reads.Learnt,
+) (more-at t) more.Post
+more-read-shut-requires t c κs = L.more-room _ _ _ _ _ _ _ _ (c .before .before .before .before .before .pre .1)
+
+more-calls-requires : (t : ℕ) → more-lts.Need-calls-requires (
+  token-reads.Asked,
+  token-reads.Learnt,
+  read-shut-reads.Asked,
+  read-shut-reads.Learnt,
+  calls-below t,
+  calls.Post,
+  at-comma-reads.Asked,
+  at-comma-reads.Learnt,
+  judged-reads.Asked,
+  judged-reads.Learnt,
+  expression-below t,
+  expression.Post,
+  next-given-reads.Asked,
+  next-given-reads.Learnt,
+  more-below t,
+  more.Post,
+  refused-reads.Asked,
+  refused-reads.Learnt,
+) (more-at t) more.Post
+more-calls-requires t c κs = (omega (arith, c .before .before .before .before .before .before .before .before .before .before .before .pre .0, L.shut-less _ _ _ _ _ _ _ _ _ (c .before .before .before .before .before .before .before .before .before .token .ensures) (c .before .before .before .before .before .before .before .before .if1 .taken) (c .before .before .before .before .before .read-shut .ensures) (c .before .before .before .if2 .taken)), L.more-shut-fit _ _ _ _ _ _ _ _ _ _ _ _ (c .before .before .before .before .before .before .before .before .before .token .ensures) (c .before .before .before .before .before .before .before .before .if1 .taken) (c .before .before .before .before .before .read-shut .ensures) (c .before .before .before .if2 .taken) (c .before .before .before .before .before .before .before .before .before .before .before .pre .1))
+
+more-returns : (t : ℕ) → more-lts.Need-returns (
+  token-reads.Asked,
+  token-reads.Learnt,
+  read-shut-reads.Asked,
+  read-shut-reads.Learnt,
+  calls-below t,
+  calls.Post,
+  at-comma-reads.Asked,
+  at-comma-reads.Learnt,
+  judged-reads.Asked,
+  judged-reads.Learnt,
+  expression-below t,
+  expression.Post,
+  next-given-reads.Asked,
+  next-given-reads.Learnt,
+  more-below t,
+  more.Post,
+  refused-reads.Asked,
+  refused-reads.Learnt,
+) (more-at t) more.Post
+more-returns t c = L.more-last _ _ _ _ _ _ _ _ _ _ _ _ (c .before .before .before .before .before .before .before .before .before .before .token .ensures) (c .before .before .before .before .before .before .before .before .before .if1 .taken) (c .before .before .before .before .before .before .read-shut .ensures) (c .before .before .before .before .if2 .taken) _ _ _ _ (c .calls .ensures)
+
+more-returns-2 : (t : ℕ) → more-lts.Need-returns-2 (
+  token-reads.Asked,
+  token-reads.Learnt,
+  read-shut-reads.Asked,
+  read-shut-reads.Learnt,
+  calls-below t,
+  calls.Post,
+  at-comma-reads.Asked,
+  at-comma-reads.Learnt,
+  judged-reads.Asked,
+  judged-reads.Learnt,
+  expression-below t,
+  expression.Post,
+  next-given-reads.Asked,
+  next-given-reads.Learnt,
+  more-below t,
+  more.Post,
+  refused-reads.Asked,
+  refused-reads.Learnt,
+) (more-at t) more.Post
+more-returns-2 t c = L.more-last-refused _ _ _ _ _ _ _ _ _ _ _ _ (c .before .before .before .before .before .before .token .ensures) (c .before .before .before .before .before .if1 .taken) (c .before .before .read-shut .ensures) (c .if2 .left)
+
+more-at-comma-requires : (t : ℕ) → more-lts.Need-at-comma-requires (
+  token-reads.Asked,
+  token-reads.Learnt,
+  read-shut-reads.Asked,
+  read-shut-reads.Learnt,
+  calls-below t,
+  calls.Post,
+  at-comma-reads.Asked,
+  at-comma-reads.Learnt,
+  judged-reads.Asked,
+  judged-reads.Learnt,
+  expression-below t,
+  expression.Post,
+  next-given-reads.Asked,
+  next-given-reads.Learnt,
+  more-below t,
+  more.Post,
+  refused-reads.Asked,
+  refused-reads.Learnt,
+) (more-at t) more.Post
+more-at-comma-requires t c κs = search needs
+
+more-judged-requires : (t : ℕ) → more-lts.Need-judged-requires (
+  token-reads.Asked,
+  token-reads.Learnt,
+  read-shut-reads.Asked,
+  read-shut-reads.Learnt,
+  calls-below t,
+  calls.Post,
+  at-comma-reads.Asked,
+  at-comma-reads.Learnt,
+  judged-reads.Asked,
+  judged-reads.Learnt,
+  expression-below t,
+  expression.Post,
+  next-given-reads.Asked,
+  next-given-reads.Learnt,
+  more-below t,
+  more.Post,
+  refused-reads.Asked,
+  refused-reads.Learnt,
+) (more-at t) more.Post
+more-judged-requires t c κs = search needs
+
+more-add-expression : (t : ℕ) → more-lts.Need-add-expression (
+  token-reads.Asked,
+  token-reads.Learnt,
+  read-shut-reads.Asked,
+  read-shut-reads.Learnt,
+  calls-below t,
+  calls.Post,
+  at-comma-reads.Asked,
+  at-comma-reads.Learnt,
+  judged-reads.Asked,
+  judged-reads.Learnt,
+  expression-below t,
+  expression.Post,
+  next-given-reads.Asked,
+  next-given-reads.Learnt,
+  more-below t,
+  more.Post,
+  refused-reads.Asked,
+  refused-reads.Learnt,
+) (more-at t) more.Post
+more-add-expression t c = omega (arith, c .before .before .before .before .before .before .before .before .pre .1 .fit .marks)
+
+more-expression-requires : (t : ℕ) → more-lts.Need-expression-requires (
+  token-reads.Asked,
+  token-reads.Learnt,
+  read-shut-reads.Asked,
+  read-shut-reads.Learnt,
+  calls-below t,
+  calls.Post,
+  at-comma-reads.Asked,
+  at-comma-reads.Learnt,
+  judged-reads.Asked,
+  judged-reads.Learnt,
+  expression-below t,
+  expression.Post,
+  next-given-reads.Asked,
+  next-given-reads.Learnt,
+  more-below t,
+  more.Post,
+  refused-reads.Asked,
+  refused-reads.Learnt,
+) (more-at t) more.Post
+more-expression-requires t c κs = (omega (arith, c .before .before .before .before .before .before .before .before .before .before .before .pre .0, L.comma-less _ _ _ _ _ _ (c .before .before .before .before .before .before .before .before .before .token .ensures) (c .before .before .before .before .before .before .before .if3 .taken) (c .before .before .before .before .before .before .at-comma .ensures) (c .before .before .before .before .before .judged .ensures) (c .before .before .before .if4 .taken)), L.comma-fit _ _ _ _ _ _ _ _ _ _ _ (c .before .before .before .before .before .before .before .before .before .token .ensures) (c .before .before .before .before .before .before .before .if3 .taken) (c .before .before .before .before .before .before .at-comma .ensures) (c .before .before .before .before .before .judged .ensures) (c .before .before .before .if4 .taken) (c .before .before .before .before .before .before .before .before .before .before .before .pre .1))
+
+more-next-given-requires : (t : ℕ) → more-lts.Need-next-given-requires (
+  token-reads.Asked,
+  token-reads.Learnt,
+  read-shut-reads.Asked,
+  read-shut-reads.Learnt,
+  calls-below t,
+  calls.Post,
+  at-comma-reads.Asked,
+  at-comma-reads.Learnt,
+  judged-reads.Asked,
+  judged-reads.Learnt,
+  expression-below t,
+  expression.Post,
+  next-given-reads.Asked,
+  next-given-reads.Learnt,
+  more-below t,
+  more.Post,
+  refused-reads.Asked,
+  refused-reads.Learnt,
+) (more-at t) more.Post
+more-next-given-requires t c κs = search needs
+
+more-more-requires : (t : ℕ) → more-lts.Need-more-requires (
+  token-reads.Asked,
+  token-reads.Learnt,
+  read-shut-reads.Asked,
+  read-shut-reads.Learnt,
+  calls-below t,
+  calls.Post,
+  at-comma-reads.Asked,
+  at-comma-reads.Learnt,
+  judged-reads.Asked,
+  judged-reads.Learnt,
+  expression-below t,
+  expression.Post,
+  next-given-reads.Asked,
+  next-given-reads.Learnt,
+  more-below t,
+  more.Post,
+  refused-reads.Asked,
+  refused-reads.Learnt,
+) (more-at t) more.Post
+more-more-requires t c κs = (omega (arith, c .before .before .before .before .before .before .before .before .before .before .before .before .before .before .before .before .before .before .pre .0, L.comma-less _ _ _ _ _ _ (c .before .before .before .before .before .before .before .before .before .before .before .before .before .before .before .before .token .ensures) (c .before .before .before .before .before .before .before .before .before .before .before .before .before .before .if3 .taken) (c .before .before .before .before .before .before .before .before .before .before .before .before .before .at-comma .ensures) (c .before .before .before .before .before .before .before .before .before .before .before .before .judged .ensures) (c .before .before .before .before .before .before .before .before .before .before .if4 .taken), L.read-less _ _ _ _ _ _ _ _ _ _ (c .before .before .before .before .before .before .expression .ensures) (c .before .before .before .before .if5 .taken)), L.next-fit _ _ _ _ _ _ _ _ _ _ _ (c .before .before .before .before .before .before .before .before .before .before .before .before .before .before .before .before .token .ensures) (c .before .before .before .before .before .before .before .before .before .before .before .before .before .before .if3 .taken) (c .before .before .before .before .before .before .before .before .before .before .before .before .before .at-comma .ensures) (c .before .before .before .before .before .before .before .before .before .before .before .before .judged .ensures) (c .before .before .before .before .before .before .before .before .before .before .if4 .taken) _ _ _ _ (c .before .before .before .before .before .before .expression .ensures) (c .before .before .before .before .if5 .taken) _ (c .before .before .before .next-given .ensures) (c .before .before .before .before .before .before .before .before .before .before .before .before .before .before .before .before .before .before .pre .1))
+
+more-returns-3 : (t : ℕ) → more-lts.Need-returns-3 (
+  token-reads.Asked,
+  token-reads.Learnt,
+  read-shut-reads.Asked,
+  read-shut-reads.Learnt,
+  calls-below t,
+  calls.Post,
+  at-comma-reads.Asked,
+  at-comma-reads.Learnt,
+  judged-reads.Asked,
+  judged-reads.Learnt,
+  expression-below t,
+  expression.Post,
+  next-given-reads.Asked,
+  next-given-reads.Learnt,
+  more-below t,
+  more.Post,
+  refused-reads.Asked,
+  refused-reads.Learnt,
+) (more-at t) more.Post
+more-returns-3 t c = L.more-next _ _ _ _ _ _ _ _ _ _ _ (c .before .before .before .before .before .before .before .before .before .before .before .before .before .before .before .before .before .token .ensures) (c .before .before .before .before .before .before .before .before .before .before .before .before .before .before .before .if3 .taken) (c .before .before .before .before .before .before .before .before .before .before .before .before .before .before .at-comma .ensures) (c .before .before .before .before .before .before .before .before .before .before .before .before .before .judged .ensures) (c .before .before .before .before .before .before .before .before .before .before .before .if4 .taken) _ _ _ _ (c .before .before .before .before .before .before .before .expression .ensures) (c .before .before .before .before .before .if5 .taken) _ (c .before .before .before .before .next-given .ensures) (c .more .ensures)
+
+more-returns-4 : (t : ℕ) → more-lts.Need-returns-4 (
+  token-reads.Asked,
+  token-reads.Learnt,
+  read-shut-reads.Asked,
+  read-shut-reads.Learnt,
+  calls-below t,
+  calls.Post,
+  at-comma-reads.Asked,
+  at-comma-reads.Learnt,
+  judged-reads.Asked,
+  judged-reads.Learnt,
+  expression-below t,
+  expression.Post,
+  next-given-reads.Asked,
+  next-given-reads.Learnt,
+  more-below t,
+  more.Post,
+  refused-reads.Asked,
+  refused-reads.Learnt,
+) (more-at t) more.Post
+more-returns-4 t c = L.more-next-refused _ _ _ _ _ _ _ _ _ _ _ (c .before .before .before .before .before .before .before .before .before .before .before .before .token .ensures) (c .before .before .before .before .before .before .before .before .before .before .if3 .taken) (c .before .before .before .before .before .before .before .before .before .at-comma .ensures) (c .before .before .before .before .before .before .before .before .judged .ensures) (c .before .before .before .before .before .before .if4 .taken) _ _ _ _ (c .before .before .expression .ensures) (c .if5 .left)
+
+more-returns-5 : (t : ℕ) → more-lts.Need-returns-5 (
+  token-reads.Asked,
+  token-reads.Learnt,
+  read-shut-reads.Asked,
+  read-shut-reads.Learnt,
+  calls-below t,
+  calls.Post,
+  at-comma-reads.Asked,
+  at-comma-reads.Learnt,
+  judged-reads.Asked,
+  judged-reads.Learnt,
+  expression-below t,
+  expression.Post,
+  next-given-reads.Asked,
+  next-given-reads.Learnt,
+  more-below t,
+  more.Post,
+  refused-reads.Asked,
+  refused-reads.Learnt,
+) (more-at t) more.Post
+more-returns-5 t c = L.comma-refused _ _ _ _ _ _ _ _ _ _ _ (c .before .before .before .before .before .before .token .ensures) (c .before .before .before .before .if3 .taken) (c .before .before .before .at-comma .ensures) (c .before .before .judged .ensures) (c .if4 .left)
+
+more-refused-requires : (t : ℕ) → more-lts.Need-refused-requires (
+  token-reads.Asked,
+  token-reads.Learnt,
+  read-shut-reads.Asked,
+  read-shut-reads.Learnt,
+  calls-below t,
+  calls.Post,
+  at-comma-reads.Asked,
+  at-comma-reads.Learnt,
+  judged-reads.Asked,
+  judged-reads.Learnt,
+  expression-below t,
+  expression.Post,
+  next-given-reads.Asked,
+  next-given-reads.Learnt,
+  more-below t,
+  more.Post,
+  refused-reads.Asked,
+  refused-reads.Learnt,
+) (more-at t) more.Post
+more-refused-requires t c κs = search needs
+
+more-returns-6 : (t : ℕ) → more-lts.Need-returns-6 (
+  token-reads.Asked,
+  token-reads.Learnt,
+  read-shut-reads.Asked,
+  read-shut-reads.Learnt,
+  calls-below t,
+  calls.Post,
+  at-comma-reads.Asked,
+  at-comma-reads.Learnt,
+  judged-reads.Asked,
+  judged-reads.Learnt,
+  expression-below t,
+  expression.Post,
+  next-given-reads.Asked,
+  next-given-reads.Learnt,
+  more-below t,
+  more.Post,
+  refused-reads.Asked,
+  refused-reads.Learnt,
+) (more-at t) more.Post
+more-returns-6 t c = L.more-refused _ _ _ _ _ _ _ _ _ _ (c .before .before .before .token .ensures) (c .before .before .if1 .left) (c .before .if3 .left) (c .refused .ensures)
+
+read-bracket-at-bracket-requires : (t : ℕ) → read-bracket-lts.Need-at-bracket-requires (
+  at-bracket-reads.Asked,
+  at-bracket-reads.Learnt,
+  judged-reads.Asked,
+  judged-reads.Learnt,
+  expression-below t,
+  expression.Post,
+  need-reads.Asked,
+  need-reads.Learnt,
+  calls-below t,
+  calls.Post,
+) (read-bracket-at t) read-bracket.Post
+read-bracket-at-bracket-requires t c κs = search needs
+
+read-bracket-judged-requires : (t : ℕ) → read-bracket-lts.Need-judged-requires (
+  at-bracket-reads.Asked,
+  at-bracket-reads.Learnt,
+  judged-reads.Asked,
+  judged-reads.Learnt,
+  expression-below t,
+  expression.Post,
+  need-reads.Asked,
+  need-reads.Learnt,
+  calls-below t,
+  calls.Post,
+) (read-bracket-at t) read-bracket.Post
+read-bracket-judged-requires t c κs = search needs
+
+read-bracket-add-expression : (t : ℕ) → read-bracket-lts.Need-add-expression (
+  at-bracket-reads.Asked,
+  at-bracket-reads.Learnt,
+  judged-reads.Asked,
+  judged-reads.Learnt,
+  expression-below t,
+  expression.Post,
+  need-reads.Asked,
+  need-reads.Learnt,
+  calls-below t,
+  calls.Post,
+) (read-bracket-at t) read-bracket.Post
+read-bracket-add-expression t c = omega (arith, c .before .before .before .before .before .pre .1 .fit .marks)
+
+read-bracket-expression-requires : (t : ℕ) → read-bracket-lts.Need-expression-requires (
+  at-bracket-reads.Asked,
+  at-bracket-reads.Learnt,
+  judged-reads.Asked,
+  judged-reads.Learnt,
+  expression-below t,
+  expression.Post,
+  need-reads.Asked,
+  need-reads.Learnt,
+  calls-below t,
+  calls.Post,
+) (read-bracket-at t) read-bracket.Post
+read-bracket-expression-requires t c κs = (omega (arith, c .before .before .before .before .before .before .before .before .pre .0, L.bracket-less _ _ _ _ _ _ _ _ _ _ (c .before .before .before .before .before .before .before .before .pre .1) (c .before .before .before .before .before .before .at-bracket .ensures) (c .before .before .before .before .before .judged .ensures) (c .before .before .before .if1 .taken)), L.bracket-fit _ _ _ _ _ _ _ _ _ _ (c .before .before .before .before .before .before .before .before .pre .1) (c .before .before .before .before .before .before .at-bracket .ensures) (c .before .before .before .before .before .judged .ensures) (c .before .before .before .if1 .taken))
+
+read-bracket-need-requires : (t : ℕ) → read-bracket-lts.Need-need-requires (
+  at-bracket-reads.Asked,
+  at-bracket-reads.Learnt,
+  judged-reads.Asked,
+  judged-reads.Learnt,
+  expression-below t,
+  expression.Post,
+  need-reads.Asked,
+  need-reads.Learnt,
+  calls-below t,
+  calls.Post,
+) (read-bracket-at t) read-bracket.Post
+read-bracket-need-requires t c κs = search needs
+
+read-bracket-calls-requires : (t : ℕ) → read-bracket-lts.Need-calls-requires (
+  at-bracket-reads.Asked,
+  at-bracket-reads.Learnt,
+  judged-reads.Asked,
+  judged-reads.Learnt,
+  expression-below t,
+  expression.Post,
+  need-reads.Asked,
+  need-reads.Learnt,
+  calls-below t,
+  calls.Post,
+) (read-bracket-at t) read-bracket.Post
+read-bracket-calls-requires t c κs = (omega (arith, c .before .before .before .before .before .before .before .before .before .before .before .before .before .before .before .before .before .pre .0, L.bracket-less _ _ _ _ _ _ _ _ _ _ (c .before .before .before .before .before .before .before .before .before .before .before .before .before .before .before .before .before .pre .1) (c .before .before .before .before .before .before .before .before .before .before .before .before .before .before .before .at-bracket .ensures) (c .before .before .before .before .before .before .before .before .before .before .before .before .before .before .judged .ensures) (c .before .before .before .before .before .before .before .before .before .before .before .before .if1 .taken), L.read-less _ _ _ _ _ _ _ _ _ _ (c .before .before .before .before .before .before .before .before .expression .ensures) (c .before .before .before .before .before .before .if2 .taken), L.need-less _ _ _ _ (omega arith) (c .before .before .before .before .before .need .ensures) (c .before .before .before .if3 .taken)), L.bracket-calls-fit _ _ _ _ _ _ _ _ _ _ (c .before .before .before .before .before .before .before .before .before .before .before .before .before .before .before .before .before .pre .1) (c .before .before .before .before .before .before .before .before .before .before .before .before .before .before .before .at-bracket .ensures) (c .before .before .before .before .before .before .before .before .before .before .before .before .before .before .judged .ensures) (c .before .before .before .before .before .before .before .before .before .before .before .before .if1 .taken) _ _ _ _ (c .before .before .before .before .before .before .before .before .expression .ensures) _ (c .before .before .before .before .before .before .if2 .taken) (c .before .before .before .before .before .need .ensures))
+
+read-bracket-returns : (t : ℕ) → read-bracket-lts.Need-returns (
+  at-bracket-reads.Asked,
+  at-bracket-reads.Learnt,
+  judged-reads.Asked,
+  judged-reads.Learnt,
+  expression-below t,
+  expression.Post,
+  need-reads.Asked,
+  need-reads.Learnt,
+  calls-below t,
+  calls.Post,
+) (read-bracket-at t) read-bracket.Post
+read-bracket-returns t c = L.bracket-read _ _ _ _ _ _ _ _ _ _ (c .before .before .before .before .before .before .before .before .before .before .before .before .before .before .before .before .before .before .pre .1) (c .before .before .before .before .before .before .before .before .before .before .before .before .before .before .before .before .at-bracket .ensures) (c .before .before .before .before .before .before .before .before .before .before .before .before .before .before .before .judged .ensures) (c .before .before .before .before .before .before .before .before .before .before .before .before .before .if1 .taken) _ _ _ _ (c .before .before .before .before .before .before .before .before .before .expression .ensures) _ (c .before .before .before .before .before .before .before .if2 .taken) (c .before .before .before .before .before .before .need .ensures) (c .before .before .before .before .if3 .taken) (c .calls .ensures)
+
+read-bracket-returns-2 : (t : ℕ) → read-bracket-lts.Need-returns-2 (
+  at-bracket-reads.Asked,
+  at-bracket-reads.Learnt,
+  judged-reads.Asked,
+  judged-reads.Learnt,
+  expression-below t,
+  expression.Post,
+  need-reads.Asked,
+  need-reads.Learnt,
+  calls-below t,
+  calls.Post,
+) (read-bracket-at t) read-bracket.Post
+read-bracket-returns-2 t c = L.bracket-shut-refused _ _ _ _ _ _ _ _ _ _ (c .before .before .before .before .before .before .before .before .before .before .before .before .before .before .pre .1) (c .before .before .before .before .before .before .before .before .before .before .before .before .at-bracket .ensures) (c .before .before .before .before .before .before .before .before .before .before .before .judged .ensures) (c .before .before .before .before .before .before .before .before .before .if1 .taken) _ _ _ _ (c .before .before .before .before .before .expression .ensures) _ (c .before .before .before .if2 .taken) (c .before .before .need .ensures) (c .if3 .left)
+
+read-bracket-returns-3 : (t : ℕ) → read-bracket-lts.Need-returns-3 (
+  at-bracket-reads.Asked,
+  at-bracket-reads.Learnt,
+  judged-reads.Asked,
+  judged-reads.Learnt,
+  expression-below t,
+  expression.Post,
+  need-reads.Asked,
+  need-reads.Learnt,
+  calls-below t,
+  calls.Post,
+) (read-bracket-at t) read-bracket.Post
+read-bracket-returns-3 t c = L.bracketed-refused _ _ _ _ _ _ _ _ _ _ (c .before .before .before .before .before .before .before .before .before .before .before .pre .1) (c .before .before .before .before .before .before .before .before .before .at-bracket .ensures) (c .before .before .before .before .before .before .before .before .judged .ensures) (c .before .before .before .before .before .before .if1 .taken) _ _ _ _ (c .before .before .expression .ensures) (c .if2 .left)
+
+read-bracket-returns-4 : (t : ℕ) → read-bracket-lts.Need-returns-4 (
+  at-bracket-reads.Asked,
+  at-bracket-reads.Learnt,
+  judged-reads.Asked,
+  judged-reads.Learnt,
+  expression-below t,
+  expression.Post,
+  need-reads.Asked,
+  need-reads.Learnt,
+  calls-below t,
+  calls.Post,
+) (read-bracket-at t) read-bracket.Post
+read-bracket-returns-4 t c = L.bracket-refused _ _ _ _ _ _ _ _ _ _ (c .before .before .before .before .before .pre .1) (c .before .before .before .at-bracket .ensures) (c .before .before .judged .ensures) (c .if1 .left)
+
+read-lambda-lambda-head-requires : (t : ℕ) → read-lambda-lts.Need-lambda-head-requires (
+  lambda-head-reads.Asked,
+  lambda-head-reads.Learnt,
+  enter-reads.Asked,
+  enter-reads.Learnt,
+  expression-below t,
+  expression.Post,
+  put-reads.Asked,
+  put-reads.Learnt,
+) (read-lambda-at t) read-lambda.Post
+read-lambda-lambda-head-requires t c κs = (c .before .before .pre .1 .fit .parts, omega (arith, c .before .before .pre .1 .fit .depth, c .before .before .pre .1 .fit .marks))
+
+read-lambda-enter-requires : (t : ℕ) → read-lambda-lts.Need-enter-requires (
+  lambda-head-reads.Asked,
+  lambda-head-reads.Learnt,
+  enter-reads.Asked,
+  enter-reads.Learnt,
+  expression-below t,
+  expression.Post,
+  put-reads.Asked,
+  put-reads.Learnt,
+) (read-lambda-at t) read-lambda.Post
+read-lambda-enter-requires t c κs = L.lambda-deep _ _ _ _ _ _ _ _ _ (c .before .before .before .before .before .before .pre .1) (c .before .before .before .lambda-head .ensures) (c .before .if1 .taken)
+
+read-lambda-add-expression : (t : ℕ) → read-lambda-lts.Need-add-expression (
+  lambda-head-reads.Asked,
+  lambda-head-reads.Learnt,
+  enter-reads.Asked,
+  enter-reads.Learnt,
+  expression-below t,
+  expression.Post,
+  put-reads.Asked,
+  put-reads.Learnt,
+) (read-lambda-at t) read-lambda.Post
+read-lambda-add-expression t c = omega (arith, c .before .before .before .before .before .before .before .pre .1 .fit .marks)
+
+read-lambda-add-expression-2 : (t : ℕ) → read-lambda-lts.Need-add-expression-2 (
+  lambda-head-reads.Asked,
+  lambda-head-reads.Learnt,
+  enter-reads.Asked,
+  enter-reads.Learnt,
+  expression-below t,
+  expression.Post,
+  put-reads.Asked,
+  put-reads.Learnt,
+) (read-lambda-at t) read-lambda.Post
+read-lambda-add-expression-2 t c = omega (arith, c .before .before .before .before .before .before .before .pre .1 .fit .depth, c .before .before .before .before .before .before .before .pre .1 .fit .marks)
+
+read-lambda-expression-requires : (t : ℕ) → read-lambda-lts.Need-expression-requires (
+  lambda-head-reads.Asked,
+  lambda-head-reads.Learnt,
+  enter-reads.Asked,
+  enter-reads.Learnt,
+  expression-below t,
+  expression.Post,
+  put-reads.Asked,
+  put-reads.Learnt,
+) (read-lambda-at t) read-lambda.Post
+read-lambda-expression-requires t c κs = (omega (arith, c .before .before .before .before .before .before .before .before .before .before .pre .0, L.lambda-less _ _ _ _ _ _ _ _ _ (c .before .before .before .before .before .before .before .before .before .before .pre .1) (c .before .before .before .before .before .before .before .lambda-head .ensures) (c .before .before .before .before .before .if1 .taken)), L.lambda-fit _ _ _ _ _ _ _ _ _ (c .before .before .before .before .before .before .before .before .before .before .pre .1) (c .before .before .before .before .before .before .before .lambda-head .ensures) (c .before .before .before .before .before .if1 .taken) _ (c .before .before .before .enter .ensures))
+
+read-lambda-add-put : (t : ℕ) → read-lambda-lts.Need-add-put (
+  lambda-head-reads.Asked,
+  lambda-head-reads.Learnt,
+  enter-reads.Asked,
+  enter-reads.Learnt,
+  expression-below t,
+  expression.Post,
+  put-reads.Asked,
+  put-reads.Learnt,
+) (read-lambda-at t) read-lambda.Post
+read-lambda-add-put t c = omega (arith, L.lambda-root _ _ _ _ _ _ _ _ _ (c .before .before .before .before .before .before .before .before .before .before .before .before .before .before .pre .1) (c .before .before .before .before .before .before .before .before .before .before .before .lambda-head .ensures) (c .before .before .before .before .before .before .before .before .before .if1 .taken) _ (c .before .before .before .before .before .before .before .enter .ensures) _ _ _ _ (c .before .before .before .expression .ensures) (c .before .if2 .taken))
+
+read-lambda-put-requires : (t : ℕ) → read-lambda-lts.Need-put-requires (
+  lambda-head-reads.Asked,
+  lambda-head-reads.Learnt,
+  enter-reads.Asked,
+  enter-reads.Learnt,
+  expression-below t,
+  expression.Post,
+  put-reads.Asked,
+  put-reads.Learnt,
+) (read-lambda-at t) read-lambda.Post
+read-lambda-put-requires t c κs = L.lambda-room _ _ _ _ _ _ _ _ _ (c .before .before .before .before .before .before .before .before .before .before .before .before .before .before .before .before .pre .1) (c .before .before .before .before .before .before .before .before .before .before .before .before .before .lambda-head .ensures) (c .before .before .before .before .before .before .before .before .before .before .before .if1 .taken) _ (c .before .before .before .before .before .before .before .before .before .enter .ensures) _ _ _ _ (c .before .before .before .before .before .expression .ensures) (c .before .before .before .if2 .taken)
+
+read-lambda-returns : (t : ℕ) → read-lambda-lts.Need-returns (
+  lambda-head-reads.Asked,
+  lambda-head-reads.Learnt,
+  enter-reads.Asked,
+  enter-reads.Learnt,
+  expression-below t,
+  expression.Post,
+  put-reads.Asked,
+  put-reads.Learnt,
+) (read-lambda-at t) read-lambda.Post
+read-lambda-returns t c = L.lambda-read _ _ _ _ _ _ _ _ _ (c .before .before .before .before .before .before .before .before .before .before .before .before .before .before .before .before .before .pre .1) (c .before .before .before .before .before .before .before .before .before .before .before .before .before .before .lambda-head .ensures) (c .before .before .before .before .before .before .before .before .before .before .before .before .if1 .taken) _ (c .before .before .before .before .before .before .before .before .before .before .enter .ensures) _ _ _ _ (c .before .before .before .before .before .before .expression .ensures) (c .before .before .before .before .if2 .taken) (c .put .ensures)
+
+read-lambda-returns-2 : (t : ℕ) → read-lambda-lts.Need-returns-2 (
+  lambda-head-reads.Asked,
+  lambda-head-reads.Learnt,
+  enter-reads.Asked,
+  enter-reads.Learnt,
+  expression-below t,
+  expression.Post,
+  put-reads.Asked,
+  put-reads.Learnt,
+) (read-lambda-at t) read-lambda.Post
+read-lambda-returns-2 t c = L.lambda-body-refused _ _ _ _ _ _ _ _ _ (c .before .before .before .before .before .before .before .before .before .before .before .before .before .pre .1) (c .before .before .before .before .before .before .before .before .before .before .lambda-head .ensures) (c .before .before .before .before .before .before .before .before .if1 .taken) _ (c .before .before .before .before .before .before .enter .ensures) _ _ _ _ (c .before .before .expression .ensures) (c .if2 .left)
+
+read-lambda-returns-3 : (t : ℕ) → read-lambda-lts.Need-returns-3 (
+  lambda-head-reads.Asked,
+  lambda-head-reads.Learnt,
+  enter-reads.Asked,
+  enter-reads.Learnt,
+  expression-below t,
+  expression.Post,
+  put-reads.Asked,
+  put-reads.Learnt,
+) (read-lambda-at t) read-lambda.Post
+read-lambda-returns-3 t c = L.lambda-head-refused _ _ _ _ _ _ _ _ _ (c .before .before .before .before .before .pre .1) (c .before .before .lambda-head .ensures) (c .if1 .left)
+
+read-let-let-head-requires : (t : ℕ) → read-let-lts.Need-let-head-requires (
+  let-head-reads.Asked,
+  let-head-reads.Learnt,
+  expression-below t,
+  expression.Post,
+  need-reads.Asked,
+  need-reads.Learnt,
+  enter-reads.Asked,
+  enter-reads.Learnt,
+  mark-reads.Asked,
+  mark-reads.Learnt,
+) (read-let-at t) read-let.Post
+read-let-let-head-requires t c κs = c .before .pre .1 .fit .parts
+
+read-let-add-expression : (t : ℕ) → read-let-lts.Need-add-expression (
+  let-head-reads.Asked,
+  let-head-reads.Learnt,
+  expression-below t,
+  expression.Post,
+  need-reads.Asked,
+  need-reads.Learnt,
+  enter-reads.Asked,
+  enter-reads.Learnt,
+  mark-reads.Asked,
+  mark-reads.Learnt,
+) (read-let-at t) read-let.Post
+read-let-add-expression t c = omega (arith, c .before .before .before .before .pre .1 .fit .marks)
+
+read-let-expression-requires : (t : ℕ) → read-let-lts.Need-expression-requires (
+  let-head-reads.Asked,
+  let-head-reads.Learnt,
+  expression-below t,
+  expression.Post,
+  need-reads.Asked,
+  need-reads.Learnt,
+  enter-reads.Asked,
+  enter-reads.Learnt,
+  mark-reads.Asked,
+  mark-reads.Learnt,
+) (read-let-at t) read-let.Post
+read-let-expression-requires t c κs = (omega (arith, c .before .before .before .before .before .before .before .pre .0, L.let-less _ _ _ _ _ _ _ _ _ (c .before .before .before .before .before .before .before .pre .1) (c .before .before .before .before .before .let-head .ensures) (c .before .before .before .if1 .taken)), L.let-value-fit _ _ _ _ _ _ _ _ _ (c .before .before .before .before .before .before .before .pre .1) (c .before .before .before .before .before .let-head .ensures) (c .before .before .before .if1 .taken))
+
+read-let-need-requires : (t : ℕ) → read-let-lts.Need-need-requires (
+  let-head-reads.Asked,
+  let-head-reads.Learnt,
+  expression-below t,
+  expression.Post,
+  need-reads.Asked,
+  need-reads.Learnt,
+  enter-reads.Asked,
+  enter-reads.Learnt,
+  mark-reads.Asked,
+  mark-reads.Learnt,
+) (read-let-at t) read-let.Post
+read-let-need-requires t c κs = search needs
+
+read-let-add-enter : (t : ℕ) → read-let-lts.Need-add-enter (
+  let-head-reads.Asked,
+  let-head-reads.Learnt,
+  expression-below t,
+  expression.Post,
+  need-reads.Asked,
+  need-reads.Learnt,
+  enter-reads.Asked,
+  enter-reads.Learnt,
+  mark-reads.Asked,
+  mark-reads.Learnt,
+) (read-let-at t) read-let.Post
+read-let-add-enter t c = omega (arith, L.root-few _ _ _ _ _ _ _ _ _ _ (c .before .before .before .before .before .expression .ensures) (c .before .before .before .if2 .taken) ((L.let-value-fit _ _ _ _ _ _ _ _ _ (c .before .before .before .before .before .before .before .before .before .before .before .before .before .pre .1) (c .before .before .before .before .before .before .before .before .before .before .before .let-head .ensures) (c .before .before .before .before .before .before .before .before .before .if1 .taken)) .fit))
+
+read-let-enter-requires : (t : ℕ) → read-let-lts.Need-enter-requires (
+  let-head-reads.Asked,
+  let-head-reads.Learnt,
+  expression-below t,
+  expression.Post,
+  need-reads.Asked,
+  need-reads.Learnt,
+  enter-reads.Asked,
+  enter-reads.Learnt,
+  mark-reads.Asked,
+  mark-reads.Learnt,
+) (read-let-at t) read-let.Post
+read-let-enter-requires t c κs = L.let-deep _ _ _ _ _ _ _ _ _ (c .before .before .before .before .before .before .before .before .before .before .before .before .before .before .pre .1) (c .before .before .before .before .before .before .before .before .before .before .before .before .let-head .ensures) (c .before .before .before .before .before .before .before .before .before .before .if1 .taken)
+
+read-let-add-expression-2 : (t : ℕ) → read-let-lts.Need-add-expression-2 (
+  let-head-reads.Asked,
+  let-head-reads.Learnt,
+  expression-below t,
+  expression.Post,
+  need-reads.Asked,
+  need-reads.Learnt,
+  enter-reads.Asked,
+  enter-reads.Learnt,
+  mark-reads.Asked,
+  mark-reads.Learnt,
+) (read-let-at t) read-let.Post
+read-let-add-expression-2 t c = omega (arith, c .before .before .before .before .before .before .before .before .before .before .before .before .before .before .before .pre .1 .fit .marks)
+
+read-let-add-expression-3 : (t : ℕ) → read-let-lts.Need-add-expression-3 (
+  let-head-reads.Asked,
+  let-head-reads.Learnt,
+  expression-below t,
+  expression.Post,
+  need-reads.Asked,
+  need-reads.Learnt,
+  enter-reads.Asked,
+  enter-reads.Learnt,
+  mark-reads.Asked,
+  mark-reads.Learnt,
+) (read-let-at t) read-let.Post
+read-let-add-expression-3 t c = omega (arith, c .before .before .before .before .before .before .before .before .before .before .before .before .before .before .before .pre .1 .fit .depth, c .before .before .before .before .before .before .before .before .before .before .before .before .before .before .before .pre .1 .fit .marks)
+
+read-let-expression-requires-2 : (t : ℕ) → read-let-lts.Need-expression-requires-2 (
+  let-head-reads.Asked,
+  let-head-reads.Learnt,
+  expression-below t,
+  expression.Post,
+  need-reads.Asked,
+  need-reads.Learnt,
+  enter-reads.Asked,
+  enter-reads.Learnt,
+  mark-reads.Asked,
+  mark-reads.Learnt,
+) (read-let-at t) read-let.Post
+read-let-expression-requires-2 t c κs = (omega (arith, c .before .before .before .before .before .before .before .before .before .before .before .before .before .before .before .before .before .before .pre .0, L.let-less _ _ _ _ _ _ _ _ _ (c .before .before .before .before .before .before .before .before .before .before .before .before .before .before .before .before .before .before .pre .1) (c .before .before .before .before .before .before .before .before .before .before .before .before .before .before .before .before .let-head .ensures) (c .before .before .before .before .before .before .before .before .before .before .before .before .before .before .if1 .taken), L.read-less _ _ _ _ _ _ _ _ _ _ (c .before .before .before .before .before .before .before .before .before .before .expression .ensures) (c .before .before .before .before .before .before .before .before .if2 .taken), L.need-less _ _ _ _ (omega arith) (c .before .before .before .before .before .before .before .need .ensures) (c .before .before .before .before .before .if3 .taken)), L.let-body-fit _ _ _ _ _ _ _ _ _ (c .before .before .before .before .before .before .before .before .before .before .before .before .before .before .before .before .before .before .pre .1) (c .before .before .before .before .before .before .before .before .before .before .before .before .before .before .before .before .let-head .ensures) (c .before .before .before .before .before .before .before .before .before .before .before .before .before .before .if1 .taken) _ _ _ _ (c .before .before .before .before .before .before .before .before .before .before .expression .ensures) _ (c .before .before .before .before .before .before .before .before .if2 .taken) (c .before .before .before .before .before .before .before .need .ensures) (c .before .before .before .before .before .if3 .taken) _ (c .before .before .before .enter .ensures))
+
+read-let-mark-requires : (t : ℕ) → read-let-lts.Need-mark-requires (
+  let-head-reads.Asked,
+  let-head-reads.Learnt,
+  expression-below t,
+  expression.Post,
+  need-reads.Asked,
+  need-reads.Learnt,
+  enter-reads.Asked,
+  enter-reads.Learnt,
+  mark-reads.Asked,
+  mark-reads.Learnt,
+) (read-let-at t) read-let.Post
+read-let-mark-requires t c κs = (L.let-place _ _ _ _ _ _ _ _ _ (c .before .before .before .before .before .before .before .before .before .before .before .before .before .before .before .before .before .before .before .before .before .before .pre .1) (c .before .before .before .before .before .before .before .before .before .before .before .before .before .before .before .before .before .before .before .before .let-head .ensures) (c .before .before .before .before .before .before .before .before .before .before .before .before .before .before .before .before .before .before .if1 .taken), omega (arith, L.let-root _ _ _ _ _ _ _ _ _ (c .before .before .before .before .before .before .before .before .before .before .before .before .before .before .before .before .before .before .before .before .before .before .pre .1) (c .before .before .before .before .before .before .before .before .before .before .before .before .before .before .before .before .before .before .before .before .let-head .ensures) (c .before .before .before .before .before .before .before .before .before .before .before .before .before .before .before .before .before .before .if1 .taken) _ _ _ _ (c .before .before .before .before .before .before .before .before .before .before .before .before .before .before .expression .ensures) _ (c .before .before .before .before .before .before .before .before .before .before .before .before .if2 .taken) (c .before .before .before .before .before .before .before .before .before .before .before .need .ensures) (c .before .before .before .before .before .before .before .before .before .if3 .taken) _ (c .before .before .before .before .before .before .before .enter .ensures) _ _ _ _ (c .before .before .before .expression2 .ensures) (c .before .if4 .taken)))
+
+read-let-returns : (t : ℕ) → read-let-lts.Need-returns (
+  let-head-reads.Asked,
+  let-head-reads.Learnt,
+  expression-below t,
+  expression.Post,
+  need-reads.Asked,
+  need-reads.Learnt,
+  enter-reads.Asked,
+  enter-reads.Learnt,
+  mark-reads.Asked,
+  mark-reads.Learnt,
+) (read-let-at t) read-let.Post
+read-let-returns t c = L.let-read _ _ _ _ _ _ _ _ _ (c .before .before .before .before .before .before .before .before .before .before .before .before .before .before .before .before .before .before .before .before .before .before .before .pre .1) (c .before .before .before .before .before .before .before .before .before .before .before .before .before .before .before .before .before .before .before .before .before .let-head .ensures) (c .before .before .before .before .before .before .before .before .before .before .before .before .before .before .before .before .before .before .before .if1 .taken) _ _ _ _ (c .before .before .before .before .before .before .before .before .before .before .before .before .before .before .before .expression .ensures) _ (c .before .before .before .before .before .before .before .before .before .before .before .before .before .if2 .taken) (c .before .before .before .before .before .before .before .before .before .before .before .before .need .ensures) (c .before .before .before .before .before .before .before .before .before .before .if3 .taken) _ (c .before .before .before .before .before .before .before .before .enter .ensures) _ _ _ _ (c .before .before .before .before .expression2 .ensures) (c .before .before .if4 .taken) _ (c .mark .ensures)
+
+read-let-returns-2 : (t : ℕ) → read-let-lts.Need-returns-2 (
+  let-head-reads.Asked,
+  let-head-reads.Learnt,
+  expression-below t,
+  expression.Post,
+  need-reads.Asked,
+  need-reads.Learnt,
+  enter-reads.Asked,
+  enter-reads.Learnt,
+  mark-reads.Asked,
+  mark-reads.Learnt,
+) (read-let-at t) read-let.Post
+read-let-returns-2 t c = L.let-body-refused _ _ _ _ _ _ _ _ _ (c .before .before .before .before .before .before .before .before .before .before .before .before .before .before .before .before .before .before .before .before .before .pre .1) (c .before .before .before .before .before .before .before .before .before .before .before .before .before .before .before .before .before .before .before .let-head .ensures) (c .before .before .before .before .before .before .before .before .before .before .before .before .before .before .before .before .before .if1 .taken) _ _ _ _ (c .before .before .before .before .before .before .before .before .before .before .before .before .before .expression .ensures) _ (c .before .before .before .before .before .before .before .before .before .before .before .if2 .taken) (c .before .before .before .before .before .before .before .before .before .before .need .ensures) (c .before .before .before .before .before .before .before .before .if3 .taken) _ (c .before .before .before .before .before .before .enter .ensures) _ _ _ _ (c .before .before .expression2 .ensures) (c .if4 .left)
+
+read-let-returns-3 : (t : ℕ) → read-let-lts.Need-returns-3 (
+  let-head-reads.Asked,
+  let-head-reads.Learnt,
+  expression-below t,
+  expression.Post,
+  need-reads.Asked,
+  need-reads.Learnt,
+  enter-reads.Asked,
+  enter-reads.Learnt,
+  mark-reads.Asked,
+  mark-reads.Learnt,
+) (read-let-at t) read-let.Post
+read-let-returns-3 t c = L.let-in-refused _ _ _ _ _ _ _ _ _ (c .before .before .before .before .before .before .before .before .before .before .before .before .before .pre .1) (c .before .before .before .before .before .before .before .before .before .before .before .let-head .ensures) (c .before .before .before .before .before .before .before .before .before .if1 .taken) _ _ _ _ (c .before .before .before .before .before .expression .ensures) _ (c .before .before .before .if2 .taken) (c .before .before .need .ensures) (c .if3 .left)
+
+read-let-returns-4 : (t : ℕ) → read-let-lts.Need-returns-4 (
+  let-head-reads.Asked,
+  let-head-reads.Learnt,
+  expression-below t,
+  expression.Post,
+  need-reads.Asked,
+  need-reads.Learnt,
+  enter-reads.Asked,
+  enter-reads.Learnt,
+  mark-reads.Asked,
+  mark-reads.Learnt,
+) (read-let-at t) read-let.Post
+read-let-returns-4 t c = L.let-value-refused _ _ _ _ _ _ _ _ _ (c .before .before .before .before .before .before .before .before .before .before .pre .1) (c .before .before .before .before .before .before .before .before .let-head .ensures) (c .before .before .before .before .before .before .if1 .taken) _ _ _ _ (c .before .before .expression .ensures) (c .if2 .left)
+
+read-let-returns-5 : (t : ℕ) → read-let-lts.Need-returns-5 (
+  let-head-reads.Asked,
+  let-head-reads.Learnt,
+  expression-below t,
+  expression.Post,
+  need-reads.Asked,
+  need-reads.Learnt,
+  enter-reads.Asked,
+  enter-reads.Learnt,
+  mark-reads.Asked,
+  mark-reads.Learnt,
+) (read-let-at t) read-let.Post
+read-let-returns-5 t c = L.let-head-refused _ _ _ _ _ _ _ _ _ (c .before .before .before .before .pre .1) (c .before .before .let-head .ensures) (c .if1 .left)
+
+pub +arguments+calls+expression+more+read-bracket+read-lambda+read-let-spec :
+    {M : Type 1} → statement M
++arguments+calls+expression+more+read-bracket+read-lambda+read-let-spec =
+    close
+    μ-arguments
+    μ-calls
+    μ-expression
+    μ-more
+    μ-read-bracket
+    μ-read-lambda
+    μ-read-let
+    (λ t. arguments-lts.spec (
+      token-reads.Asked,
+      token-reads.Learnt,
+      read-shut-reads.Asked,
+      read-shut-reads.Learnt,
+      calls-below t,
+      calls.Post,
+      expression-below t,
+      expression.Post,
+      first-given-reads.Asked,
+      first-given-reads.Learnt,
+      more-below t,
+      more.Post,
+    )
+    (arguments-at t)
+    arguments.Post
+    (arguments-token-requires t)
+    (arguments-read-shut-requires t)
+    (arguments-calls-requires t)
+    (arguments-add-expression t)
+    (arguments-expression-requires t)
+    (arguments-first-given-requires t)
+    (arguments-more-requires t)
+    (arguments-returns t)
+    (arguments-returns-2 t)
+    (arguments-returns-3 t)
+    (arguments-returns-4 t))
+    (λ t. calls-lts.spec (
+      token-reads.Asked,
+      token-reads.Learnt,
+      call-head-reads.Asked,
+      call-head-reads.Learnt,
+      arguments-below t,
+      arguments.Post,
+    )
+    (calls-at t)
+    calls.Post
+    (calls-token-requires t)
+    (calls-call-head-requires t)
+    (calls-arguments-requires t)
+    (calls-returns t)
+    (calls-returns-2 t)
+    (calls-returns-3 t))
+    (λ t. expression-lts.spec (
+      token-reads.Asked,
+      token-reads.Learnt,
+      read-let-below t,
+      read-let.Post,
+      read-lambda-below t,
+      read-lambda.Post,
+      read-bracket-below t,
+      read-bracket.Post,
+      read-name-reads.Asked,
+      read-name-reads.Learnt,
+      calls-below t,
+      calls.Post,
+      read-number-reads.Asked,
+      read-number-reads.Learnt,
+      refused-reads.Asked,
+      refused-reads.Learnt,
+    )
+    (expression-at t)
+    expression.Post
+    (expression-token-requires t)
+    (expression-read-let-requires t)
+    (expression-returns t)
+    (expression-read-lambda-requires t)
+    (expression-returns-2 t)
+    (expression-read-bracket-requires t)
+    (expression-returns-3 t)
+    (expression-read-name-requires t)
+    (expression-calls-requires t)
+    (expression-returns-4 t)
+    (expression-returns-5 t)
+    (expression-read-number-requires t)
+    (expression-calls-requires-2 t)
+    (expression-returns-6 t)
+    (expression-returns-7 t)
+    (expression-refused-requires t)
+    (expression-returns-8 t))
+    (λ t. more-lts.spec (
+      token-reads.Asked,
+      token-reads.Learnt,
+      read-shut-reads.Asked,
+      read-shut-reads.Learnt,
+      calls-below t,
+      calls.Post,
+      at-comma-reads.Asked,
+      at-comma-reads.Learnt,
+      judged-reads.Asked,
+      judged-reads.Learnt,
+      expression-below t,
+      expression.Post,
+      next-given-reads.Asked,
+      next-given-reads.Learnt,
+      more-below t,
+      more.Post,
+      refused-reads.Asked,
+      refused-reads.Learnt,
+    )
+    (more-at t)
+    more.Post
+    (more-token-requires t)
+    (more-read-shut-requires t)
+    (more-calls-requires t)
+    (more-returns t)
+    (more-returns-2 t)
+    (more-at-comma-requires t)
+    (more-judged-requires t)
+    (more-add-expression t)
+    (more-expression-requires t)
+    (more-next-given-requires t)
+    (more-more-requires t)
+    (more-returns-3 t)
+    (more-returns-4 t)
+    (more-returns-5 t)
+    (more-refused-requires t)
+    (more-returns-6 t))
+    (λ t. read-bracket-lts.spec (
+      at-bracket-reads.Asked,
+      at-bracket-reads.Learnt,
+      judged-reads.Asked,
+      judged-reads.Learnt,
+      expression-below t,
+      expression.Post,
+      need-reads.Asked,
+      need-reads.Learnt,
+      calls-below t,
+      calls.Post,
+    )
+    (read-bracket-at t)
+    read-bracket.Post
+    (read-bracket-at-bracket-requires t)
+    (read-bracket-judged-requires t)
+    (read-bracket-add-expression t)
+    (read-bracket-expression-requires t)
+    (read-bracket-need-requires t)
+    (read-bracket-calls-requires t)
+    (read-bracket-returns t)
+    (read-bracket-returns-2 t)
+    (read-bracket-returns-3 t)
+    (read-bracket-returns-4 t))
+    (λ t. read-lambda-lts.spec (
+      lambda-head-reads.Asked,
+      lambda-head-reads.Learnt,
+      enter-reads.Asked,
+      enter-reads.Learnt,
+      expression-below t,
+      expression.Post,
+      put-reads.Asked,
+      put-reads.Learnt,
+    )
+    (read-lambda-at t)
+    read-lambda.Post
+    (read-lambda-lambda-head-requires t)
+    (read-lambda-enter-requires t)
+    (read-lambda-add-expression t)
+    (read-lambda-add-expression-2 t)
+    (read-lambda-expression-requires t)
+    (read-lambda-add-put t)
+    (read-lambda-put-requires t)
+    (read-lambda-returns t)
+    (read-lambda-returns-2 t)
+    (read-lambda-returns-3 t))
+    λ t. read-let-lts.spec (
+      let-head-reads.Asked,
+      let-head-reads.Learnt,
+      expression-below t,
+      expression.Post,
+      need-reads.Asked,
+      need-reads.Learnt,
+      enter-reads.Asked,
+      enter-reads.Learnt,
+      mark-reads.Asked,
+      mark-reads.Learnt,
+    )
+    (read-let-at t)
+    read-let.Post
+    (read-let-let-head-requires t)
+    (read-let-add-expression t)
+    (read-let-expression-requires t)
+    (read-let-need-requires t)
+    (read-let-add-enter t)
+    (read-let-enter-requires t)
+    (read-let-add-expression-2 t)
+    (read-let-add-expression-3 t)
+    (read-let-expression-requires-2 t)
+    (read-let-mark-requires t)
+    (read-let-returns t)
+    (read-let-returns-2 t)
+    (read-let-returns-3 t)
+    (read-let-returns-4 t)
+    (read-let-returns-5 t)

@@ -1,0 +1,29 @@
+-- What the parser's functions require and ensure: descent's Fit and Reads of the states that the cursor and the arrays stand for.
+-- Assumes nothing: these are definitions.
+use mathlib.Core.Path.{_≡_}
+use mathlib.Core.Bool.{true}
+use mathlib.Core.List.{List}
+use Prim.Native.Nat.{ℕ, _+_, _*_}
+use lib.ListN.{length}
+use Rattle.descent.specs.Cursor.{isAt}
+use Rattle.descent.specs.Descent.{Mode}
+use Rattle.descent.specs.Fit.{Fit}
+use Rattle.descent.specs.Paths.{Reads}
+use Rattle.reader.specs.declared.cursor.Cursor.{Cursor}
+use Rattle.reader.specs.Lexing.{tokensFrom}
+use Rattle.reader.specs.Cursors.{stateOf}
+
+pub record Ready (m : Mode) (text : List ℕ) (c : Cursor) (records places scope : List ℕ) : Type 0 where
+  pub fit : Fit m (stateOf text c records places scope)
+
+-- where a token of one kind is next
+pub record ReadyAt (k : ℕ) (m : Mode) (text : List ℕ) (c : Cursor) (records places scope : List ℕ) : Type 0 where
+  pub ahead : isAt k (tokensFrom text (c .at)) ≡ true
+  pub fit : Fit m (stateOf text c records places scope)
+
+pub record Parses (m : Mode) (text : List ℕ) (c : Cursor) (records places scope : List ℕ) (r : Cursor) (records′ places′ scope′ : List ℕ) : Type 0 where
+  pub reads : Reads (length text) m (stateOf text c records places scope) (stateOf text r records′ places′ scope′)
+
+-- three for each token that is left, and the order of the calls that pass none
+abbrev pub measure : ℕ → List ℕ → Cursor → ℕ
+measure rank text c = 3 * length (tokensFrom text (c .at)) + rank

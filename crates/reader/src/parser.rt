@@ -1,0 +1,355 @@
+// The parser: recursive descent over the tokens of a text, which writes records as it goes.
+//
+//     expression := let name = expression in expression | \ name -> expression | name calls | number calls | ( expression ) calls
+//     calls      := (. member ( arguments )) calls or nothing
+//     arguments  := nothing or expression (, expression) ..
+//
+// Each function is the reader of its name in descent's Descent, run with any fuel that is enough.
+use crate::answer::Read;
+use crate::cursor;
+use crate::cursor::Cursor;
+use crate::scratch;
+use crate::scratch::Call;
+use crate::tokens;
+use crate::tokens::Lexed;
+ghost use mathlib.Core.Path.{_≡_};
+ghost use Prim.Native.Nat.{_-_, _≤_};
+ghost use Rattle.descent.specs.Cursor.{letKind, lambdaKind, openKind};
+ghost use Rattle.descent.specs.Descent.{firstGiven, nextGiven, inExpression, inCalls, inArguments, inMore};
+ghost use Rattle.reader.specs.Scratch.{callOf};
+ghost use Rattle.reader.specs.Parsing.{Ready, ReadyAt, Parses};
+ghost use Rattle.reader.specs.Reading.{Reading};
+
+// One less, down to 0.
+fn less(n: u8) -> u8
+    ensures { λ r. ⌜ r ≡ n - 1 ⌝ }
+{
+    if n == 0 { 0 } else { n - 1 }
+}
+
+// The call behind its first argument.
+fn first_given(root: usize, k: Call) -> Call
+    requires { ⌜ root ≤ 128 ⌝ }
+    ensures { λ r. ⌜ callOf r ≡ firstGiven root (callOf k) ⌝ }
+{
+    Call {
+        kind: k.kind,
+        takes: less(k.takes),
+        receiver: k.receiver,
+        place: k.place,
+        argument: root + 1,
+    }
+}
+
+// The call behind another argument.
+fn next_given(k: Call) -> Call
+    ensures { λ r. ⌜ callOf r ≡ nextGiven (callOf k) ⌝ }
+{
+    Call {
+        kind: k.kind,
+        takes: less(k.takes),
+        receiver: k.receiver,
+        place: k.place,
+        argument: k.argument,
+    }
+}
+
+// An expression; w: one begins where a member takes no argument.
+fn expression(
+    text: &[u8],
+    w: bool,
+    marks: usize,
+    depth: usize,
+    c: Cursor,
+    records: &mut [u64; 256],
+    places: &mut [u16; 128],
+    scope: &mut [u64; 32],
+) -> Cursor
+    requires { ⌜ Ready (inExpression w marks depth) (now text) c (now records) (now places) (now scope) ⌝ }
+    ensures { λ r. ⌜ Parses (inExpression w marks depth) (now (text .entry)) c (now (records .entry)) (now (places .entry)) (now (scope .entry)) r (now (records .exit)) (now (places .exit)) (now (scope .exit)) ⌝ }
+{
+    let x = tokens::token(text, c.at);
+    let kind = x.kind;
+    if kind == Lexed::LET {
+        return read_let(text, w, marks, depth, c, records, places, scope);
+    }
+    if kind == Lexed::LAMBDA {
+        return read_lambda(text, w, marks, depth, c, records, places, scope);
+    }
+    if kind == Lexed::OPEN {
+        return read_bracket(text, w, marks, depth, c, records, places, scope);
+    }
+    if kind == Lexed::WORD {
+        let a = scratch::read_name(text, w, depth, c, scope, records, places);
+        if a.number == 0 {
+            return calls(text, marks, depth, a, records, places, scope);
+        }
+        return a;
+    }
+    if kind == Lexed::NUMBER {
+        let a = scratch::read_number(text, w, c, records, places);
+        if a.number == 0 {
+            return calls(text, marks, depth, a, records, places, scope);
+        }
+        return a;
+    }
+    cursor::refused(text, 5, c)
+}
+
+// let name = expression in expression
+fn read_let(
+    text: &[u8],
+    w: bool,
+    marks: usize,
+    depth: usize,
+    c: Cursor,
+    records: &mut [u64; 256],
+    places: &mut [u16; 128],
+    scope: &mut [u64; 32],
+) -> Cursor
+    requires { ⌜ ReadyAt letKind (inExpression w marks depth) (now text) c (now records) (now places) (now scope) ⌝ }
+    ensures { λ r. ⌜ Parses (inExpression w marks depth) (now (text .entry)) c (now (records .entry)) (now (places .entry)) (now (scope .entry)) r (now (records .exit)) (now (places .exit)) (now (scope .exit)) ⌝ }
+{
+    let h = cursor::let_head(text, w, marks, c);
+    if h.number == 0 {
+        let v = expression(text, false, marks + 1, depth, h, records, places, scope);
+        if v.number == 0 {
+            let b = cursor::need(text, Lexed::IN, v);
+            if b.number == 0 {
+                scratch::enter(depth, h.name, v.root as u64 + 1, scope);
+                let r = expression(text, false, marks + 1, depth + 1, b, records, places, scope);
+                if r.number == 0 {
+                    scratch::mark(c.parts, r.root, places);
+                    r
+                } else {
+                    r
+                }
+            } else {
+                b
+            }
+        } else {
+            v
+        }
+    } else {
+        h
+    }
+}
+
+// \ name -> expression
+fn read_lambda(
+    text: &[u8],
+    w: bool,
+    marks: usize,
+    depth: usize,
+    c: Cursor,
+    records: &mut [u64; 256],
+    places: &mut [u16; 128],
+    scope: &mut [u64; 32],
+) -> Cursor
+    requires { ⌜ ReadyAt lambdaKind (inExpression w marks depth) (now text) c (now records) (now places) (now scope) ⌝ }
+    ensures { λ r. ⌜ Parses (inExpression w marks depth) (now (text .entry)) c (now (records .entry)) (now (places .entry)) (now (scope .entry)) r (now (records .exit)) (now (places .exit)) (now (scope .exit)) ⌝ }
+{
+    let h = cursor::lambda_head(text, w, marks, depth, scope, c);
+    if h.number == 0 {
+        scratch::enter(depth, h.name, 0, scope);
+        let r = expression(text, false, marks + 1, depth + 1, h, records, places, scope);
+        if r.number == 0 {
+            scratch::put(r, c.parts, 4, h.name, r.root + 1, 0, records, places)
+        } else {
+            r
+        }
+    } else {
+        h
+    }
+}
+
+// ( expression ) calls
+fn read_bracket(
+    text: &[u8],
+    w: bool,
+    marks: usize,
+    depth: usize,
+    c: Cursor,
+    records: &mut [u64; 256],
+    places: &mut [u16; 128],
+    scope: &mut [u64; 32],
+) -> Cursor
+    requires { ⌜ ReadyAt openKind (inExpression w marks depth) (now text) c (now records) (now places) (now scope) ⌝ }
+    ensures { λ r. ⌜ Parses (inExpression w marks depth) (now (text .entry)) c (now (records .entry)) (now (places .entry)) (now (scope .entry)) r (now (records .exit)) (now (places .exit)) (now (scope .exit)) ⌝ }
+{
+    let h = cursor::judged(text, cursor::at_bracket(w, marks), c);
+    if h.number == 0 {
+        let e = expression(text, false, marks + 1, depth, h, records, places, scope);
+        if e.number == 0 {
+            let a = cursor::need(text, Lexed::SHUT, e);
+            if a.number == 0 {
+                calls(text, marks, depth, a, records, places, scope)
+            } else {
+                a
+            }
+        } else {
+            e
+        }
+    } else {
+        h
+    }
+}
+
+// The calls on the record last read.
+fn calls(
+    text: &[u8],
+    marks: usize,
+    depth: usize,
+    c: Cursor,
+    records: &mut [u64; 256],
+    places: &mut [u16; 128],
+    scope: &mut [u64; 32],
+) -> Cursor
+    requires { ⌜ Ready (inCalls marks depth) (now text) c (now records) (now places) (now scope) ⌝ }
+    ensures { λ r. ⌜ Parses (inCalls marks depth) (now (text .entry)) c (now (records .entry)) (now (places .entry)) (now (scope .entry)) r (now (records .exit)) (now (places .exit)) (now (scope .exit)) ⌝ }
+{
+    let x = tokens::token(text, c.at);
+    if x.kind == Lexed::DOT {
+        let h = cursor::call_head(text, marks, c);
+        if h.number == 0 {
+            let k = Call {
+                kind: h.name,
+                takes: h.takes,
+                receiver: c.root,
+                place: c.parts,
+                argument: 0,
+            };
+            arguments(text, k, marks, depth, h, records, places, scope)
+        } else {
+            h
+        }
+    } else {
+        c
+    }
+}
+
+// What stands behind the bracket of a call.
+fn arguments(
+    text: &[u8],
+    k: Call,
+    marks: usize,
+    depth: usize,
+    c: Cursor,
+    records: &mut [u64; 256],
+    places: &mut [u16; 128],
+    scope: &mut [u64; 32],
+) -> Cursor
+    requires { ⌜ Ready (inArguments (callOf k) marks depth) (now text) c (now records) (now places) (now scope) ⌝ }
+    ensures { λ r. ⌜ Parses (inArguments (callOf k) marks depth) (now (text .entry)) c (now (records .entry)) (now (places .entry)) (now (scope .entry)) r (now (records .exit)) (now (places .exit)) (now (scope .exit)) ⌝ }
+{
+    let x = tokens::token(text, c.at);
+    if x.kind == Lexed::SHUT {
+        let a = scratch::read_shut(text, k, c, records, places);
+        if a.number == 0 {
+            calls(text, marks, depth, a, records, places, scope)
+        } else {
+            a
+        }
+    } else {
+        let a = expression(
+            text,
+            k.takes == 0,
+            marks + 1,
+            depth,
+            c,
+            records,
+            places,
+            scope,
+        );
+        if a.number == 0 {
+            more(
+                text,
+                first_given(a.root, k),
+                marks,
+                depth,
+                a,
+                records,
+                places,
+                scope,
+            )
+        } else {
+            a
+        }
+    }
+}
+
+// What stands behind an argument.
+fn more(
+    text: &[u8],
+    k: Call,
+    marks: usize,
+    depth: usize,
+    c: Cursor,
+    records: &mut [u64; 256],
+    places: &mut [u16; 128],
+    scope: &mut [u64; 32],
+) -> Cursor
+    requires { ⌜ Ready (inMore (callOf k) marks depth) (now text) c (now records) (now places) (now scope) ⌝ }
+    ensures { λ r. ⌜ Parses (inMore (callOf k) marks depth) (now (text .entry)) c (now (records .entry)) (now (places .entry)) (now (scope .entry)) r (now (records .exit)) (now (places .exit)) (now (scope .exit)) ⌝ }
+{
+    let x = tokens::token(text, c.at);
+    let kind = x.kind;
+    if kind == Lexed::SHUT {
+        let a = scratch::read_shut(text, k, c, records, places);
+        if a.number == 0 {
+            return calls(text, marks, depth, a, records, places, scope);
+        }
+        return a;
+    }
+    if kind == Lexed::COMMA {
+        let h = cursor::judged(text, cursor::at_comma(k.takes), c);
+        if h.number == 0 {
+            let a = expression(text, false, marks + 1, depth, h, records, places, scope);
+            if a.number == 0 {
+                return more(text, next_given(k), marks, depth, a, records, places, scope);
+            }
+            return a;
+        }
+        return h;
+    }
+    cursor::refused(text, 5, c)
+}
+
+// Reads a whole text, over scratch arrays of any contents: an expression, and then the end. 01's refusals 5 to 12 are given by the lowest number
+// at the first place.
+pub fn read(text: &[u8], records: &mut [u64; 256], places: &mut [u16; 128]) -> Read
+    ensures { λ r. ⌜ Reading (now (text .entry)) (now (records .entry)) (now (places .entry)) r (now (records .exit)) (now (places .exit)) ⌝ }
+{
+    let mut scope = [0u64; 32];
+    let start = Cursor {
+        at: 0,
+        parts: 0,
+        count: 0,
+        root: 0,
+        name: 0,
+        takes: 0,
+        number: 0,
+        place: 0,
+    };
+    let a = expression(text, false, 0, 0, start, records, places, &mut scope);
+    if a.number == 0 {
+        let x = tokens::token(text, a.at);
+        if x.kind == Lexed::END {
+            Read::Done {
+                parts: a.parts as u16,
+                records: a.count as u16,
+                root: a.root as u16,
+            }
+        } else {
+            Read::Refused {
+                number: 5,
+                place: x.start,
+            }
+        }
+    } else {
+        Read::Refused {
+            number: a.number,
+            place: a.place,
+        }
+    }
+}
