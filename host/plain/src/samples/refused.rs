@@ -31,6 +31,7 @@ pub fn refused_texts() -> Vec<RefusedText> {
         lambdas(),
         open_marks(),
         parts(),
+        proved(),
     ];
     lists.into_iter().flatten().collect()
 }
@@ -348,4 +349,30 @@ fn parts() -> Vec<RefusedText> {
         refused(format!("let x = {calls_63} in heartrate"), 7, end + 12),
         refused(format!("let x = {calls_63} in let data = 1 in 1"), 12, end + 12),
     ]
+}
+
+/// What `crates/formulas/specs/Refusals.antt` proves of the definitions and no list above has.
+fn proved() -> Vec<RefusedText> {
+    let mut texts = list(&[
+        ("data.count(=", 5, 11),
+        ("data.count(2147483648", 6, 11),
+        ("data.count(heartrate", 7, 11),
+        ("data.count(\\a -> 1)", 9, 11),
+        ("data.count((1))", 9, 11),
+        ("data.count(let x = 1 in x)", 9, 11),
+        ("data.skip(,", 5, 10),
+        ("data.pace()", 9, 5),
+        ("data.heartrate()", 9, 5),
+        ("data.data()", 9, 5),
+        ("let x 1 in 2", 5, 6),
+        ("x -1", 5, 2),
+        ("data.sum().", 5, 11),
+        ("1.add(2))", 5, 8),
+    ]);
+    let fourteen = format!("\\a -> \\b -> {}", "(".repeat(14));
+    texts.push(refused(format!("{fourteen}\\c -> 1"), 10, 26));
+    texts.push(refused(format!("{fourteen}let c = 1 in 2"), 12, 26));
+    texts.push(refused(format!("\\a -> 1{}.sum()", ".add(1)".repeat(63)), 12, 448));
+    texts.push(refused(b"data\xc8", 5, 4));
+    texts
 }
