@@ -1,11 +1,11 @@
--- 01, "Four calls" and "When a call is declined": what open and edit answer and what they leave in the lent memory, for every text,
--- recording, number and memory. Assumes nothing: these are definitions.
+-- 01, "Four calls" and "When a call is declined": what open, edit and preview answer and what they leave in the lent memory, and what fetch
+-- hands out, for every text, recording, number and memory. Assumes nothing: these are definitions.
 use mathlib.Core.Bool.{Bool, true, false, cond, not, _&&_, _||_}
 use mathlib.Core.List.{List, [], _∷_, _++_, map}
 use Prim.Native.Nat.{ℕ, zero, suc, _-_}
 use lib.Dec.{leb, ltb}
 use lib.IntN.{ℤ}
-use lib.ListN.{length, getD, set, drop}
+use lib.ListN.{length, getD, set, take, drop}
 use Rattle.language.specs.Limits.{textBytes, textParts, tableEntries, tableReadings}
 use Rattle.grammar.specs.Grammar.{Expression}
 use Rattle.grammar.specs.Reading.{Reading, tree, refused as refusedAt}
@@ -13,12 +13,17 @@ use Rattle.grammar.specs.Machine.{readText}
 use Rattle.records.specs.Records.{Recorded, recordsOf}
 use Rattle.model.specs.Model.{Answer, refused, opened, edited, notYet, finished, written}
 use Rattle.formulas.specs.Formulas.{formulas}
-use Rattle.table.specs.Memory.{Memory, Node, fits, entryCount, entriesOf, nodesOf}
+use Rattle.values.specs.declared.Value.{Value}
+use Rattle.values.specs.declared.Value.the-variants.{Number, Window, Function, Delayed, Missing}
+use Rattle.values.specs.Packing.{unpackOf}
+use Rattle.table.specs.Memory.{Memory, Node, fits, entryCount, readingCount, recordingOf, entriesOf, nodesOf}
 use Rattle.table.specs.WellFormed.{wellFormed}
 use Rattle.table.specs.Bind.{Bound, bindAll, appendAll}
-
-abbrev pub Reply : Type 0
-Reply = Answer formulas
+use Rattle.evaluator.specs.Frames.{startAt}
+use Rattle.evaluator.specs.Works.{Work, worked, showOf}
+use Rattle.engine.specs.declared.answers.Previewed.{Previewed}
+use Rattle.engine.specs.declared.answers.Previewed.the-variants.{NotYet, Finished, Refused}
+use Rattle.engine.specs.Answers.{Reply, previewReply}
 
 abbrev pub pickMemory : Bool → Memory → Memory → Memory
 pickMemory true m n = m
@@ -84,3 +89,55 @@ editMemory m places text = pickMemory (declines m places text) m (readMemory m (
 -- the first parts' places get their numbers, and the others keep their contents
 abbrev pub editPlaces : Memory → (places text : List ℕ) → List ℕ
 editPlaces m places text = written formulas (editAnswer m places text) places
+
+-- Preview: the work on entry n, up to the allowance.
+abbrev pub workOn : Memory → ℕ → ℕ → Work
+workOn m n a = worked (recordingOf m) (m .links) (m .cells) n a
+
+abbrev pub workedMemory : Memory → Work → Memory
+workedMemory m w = record { readings = m .readings; heads = m .heads; links = m .links; cells = w .cells }
+
+abbrev pub pickPreview : Bool → Previewed → Previewed → Previewed
+pickPreview true a b = a
+pickPreview false a b = b
+
+-- what the entry shows, unless some of the work is left
+abbrev pub previewedAs : Memory → ℕ → Work → Previewed
+previewedAs m n w = pickPreview (w .left) (NotYet (w .count)) (Finished (w .count) (showOf (readingCount m) (m .links) (w .cells) n))
+
+unfoldable pub previewed : Memory → (number allowance : ℕ) → Previewed
+previewed m n a =
+    pickPreview (not (fits m)) (Refused 3)
+    (pickPreview (not (wellFormed m)) (Refused 4)
+    (pickPreview (not (ltb n (entryCount m))) (Refused 14)
+    (previewedAs m n (workOn m n a))))
+
+abbrev pub previewAnswer : Memory → (number allowance : ℕ) → Reply
+previewAnswer m n a = previewReply (previewed m n a)
+
+unfoldable pub previewMemory : Memory → (number allowance : ℕ) → Memory
+previewMemory m n a = pickMemory (fits m && (wellFormed m && ltb n (entryCount m))) (workedMemory m (workOn m n a)) m
+
+-- Fetch: the part of the readings that entry n shows, as far as it is a window that is worked out; else the empty part at the start.
+pub record Part : Type 0 where
+  pub start : ℕ
+  pub length : ℕ
+
+abbrev pub windowIn : Value → Part
+windowIn (Window s l) = record { start = s; length = l }
+windowIn (Number z) = record { start = 0; length = 0 }
+windowIn Function = record { start = 0; length = 0 }
+windowIn Delayed = record { start = 0; length = 0 }
+windowIn (Missing r) = record { start = 0; length = 0 }
+
+abbrev pub pickPart : Bool → Part → Part → Part
+pickPart true a b = a
+pickPart false a b = b
+
+unfoldable pub partOf : Memory → ℕ → Part
+partOf m n =
+    pickPart (fits m && (wellFormed m && ltb n (entryCount m))) (windowIn (unpackOf (startAt (readingCount m) (m .links) (m .cells) n)))
+    (record { start = 0; length = 0 })
+
+abbrev pub fetched : Memory → ℕ → List ℤ
+fetched m n = take (partOf m n .length) (drop (partOf m n .start) (m .readings))

@@ -1,1 +1,2 @@
-// The engine: open, edit, preview and fetch over lent memory.
+// The engine: open, edit, preview and fetch.
+pub mod answers;

@@ -19,7 +19,7 @@ use Rattle.model.specs.Preserved.{never-four}
 use Rattle.model.specs.Numbers.{one-number, its-number}
 use Rattle.model.specs.Counts.{once}
 use Rattle.model.specs.Lasting.{recording-last}
-use Rattle.model.specs.Progress.{in-time, work-kept}
+use Rattle.model.specs.Progress.{in-time, finished-is, work-kept}
 use Rattle.model.specs.Fresh.{Afresh, fresh}
 use Rattle.model.specs.Engine.{Engine, Sent, told, sendWhole, machine, Implements}
 use Rattle.model.specs.Agreement.{accepted, opens, agree, carry, carry-log, carry-end}
@@ -91,6 +91,8 @@ module _ (L : Language) (H : Laws L) (E : Engine L) where
       pub arranged : Ok last
       pub invariant : Invariant L H (holds last)
       pub never-four : All (λ (x : Answer L). (place : ℕ) → x ≡ refused 4 place → ⊥) replies
+      -- What a finished preview of a part shows is what its let-free form shows over the recording, by evaluation.
+      pub shown : (x : Part L) → Given x → (c : Sent E) (v : Shown) → Finishes last c (x .number) v → v ≡ shows (holds last .recording) (x .form)
       -- Whatever was sent before, a finished preview of a part shows what its text, as the first edit after an opening over the same recording,
       -- shows in the end.
       pub fresh : (x : Part L) → Given x → (c : Sent E) (v : Shown) → Finishes last c (x .number) v
@@ -152,6 +154,11 @@ module _ (L : Language) (H : Laws L) (E : Engine L) where
           arranged = run .cache .ok;
           invariant = i;
           never-four = rw s (never-four L H (start L r) (calls m r cs));
+          shown =
+              λ x ix c v fin.
+              let asks = fin .asks in
+              let says = sym (agree L H E I (last m r cs) c (rw asks tt) (run .cache) .answer) ∙ fin .answers in
+              finished-is L H (holds (last m r cs)) (told E c) (x .number) (fin .allowance) (x .form) (fin .worked) v asks (stands x ix) says .shown;
           fresh =
               λ x ix c v fin n places a fits-n room la.
               let asks = fin .asks in

@@ -1,0 +1,73 @@
+-- 01's number and values of each case of the enums that the calls answer, and of what is shown. Assumes nothing: these are definitions.
+use mathlib.Core.Bool.{Bool, true, false, cond}
+use mathlib.Core.List.{List, [], _∷_}
+use Prim.Native.Nat.{ℕ}
+use lib.Dec.{eqb}
+use lib.IntN.{natAbs, pos}
+use Rattle.meaning.specs.Evaluation.{Shown, aNumber, aWindow, aFunction, aDelay, aReason}
+use Rattle.model.specs.Model.{Answer, refused, opened, edited, notYet, finished}
+use Rattle.formulas.specs.Formulas.{formulas}
+use Rattle.evaluator.specs.declared.works.View.{View}
+use Rattle.engine.specs.declared.answers.Opened.{Opened}
+use Rattle.engine.specs.declared.answers.Opened.the-variants as O
+use Rattle.engine.specs.declared.answers.Edited.{Edited}
+use Rattle.engine.specs.declared.answers.Edited.the-variants as E
+use Rattle.engine.specs.declared.answers.Previewed.{Previewed}
+use Rattle.engine.specs.declared.answers.Previewed.the-variants as P
+use Rattle.engine.specs.declared.answers.EditAnswer.{EditAnswer}
+use Rattle.engine.specs.declared.answers.PreviewAnswer.{PreviewAnswer}
+
+-- the answers of the reference model
+abbrev pub Reply : Type 0
+Reply = Answer formulas
+
+-- the answer of an open, which is one of the first two, and of an edit, which is the first or the third
+abbrev pub openedOf : Reply → Opened
+openedOf (refused n at) = O.Refused n
+openedOf opened = O.Done
+openedOf (edited whole parts added numbers) = O.Done
+openedOf (notYet k) = O.Done
+openedOf (finished k v) = O.Done
+
+abbrev pub editedOf : Reply → Edited
+editedOf (refused n at) = E.Refused n at
+editedOf opened = E.Done 0 0 0
+editedOf (edited whole parts added numbers) = E.Done whole parts added
+editedOf (notYet k) = E.Done 0 0 0
+editedOf (finished k v) = E.Done 0 0 0
+
+-- what is shown: 1 a number, 2 a window, 3 a function, 4 a delay with one name or two, 5 a reason
+abbrev pub pickShown : Bool → Shown → Shown → Shown
+pickShown true a b = a
+pickShown false a b = b
+
+abbrev pub namesOf : ℕ → ℕ → List ℕ
+namesOf name other = cond (eqb other 0) (name ∷ []) (name ∷ other ∷ [])
+
+unfoldable pub shownOf : View → Shown
+shownOf v =
+    pickShown (eqb (v .kind) 1) (aNumber (v .first))
+    (pickShown (eqb (v .kind) 2) (aWindow (natAbs (v .first)) (v .second))
+    (pickShown (eqb (v .kind) 3) (aFunction (v .name))
+    (pickShown (eqb (v .kind) 4) (aDelay (namesOf (v .name) (v .other)))
+    (aReason (natAbs (v .first))))))
+
+abbrev pub previewReply : Previewed → Reply
+previewReply (P.NotYet k) = notYet k
+previewReply (P.Finished k v) = finished k (shownOf v)
+previewReply (P.Refused n) = refused n 0
+
+-- the answers as plain numbers, for callers in C: a refusal's number, 0 for an accepted call, and then its values
+abbrev pub openNumber : Opened → ℕ
+openNumber O.Done = 0
+openNumber (O.Refused n) = n
+
+abbrev pub editNumbers : Edited → EditAnswer
+editNumbers (E.Done whole parts added) = record { refusal = 0; place = 0; whole = whole; parts = parts; added = added }
+editNumbers (E.Refused n at) = record { refusal = n; place = at; whole = 0; parts = 0; added = 0 }
+
+abbrev pub previewNumbers : Previewed → PreviewAnswer
+previewNumbers (P.NotYet k) = record { refusal = 0; finished = 0; worked = k; kind = 0; first = pos 0; second = 0; name = 0; other = 0 }
+previewNumbers (P.Finished k v) =
+    record { refusal = 0; finished = 1; worked = k; kind = v .kind; first = v .first; second = v .second; name = v .name; other = v .other }
+previewNumbers (P.Refused n) = record { refusal = n; finished = 0; worked = 0; kind = 0; first = pos 0; second = 0; name = 0; other = 0 }

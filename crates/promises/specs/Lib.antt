@@ -1,0 +1,3 @@
+pub mod Lending
+pub mod Declined
+pub mod Outside

@@ -1,0 +1,158 @@
+-- Cells lent beyond the sizes, and places past the part count, keep their contents whatever is called. Assumes nothing.
+use mathlib.Core.Path.{_≡_, refl, sym, ap, _∙_}
+use mathlib.Core.Bool.{Bool, true, false, cond, not, _&&_, _||_}
+use mathlib.Core.List.{List, [], _∷_, _++_}
+use Prim.Native.Nat.{ℕ, zero, suc, _+_, _*_, _-_, _≤_, _<_}
+use native.Mathlib.Omega.{arith}
+use borrow.Author.Tests.{ltb-true, ltb-false, leb-true}
+use lib.Dec.{leb, ltb}
+use lib.IntN.{ℤ}
+use lib.ListN.{length, getD, set, drop, length-set, length-drop}
+use lib.Seq.{drop-set-lt, getD-set-same}
+use Rattle.language.specs.Limits.{textBytes, textParts, tableEntries, tableReadings}
+use Rattle.meaning.specs.FormsLaws.{and-left}
+use Rattle.grammar.specs.Reading.{Reading, tree, refused as refusedAt}
+use Rattle.grammar.specs.Machine.{readText}
+use Rattle.model.specs.Cases.{impossible, split}
+use Rattle.table.specs.Memory.{Memory, Node, fits, entryCount}
+use Rattle.table.specs.WellFormed.{wellFormed}
+use Rattle.table.specs.Bind.{Bound, append, appendAll}
+use Rattle.evaluator.specs.Works.{chosen, nameFor, otherFor, keepOf, kept, Work, workFrom, worked}
+use Rattle.records.specs.Records.{recordsOf}
+use Rattle.engine.specs.Calls.{openedMemory, openMemory, boundTo, tooMany, editedMemory, readMemory, declines, editMemory, workOn, workedMemory, previewMemory}
+use Rattle.demand.specs.Appended.{Lengths, lengths}
+
+pub record Outside (m n : Memory) : Type 0 where
+  pub readings : drop tableReadings (n .readings) ≡ drop tableReadings (m .readings)
+  pub heads : drop 2 (n .heads) ≡ drop 2 (m .heads)
+  pub links : drop (3 * tableEntries) (n .links) ≡ drop (3 * tableEntries) (m .links)
+  pub cells : drop (4 * tableEntries) (n .cells) ≡ drop (4 * tableEntries) (m .cells)
+
+same : (m : Memory) → Outside m m
+same m = record { readings = refl; heads = refl; links = refl; cells = refl }
+
+-- open
+drop-none : {A : Type 0} (k : ℕ) → drop {A = A} k [] ≡ []
+drop-none zero = refl
+drop-none (suc k) = refl
+
+behind : {A : Type 0} (n : ℕ) (r xs : List A) → length r ≤ n → drop n (r ++ drop (length r) xs) ≡ drop n xs
+behind n [] xs h = refl
+behind zero (x ∷ r) xs h = absurd (omega arith)
+behind (suc n) (x ∷ r) [] h = ap (λ l. drop n (r ++ l)) (sym (drop-none (length r))) ∙ behind n r [] (omega arith) ∙ drop-none n
+behind (suc n) (x ∷ r) (y ∷ ys) h = behind n r ys (omega arith)
+
+pub open-outside : (m : Memory) (r : List ℤ) → Outside m (openMemory m r)
+unfolding openMemory
+open-outside m r =
+    split (ltb tableReadings (length r)) (λ p. rw p (same m))
+    (λ p. split (fits m) (λ q. rw (p, q) (opened (ltb-false tableReadings (length r) p))) (λ q. rw (p, q) (same m)))
+  where
+    opened : length r ≤ tableReadings → Outside m (openedMemory m r)
+    opened h =
+        record {
+          readings = behind tableReadings r (m .readings) h;
+          heads = drop-set-lt 2 (set (m .heads) 0 0) 1 (length r) (omega arith) ∙ drop-set-lt 2 (m .heads) 0 0 (omega arith);
+          links = refl;
+          cells = refl;
+        }
+
+-- three cells set before the nth
+three-before : (n : ℕ) (l : List ℕ) (i j k x y z : ℕ) → i < n → j < n → k < n → drop n (set (set (set l i x) j y) k z) ≡ drop n l
+three-before n l i j k x y z hi hj hk = drop-set-lt n (set (set l i x) j y) k z hk ∙ drop-set-lt n (set l i x) j y hj ∙ drop-set-lt n l i x hi
+
+-- edit
+module _ (m : Memory) (n : Node) (l : entryCount m < tableEntries) where
+  append-outside : Outside m (append m n)
+  unfolding append
+  append-outside =
+      let k : ℕ = entryCount m in
+      record {
+        readings = refl;
+        heads = drop-set-lt 2 (m .heads) 0 (suc k) (omega arith);
+        links = three-before 1536 (m .links) (3 * k) (3 * k + 1) (3 * k + 2) (n .kind) (n .first) (n .second) (omega arith) (omega arith) (omega arith);
+        cells =
+            three-before 2048 (set (m .cells) (4 * k) (n .key)) (4 * k + 1) (4 * k + 2) (4 * k + 3) 0 0 0 (omega arith) (omega arith) (omega arith)
+            ∙ drop-set-lt 2048 (m .cells) (4 * k) (n .key) (omega arith);
+      }
+
+  one-more : 0 < length (m .heads) → entryCount (append m n) ≡ suc (entryCount m)
+  unfolding append
+  one-more h = getD-set-same (m .heads) 0 (suc (entryCount m)) 0 h
+
+  same-heads : length (append m n .heads) ≡ length (m .heads)
+  unfolding append
+  same-heads = length-set (m .heads) 0 (suc (entryCount m))
+
+both : (a b c : Memory) → Outside a b → Outside b c → Outside a c
+both a b c p q =
+    record {
+      readings = q .readings ∙ p .readings;
+      heads = q .heads ∙ p .heads;
+      links = q .links ∙ p .links;
+      cells = q .cells ∙ p .cells;
+    }
+
+appended-outside : (m : Memory) (ns : List Node) → 0 < length (m .heads) → entryCount m + length ns ≤ tableEntries → Outside m (appendAll m ns)
+unfolding appendAll
+appended-outside m [] h l = same m
+appended-outside m (n ∷ ns) h l =
+    let less : entryCount m < tableEntries = omega arith in
+    let c = one-more m n less h in
+    let s = same-heads m n less in
+    both m (append m n) (appendAll (append m n) ns) (append-outside m n less) (appended-outside (append m n) ns (omega arith) (omega arith))
+
+edited-outside : (m : Memory) (b : Bound) → 0 < length (m .heads) → entryCount m ≤ tableEntries → Outside m (editedMemory m b)
+edited-outside m b h few =
+    split (tooMany b) (λ p. rw p (same m))
+    (λ p.
+    let l = ltb-false tableEntries (length (b .nodes)) p in
+    let d = length-drop (entryCount m) (b .nodes) in
+    rw p (appended-outside m (drop (entryCount m) (b .nodes)) h (omega arith)))
+
+few-entries : (m : Memory) → wellFormed m ≡ true → entryCount m ≤ tableEntries
+unfolding wellFormed
+few-entries m w = leb-true _ _ (and-left _ _ w)
+
+read-outside : (m : Memory) (x : Reading) → fits m ≡ true → wellFormed m ≡ true → Outside m (readMemory m x)
+unfolding readMemory
+read-outside m (refusedAt n at) f w = same m
+read-outside m (tree e) f w = let l = lengths m f .heads in edited-outside m (boundTo m (recordsOf e)) (omega arith) (few-entries m w)
+
+pub edit-outside : (m : Memory) (places text : List ℕ) → Outside m (editMemory m places text)
+unfolding editMemory
+edit-outside m places text =
+    split (ltb textBytes (length text)) (λ p. rw p (same m))
+    (λ p. split (fits m && leb textParts (length places))
+    (λ q. split (wellFormed m) (λ w. rw (p, q, w) (read-outside m (readText text) (and-left _ _ q) w)) (λ w. rw (p, q, w) (same m)))
+    (λ q. rw (p, q) (same m)))
+
+-- preview
+kept-outside : (cells : List ℕ) (i c name other : ℕ) → i < tableEntries → drop 2048 (keepOf cells i c name other) ≡ drop 2048 cells
+unfolding keepOf
+kept-outside cells i c name other h = three-before 2048 cells (4 * i + 1) (4 * i + 2) (4 * i + 3) c name other (omega arith) (omega arith) (omega arith)
+
+work-outside : (value : List ℕ → ℕ → ℕ) (links waits flags : List ℕ) (a k i : ℕ) (cells frame : List ℕ) (count : ℕ) → i + k ≤ tableEntries
+    → drop 2048 (workFrom value links waits flags a k i cells frame count .cells) ≡ drop 2048 cells
+unfolding workFrom
+work-outside value links waits flags a zero i cells frame count h = refl
+work-outside value links waits flags a (suc k) i cells frame count h =
+    split (chosen links flags frame i)
+    (λ p. split (ltb count a)
+    (λ q. rw (p, q) (work-outside value links waits flags a k (suc i) (kept cells i (value frame i) (getD waits i 0)) (set frame i (value frame i)) (suc count) (omega arith) ∙ kept-outside cells i (value frame i) (nameFor cells i (value frame i) (getD waits i 0)) (otherFor cells (value frame i) (getD waits i 0)) (omega arith)))
+    (λ q. rw (p, q)))
+    (λ p. rw p (work-outside value links waits flags a k (suc i) cells frame count (omega arith)))
+
+pub preview-outside : (m : Memory) (n a : ℕ) → Outside m (previewMemory m n a)
+unfolding previewMemory worked
+preview-outside m n a =
+    split (fits m && (wellFormed m && ltb n (entryCount m)))
+    (λ p. rw p (by (and-left _ _ (right (fits m) _ p)) (ltb-true _ _ (right (wellFormed m) _ (right (fits m) _ p)))))
+    (λ p. rw p (same m))
+  where
+    right : (a b : Bool) → (a && b) ≡ true → b ≡ true
+    right true b e = e
+    right false b e = impossible e
+
+    by : wellFormed m ≡ true → n < entryCount m → Outside m (workedMemory m (workOn m n a))
+    by w l = let few = few-entries m w in record { readings = refl; heads = refl; links = refl; cells = work-outside _ _ _ _ a (suc n) 0 (m .cells) _ 0 (omega arith) }

@@ -1,0 +1,1 @@
+// What the engine promises over every run of calls: definitions and theorems alone.
