@@ -8,3 +8,5 @@ pub mod Delays
 pub mod Fitting
 pub mod Cells
 pub mod Accepted
+pub mod Needs
+pub mod Starts
