@@ -6,3 +6,4 @@ pub mod Kinds
 pub mod Meaning
 pub mod Shows
 pub mod Counts
+pub mod Waiting
