@@ -10,3 +10,5 @@ pub mod Cells
 pub mod Accepted
 pub mod Needs
 pub mod Starts
+pub mod Working
+pub mod Previewing

@@ -1,3 +1,5 @@
 pub mod Lending
+pub mod Implementing
 pub mod Declined
 pub mod Outside
+pub mod Promises

@@ -1,0 +1,63 @@
+-- What the engine promises, on one page. The calls are those of engine's Calls, which the contracts of the exported functions cite; what each
+-- of these theorems says is written out where it is named. Assumes nothing.
+--   1. Any call gets a result or a numbered refusal: the definitions of Calls are total, and the exported functions ask for nothing. A refusal
+--      changes no lent memory (Declined), and cells beyond the sizes keep their contents (Outside).
+--   2. A text is read exactly if a tree of the grammar spells its tokens and keeps the limits, and is refused exactly where 01 says. What a
+--      finished preview of a part shows is what evaluation gives for its let-free form.
+--   3. Over every list of calls after an opening the engine answers as the reference model does, and ends holding what it holds (model's Demand).
+use mathlib.Core.Path.{_≡_}
+use mathlib.Core.Logic.{_↔_}
+use mathlib.Core.List.{List, map}
+use Prim.Native.Nat.{ℕ}
+use lib.IntN.{ℤ}
+use Rattle.grammar.specs.Grammar.{Expression, Spells}
+use Rattle.grammar.specs.KeptLimits.{KeepsLimits}
+use Rattle.grammar.specs.Reading.{tree, refused as refusedAt, RefusedBy, placeOf, tokensOf}
+use Rattle.grammar.specs.Machine.{readText}
+use Rattle.grammar.specs.Theorems.{text-read-plainly, text-refused}
+use Rattle.model.specs.Lists.{All}
+use Rattle.model.specs.Model.{refused, opened}
+use Rattle.model.specs.Since.{Sendable}
+use Rattle.model.specs.Engine.{Sent, told}
+use Rattle.model.specs.Demand.{Demand, demand}
+use Rattle.formulas.specs.Formulas.{IsReading, formulas}
+use Rattle.bridge.specs.FormulaLaws.{formula-laws}
+use Rattle.table.specs.Memory.{Memory}
+use Rattle.engine.specs.declared.answers.Previewed.the-variants.{Refused}
+use Rattle.engine.specs.Calls.{openAnswer, openMemory, editAnswer, editMemory, editPlaces, previewed, previewMemory}
+use Rattle.promises.specs.Implementing.{engine, implements}
+use Rattle.promises.specs.Declined as Declined
+use Rattle.promises.specs.Outside as Outside
+
+-- 1. A declined call changes nothing.
+pub open-declined : (m : Memory) (r : List ℤ) (n at : ℕ) → openAnswer m r ≡ refused n at → openMemory m r ≡ m
+open-declined = Declined.open-declined
+
+pub edit-declined : (m : Memory) (places text : List ℕ) (n at : ℕ) → editAnswer m places text ≡ refused n at
+    → (editMemory m places text ≡ m) × (editPlaces m places text ≡ places)
+edit-declined = Declined.edit-declined
+
+pub preview-declined : (m : Memory) (n a k : ℕ) → previewed m n a ≡ Refused k → previewMemory m n a ≡ m
+preview-declined = Declined.preview-declined
+
+-- Cells beyond the sizes keep their contents.
+pub open-outside : (m : Memory) (r : List ℤ) → Outside.Outside m (openMemory m r)
+open-outside = Outside.open-outside
+
+pub edit-outside : (m : Memory) (places text : List ℕ) → Outside.Outside m (editMemory m places text)
+edit-outside = Outside.edit-outside
+
+pub preview-outside : (m : Memory) (n a : ℕ) → Outside.Outside m (previewMemory m n a)
+preview-outside = Outside.preview-outside
+
+-- 2. The reader.
+pub read-exactly : (text : List ℕ) (e : Expression) → (readText text ≡ tree e) ↔ (Spells e (tokensOf text) × KeepsLimits e)
+read-exactly = text-read-plainly
+
+pub refused-exactly : (text : List ℕ) (n p : ℕ) → (readText text ≡ refusedAt n p) ↔ ((j : ℕ) × RefusedBy (tokensOf text) n j × (p ≡ placeOf text j))
+refused-exactly = text-refused
+
+-- 3. Memory of any contents is opened, and then any calls are sent. The readings of a recording are within signed 32 bits.
+pub demand-three : (m : Memory) (r : List ℤ) (cs : List (Sent engine)) → openAnswer m r ≡ opened → All IsReading r → Sendable formulas (map (told engine) cs)
+    → Demand formulas formula-laws engine m r cs
+demand-three = demand formulas formula-laws engine implements
