@@ -1,13 +1,16 @@
 -- What the calls promise: the answer, and every cell of every lent slice. Assumes nothing: these are definitions.
 use mathlib.Core.Path.{_≡_}
 use mathlib.Core.List.{List}
-use Prim.Native.Nat.{ℕ}
+use Prim.Native.Nat.{ℕ, _<_}
 use lib.IntN.{ℤ}
 use Rattle.table.specs.Memory.{Memory}
 use Rattle.engine.specs.declared.answers.Opened.{Opened}
 use Rattle.engine.specs.declared.answers.Edited.{Edited}
+use Rattle.engine.specs.declared.answers.Edited.the-variants as Edit
 use Rattle.engine.specs.declared.answers.Previewed.{Previewed}
-use Rattle.engine.specs.Answers.{openedOf, editedOf}
+use Rattle.engine.specs.declared.answers.EditAnswer.{EditAnswer}
+use Rattle.engine.specs.declared.answers.PreviewAnswer.{PreviewAnswer}
+use Rattle.engine.specs.Answers.{openedOf, editedOf, openNumber, editNumbers, previewNumbers}
 use Rattle.engine.specs.Calls.{openAnswer, openMemory, editAnswer, editMemory, editPlaces, previewed, previewMemory}
 
 -- the memory m before a call and m′ after it
@@ -23,3 +26,22 @@ pub record Edits (m : Memory) (places text : List ℕ) (m′ : Memory) (places�
 pub record Previews (m : Memory) (entry allowance : ℕ) (m′ : Memory) (r : Previewed) : Type 0 where
   pub answer : r ≡ previewed m entry allowance
   pub memory : m′ ≡ previewMemory m entry allowance
+
+-- the same for C, with the answers as numbers
+pub record OpensForC (m : Memory) (recording : List ℤ) (m′ : Memory) (r : ℕ) : Type 0 where
+  pub answer : r ≡ openNumber (openedOf (openAnswer m recording))
+  pub memory : m′ ≡ openMemory m recording
+
+pub record EditsForC (m : Memory) (places text : List ℕ) (m′ : Memory) (places′ : List ℕ) (r : EditAnswer) : Type 0 where
+  pub answer : r ≡ editNumbers (editedOf (editAnswer m places text))
+  pub memory : m′ ≡ editMemory m places text
+  pub placed : places′ ≡ editPlaces m places text
+
+pub record PreviewsForC (m : Memory) (entry allowance : ℕ) (m′ : Memory) (r : PreviewAnswer) : Type 0 where
+  pub answer : r ≡ previewNumbers (previewed m entry allowance)
+  pub memory : m′ ≡ previewMemory m entry allowance
+
+-- a refusal's place is a number of 32 bits
+abbrev pub PlaceFits : Edited → Type 0
+PlaceFits (Edit.Done whole parts added) = Unit {0}
+PlaceFits (Edit.Refused n at) = at < 4294967296

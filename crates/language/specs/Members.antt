@@ -1,15 +1,16 @@
 -- 01, "Members": the table of the members, a row for each, in 01's order. Assumes nothing: these are definitions.
 use mathlib.Core.Bool.{Bool, true, false, _&&_}
 use mathlib.Core.List.{List, [], _∷_, _++_}
-use Prim.Native.Nat.{ℕ, zero, suc, _-_, _/_, _%_}
+use Prim.Native.Nat.{ℕ, zero, suc, _-_}
 use Prim.Native.String.{String}
 use lib.Dec.{eqb}
-use lib.ListN.{length, getD, replicate}
+use lib.ListN.{length, replicate}
 use Rattle.language.specs.Names.{bytes}
 use Rattle.language.specs.declared.members.Member.{Member}
 use Rattle.language.specs.declared.members.Member.the-variants.{Add, Sub, Mul, Div, Gt, Eq, Skip, Take, Count, Sum, Min, Max, At, CountWhere, LongestRun, SumBy}
 use Rattle.language.specs.declared.members.Kind.{Kind}
 use Rattle.language.specs.declared.members.Kind.the-variants.{Number, Window, Function, Nothing}
+use Rattle.language.specs.declared.members.Row as Declared
 use Rattle.language.specs.declared.members.Found.{Found}
 use Rattle.language.specs.declared.members.Found.the-variants.{Is, Unknown}
 
@@ -106,19 +107,16 @@ unfoldable pub takes : Found → ℕ
 takes (Is m) = row m .arguments
 takes Unknown = 0
 
--- the table as the code has it: 16 bytes a row, the name with zeros up to 12, then its length, the arguments, the two kinds
+-- a kind by its number
 abbrev pub kindNumber : Kind → ℕ
 kindNumber Nothing = 0
 kindNumber Number = 1
 kindNumber Window = 2
 kindNumber Function = 3
 
-unfoldable pub rowCells : Row → List ℕ
-rowCells r = r .name ++ (replicate (12 - length (r .name)) 0 ++ (length (r .name) ∷ r .arguments ∷ kindNumber (r .receiver) ∷ kindNumber (r .argument) ∷ []))
+-- the table as the code has it: a name with zeros up to 12 bytes, and its length
+abbrev pub rowWith : List ℕ → ℕ → ℕ → Kind → Kind → Declared.Row
+rowWith name size arguments receiver argument = record { name = name; size = size; arguments = arguments; receiver = receiver; argument = argument }
 
-abbrev pub cellsOf : Found → List ℕ
-cellsOf (Is m) = rowCells (row m)
-cellsOf Unknown = []
-
-unfoldable pub tableCell : ℕ → ℕ
-tableCell k = getD (cellsOf (memberAt (k / 16))) (k % 16) 0
+unfoldable pub rowOf : Member → Declared.Row
+rowOf m = rowWith (row m .name ++ replicate (12 - length (row m .name)) 0) (length (row m .name)) (row m .arguments) (row m .receiver) (row m .argument)

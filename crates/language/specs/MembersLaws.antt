@@ -1,22 +1,22 @@
--- The member table: each member has one number and one name, both are its own, and the table's cells say what its row says.
+-- The member table: each member has one number and one name, both are its own.
 -- Assumes nothing.
 use mathlib.Core.Path.{_≡_, refl, sym, ap, _∙_}
 use mathlib.Core.Bool.{Bool, true, false, _&&_, and-eq-true-iff}
 use mathlib.Core.List.{List, [], _∷_, _++_}
 use mathlib.Core.Logic.{_↔_}
-use Prim.Native.Nat.{ℕ, zero, suc, _+_, _*_, _/_, _%_, _≤_, _<_}
+use Prim.Native.Nat.{ℕ, zero, suc, _+_, _-_, _≤_, _<_}
 use native.Mathlib.Nat.{add-zero, zero-add, add-suc, suc-add}
 use native.Mathlib.Numerals.{add-one}
 use native.Mathlib.Omega.{arith}
-use lib.Dec.{eqb, leb, lit<}
-use lib.ListN.{length, getD, drop, drop-of-length-le, List·getD-append, List·getD-eq-default}
-use borrow.Author.Tests.{eqb-true, eq-eqb, leb-true}
+use lib.Dec.{eqb, leb}
+use lib.ListN.{length, getD, take, drop, replicate, drop-of-length-le, length-take, length-append, length-replicate}
+use lib.Seq.{take-at, getD-take, ext-getD}
+use borrow.Author.Tests.{eqb-true, eq-eqb, ne-eqb, leb-true}
 use Rattle.language.specs.Names.{bytes}
-use Rattle.language.specs.Members.{Row, row, members, memberNumber, foundIn, memberAt, sameBytes, pickFound, namedIn, memberOf, kindNumber, rowCells, cellsOf, tableCell}
+use Rattle.language.specs.Members.{row, members, memberNumber, foundIn, memberAt, sameBytes, pickFound, namedIn, memberOf, rowOf}
 use Rattle.language.specs.declared.members.Member.{Member}
 use Rattle.language.specs.declared.members.Member.the-variants.{Add, Sub, Mul, Div, Gt, Eq, Skip, Take, Count, Sum, Min, Max, At, CountWhere, LongestRun, SumBy}
-use Rattle.language.specs.declared.members.Kind.{Kind}
-use Rattle.language.specs.declared.members.Kind.the-variants.{Number, Window, Function, Nothing}
+use Rattle.language.specs.declared.members.Row.{Row}
 use Rattle.language.specs.declared.members.Found.{Found}
 use Rattle.language.specs.declared.members.Found.the-variants.{Is, Unknown}
 
@@ -178,74 +178,51 @@ pub row-none : (n : ℕ) (w : List ℕ) → 16 ≤ n → namedIn (drop n members
 unfolding namedIn
 row-none n w h = rw (drop-of-length-le members h)
 
--- ---- cells
+-- ---- rows as the code has them
 
--- the kind of a number
-abbrev pub kindAt : ℕ → Kind
-kindAt n = getD (Nothing ∷ Number ∷ Window ∷ Function ∷ []) n Nothing
+pub row-told : (m k : Member) (r : Row) → r ≡ rowOf k → m ≡ k → r ≡ rowOf m
+row-told m k r e h = e ∙ ap rowOf (sym h)
 
-kind-at : (k : Kind) → kindAt (kindNumber k) ≡ k
-kind-at Number = refl
-kind-at Window = refl
-kind-at Function = refl
-kind-at Nothing = refl
+pub row-short : (m : Member) → rowOf m .size ≤ 12
+unfolding rowOf row bytes
+row-short m = leb-true (length (row m .name)) 12 (each (λ k. leb (length (row k .name)) 12) refl m)
 
-pub kind-beyond : (n : ℕ) → 4 ≤ n → kindAt n ≡ Nothing
-kind-beyond n h = List·getD-eq-default (Nothing ∷ Number ∷ Window ∷ Function ∷ []) Nothing h
+pub row-full : (m : Member) → length (rowOf m .name) ≡ 12
+unfolding rowOf
+row-full m =
+    let short = row-short m in
+    let a = length-append (row m .name) (replicate (12 - length (row m .name)) 0) in
+    let r = length-replicate {A = ℕ} (12 - length (row m .name)) 0 in
+    omega arith
 
--- the rows' cells, one after the other
-unfoldable pub rowsCells : List Member → List ℕ
-rowsCells [] = []
-rowsCells (m ∷ ms) = rowCells (row m) ++ rowsCells ms
+pub row-name : (m : Member) → take (rowOf m .size) (rowOf m .name) ≡ row m .name
+unfolding rowOf
+row-name m = take-at (row m .name) (replicate (12 - length (row m .name)) 0) (length (row m .name)) refl
 
-pub table-cells : (k : ℕ) → k < 256 → getD (rowsCells members) k 0 ≡ tableCell k
-unfolding rowsCells tableCell memberAt rowCells row bytes
-table-cells k h = eqb-true (getD (rowsCells members) k 0) (tableCell k) (passes-at (λ j x. eqb x (tableCell j)) 0 (rowsCells members) refl k h)
+no-bytes : (w : List ℕ) → sameBytes w [] ≡ eqb (length w) 0
+unfolding sameBytes
+no-bytes [] = refl
+no-bytes (b ∷ w) = sym (ne-eqb (suc (length w)) 0 (λ e. omega arith))
 
-row-cell : (n i : ℕ) → i < 16 → tableCell (16 * n + i) ≡ getD (cellsOf (memberAt n)) i 0
-unfolding tableCell
-row-cell n i h =
-    let q : (16 * n + i) / 16 ≡ n = omega arith in
-    let r : (16 * n + i) % 16 ≡ i = omega arith in
-    rw (q, r)
+-- a word against the first s bytes of a row's name
+module _ (w name : List ℕ) (s : ℕ) (full : s ≤ length name) where
+  part-length : length (take s name) ≡ s
+  part-length = length-take s name ∙ (omega arith)
 
-pub name-short : (f : Found) → length (nameOf f) ≤ 12
-unfolding row bytes
-name-short (Is m) = leb-true (length (row m .name)) 12 (each (λ k. leb (length (row k .name)) 12) refl m)
-name-short Unknown = omega arith
+  pub other-length : (length w ≡ s → ⊥) → sameBytes w (take s name) ≡ false
+  other-length h = let l = part-length in other-bytes w (take s name) (λ e. h (ap length e ∙ l))
 
-name-length : (f : Found) → getD (cellsOf f) 12 0 ≡ length (nameOf f)
-unfolding row bytes rowCells
-name-length (Is m) = each-equal (λ k. getD (rowCells (row k)) 12 0) (λ k. length (row k .name)) refl m
-name-length Unknown = refl
+  pub other-byte : (i : ℕ) → i < s → (getD w i 0 ≡ getD name i 0 → ⊥) → sameBytes w (take s name) ≡ false
+  other-byte i h d = other-bytes w (take s name) (λ e. d (ap (λ (l : List ℕ). getD l i 0) e ∙ getD-take s name i 0 h))
 
-name-byte : (f : Found) (i : ℕ) → i < length (nameOf f) → getD (cellsOf f) i 0 ≡ getD (nameOf f) i 0
-unfolding rowCells
-name-byte (Is m) i h = List·getD-append (row m .name) _ 0 i h
-name-byte Unknown i h = refl
+  pub all-bytes : length w ≡ s → ((k : ℕ) → k < s → getD w k 0 ≡ getD name k 0) → sameBytes w (take s name) ≡ true
+  all-bytes l h =
+      let p = part-length in
+      same-bytes w (take s name) .1 (ext-getD 0 w (take s name) (omega arith) (λ k q. h k (omega arith) ∙ sym (getD-take s name k 0 (omega arith))))
 
--- in the table's bytes a row has its name and the name's length
-module _ (t : List ℕ) (n : ℕ) (e : t ≡ rowsCells members) (h : n < 16) where
-  pub size-cell : getD t (16 * n + 12) 0 ≡ length (nameOf (memberAt n))
-  size-cell = rw e (table-cells (16 * n + 12) (omega arith) ∙ row-cell n 12 (lit< tt) ∙ name-length (memberAt n))
+-- what the test of a number's name comes to
+pub named-row : (b : Bool) (w : List ℕ) (n : ℕ) (m : Member) (r : Row) → b ≡ sameBytes w (take (r .size) (r .name)) → r ≡ rowOf m → memberAt n ≡ Is m → b ≡ sameBytes w (nameOf (memberAt n))
+named-row b w n m r e h k = e ∙ ap (λ (x : Row). sameBytes w (take (x .size) (x .name))) h ∙ ap (sameBytes w) (row-name m) ∙ ap (λ (f : Found). sameBytes w (nameOf f)) (sym k)
 
-  pub name-cell : (i : ℕ) → i < length (nameOf (memberAt n)) → getD t (16 * n + i) 0 ≡ getD (nameOf (memberAt n)) i 0
-  name-cell i k =
-      let short = name-short (memberAt n) in
-      rw e (table-cells (16 * n + i) (omega arith) ∙ row-cell n i (omega arith) ∙ name-byte (memberAt n) i k)
-
-pub arguments-cell : (m : Member) → tableCell (16 * memberNumber m + 13) ≡ row m .arguments
-unfolding tableCell memberAt rowCells row bytes
-arguments-cell m = each-equal (λ k. tableCell (16 * memberNumber k + 13)) (λ k. row k .arguments) refl m
-
-kind-cell : (j : ℕ) (kind : Row → Kind) → passes (λ i m. eqb (tableCell (16 * memberNumber m + j)) (kindNumber (kind (row m)))) 0 members ≡ true → (m : Member) → kindAt (tableCell (16 * memberNumber m + j)) ≡ kind (row m)
-kind-cell j kind t m =
-    ap kindAt (each-equal (λ k. tableCell (16 * memberNumber k + j)) (λ k. kindNumber (kind (row k))) t m) ∙ kind-at (kind (row m))
-
-pub receiver-cell : (m : Member) → kindAt (tableCell (16 * memberNumber m + 14)) ≡ row m .receiver
-unfolding tableCell memberAt rowCells row bytes
-receiver-cell m = kind-cell 14 (λ r. r .receiver) refl m
-
-pub argument-cell : (m : Member) → kindAt (tableCell (16 * memberNumber m + 15)) ≡ row m .argument
-unfolding tableCell memberAt rowCells row bytes
-argument-cell m = kind-cell 15 (λ r. r .argument) refl m
+pub named-none : (w : List ℕ) (n : ℕ) → memberAt n ≡ Unknown → eqb (length w) 0 ≡ sameBytes w (nameOf (memberAt n))
+named-none w n k = sym (no-bytes w) ∙ ap (λ (f : Found). sameBytes w (nameOf f)) (sym k)

@@ -1,8 +1,9 @@
 // The member table, and look-up in it. A member's number is its row.
 ghost use mathlib.Core.Path.{_≡_};
-ghost use Prim.Native.Nat.{_+_, _*_, _<_};
-ghost use Rattle.language.specs.Members.{row, members, memberNumber, memberAt, sameBytes, memberOf, tableCell};
-ghost use Rattle.language.specs.MembersLaws.{nameOf, kindAt, rowsCells};
+ghost use Prim.Native.Nat.{_≤_};
+ghost use lib.ListN.{length, take};
+ghost use Rattle.language.specs.Members.{row, memberNumber, memberAt, sameBytes, memberOf, rowWith, rowOf};
+ghost use Rattle.language.specs.MembersLaws.{nameOf};
 
 pub enum Member {
     Add,
@@ -36,32 +37,74 @@ pub enum Found {
     Unknown,
 }
 
-// A row of 16 bytes for each member: its name, with zeros up to 12; the name's length; how many arguments it takes; the kinds of the
-// receiver and of the argument (0 nothing, 1 number, 2 window, 3 function).
-const MEMBERS: [u8; 256] = *b"\
-add\0\0\0\0\0\0\0\0\0\x03\x01\x01\x01\
-sub\0\0\0\0\0\0\0\0\0\x03\x01\x01\x01\
-mul\0\0\0\0\0\0\0\0\0\x03\x01\x01\x01\
-div\0\0\0\0\0\0\0\0\0\x03\x01\x01\x01\
-gt\0\0\0\0\0\0\0\0\0\0\x02\x01\x01\x01\
-eq\0\0\0\0\0\0\0\0\0\0\x02\x01\x01\x01\
-skip\0\0\0\0\0\0\0\0\x04\x01\x02\x01\
-take\0\0\0\0\0\0\0\0\x04\x01\x02\x01\
-count\0\0\0\0\0\0\0\x05\x00\x02\x00\
-sum\0\0\0\0\0\0\0\0\0\x03\x00\x02\x00\
-min\0\0\0\0\0\0\0\0\0\x03\x00\x02\x00\
-max\0\0\0\0\0\0\0\0\0\x03\x00\x02\x00\
-at\0\0\0\0\0\0\0\0\0\0\x02\x01\x02\x01\
-countWhere\0\0\x0a\x01\x02\x03\
-longestRun\0\0\x0a\x01\x02\x03\
-sumBy\0\0\0\0\0\0\0\x05\x01\x02\x03";
+// A row of the member table: the name, with zeros up to 12 bytes, and its length; how many arguments the member takes; what it is used on,
+// and with.
+pub struct Row {
+    pub name: [u8; 12],
+    pub size: u8,
+    pub arguments: u8,
+    pub receiver: Kind,
+    pub argument: Kind,
+}
 
-// A byte of the table.
-pub fn table_cell(k: usize) -> u8
-    requires { ⌜ k < 256 ⌝ }
-    ensures { λ r. ⌜ r ≡ tableCell k ⌝ }
+fn on_number(name: [u8; 12], size: u8) -> Row
+    ensures { λ r. ⌜ r ≡ rowWith name size 1 Kind.Number Kind.Number ⌝ }
 {
-    MEMBERS[k]
+    Row {
+        name,
+        size,
+        arguments: 1,
+        receiver: Kind::Number,
+        argument: Kind::Number,
+    }
+}
+
+fn of_window(name: [u8; 12], size: u8) -> Row
+    ensures { λ r. ⌜ r ≡ rowWith name size 0 Kind.Window Kind.Nothing ⌝ }
+{
+    Row {
+        name,
+        size,
+        arguments: 0,
+        receiver: Kind::Window,
+        argument: Kind::Nothing,
+    }
+}
+
+fn on_window(name: [u8; 12], size: u8, argument: Kind) -> Row
+    ensures { λ r. ⌜ r ≡ rowWith name size 1 Kind.Window argument ⌝ }
+{
+    Row {
+        name,
+        size,
+        arguments: 1,
+        receiver: Kind::Window,
+        argument,
+    }
+}
+
+// The member table: reader and evaluator look members up here alone.
+pub fn row_of(m: Member) -> Row
+    ensures { λ r. ⌜ r ≡ rowOf m ⌝ }
+{
+    match m {
+        Member::Add => on_number(*b"add\0\0\0\0\0\0\0\0\0", 3),
+        Member::Sub => on_number(*b"sub\0\0\0\0\0\0\0\0\0", 3),
+        Member::Mul => on_number(*b"mul\0\0\0\0\0\0\0\0\0", 3),
+        Member::Div => on_number(*b"div\0\0\0\0\0\0\0\0\0", 3),
+        Member::Gt => on_number(*b"gt\0\0\0\0\0\0\0\0\0\0", 2),
+        Member::Eq => on_number(*b"eq\0\0\0\0\0\0\0\0\0\0", 2),
+        Member::Skip => on_window(*b"skip\0\0\0\0\0\0\0\0", 4, Kind::Number),
+        Member::Take => on_window(*b"take\0\0\0\0\0\0\0\0", 4, Kind::Number),
+        Member::Count => of_window(*b"count\0\0\0\0\0\0\0", 5),
+        Member::Sum => of_window(*b"sum\0\0\0\0\0\0\0\0\0", 3),
+        Member::Min => of_window(*b"min\0\0\0\0\0\0\0\0\0", 3),
+        Member::Max => of_window(*b"max\0\0\0\0\0\0\0\0\0", 3),
+        Member::At => on_window(*b"at\0\0\0\0\0\0\0\0\0\0", 2, Kind::Number),
+        Member::CountWhere => on_window(*b"countWhere\0\0", 10, Kind::Function),
+        Member::LongestRun => on_window(*b"longestRun\0\0", 10, Kind::Function),
+        Member::SumBy => on_window(*b"sumBy\0\0\0\0\0\0\0", 5, Kind::Function),
+    }
 }
 
 // The member of a number.
@@ -113,61 +156,40 @@ pub fn number_of(m: Member) -> u8
     }
 }
 
-// A byte of a member's row.
-fn row_cell(m: Member, k: usize) -> u8
-    requires { ⌜ k < 16 ⌝ }
-    ensures { λ r. ⌜ r ≡ tableCell (16 * memberNumber m + k) ⌝ }
-{
-    table_cell(16 * number_of(m) as usize + k)
-}
-
-// The kind that a byte of the table stands for.
-fn kind_at(b: u8) -> Kind
-    ensures { λ r. ⌜ r ≡ kindAt b ⌝ }
-{
-    match b {
-        0 => Kind::Nothing,
-        1 => Kind::Number,
-        2 => Kind::Window,
-        3 => Kind::Function,
-        _ => Kind::Nothing,
-    }
-}
-
 // How many arguments a member takes.
 pub fn arguments(m: Member) -> u8
     ensures { λ r. ⌜ r ≡ row m .arguments ⌝ }
 {
-    row_cell(m, 13)
+    row_of(m).arguments
 }
 
 // What a member is used on.
 pub fn receiver(m: Member) -> Kind
     ensures { λ r. ⌜ r ≡ row m .receiver ⌝ }
 {
-    kind_at(row_cell(m, 14))
+    row_of(m).receiver
 }
 
 // What a member is used with.
 pub fn argument(m: Member) -> Kind
     ensures { λ r. ⌜ r ≡ row m .argument ⌝ }
 {
-    kind_at(row_cell(m, 15))
+    row_of(m).argument
 }
 
-// Whether the word is the name in a row of the table, which is lent so that a look-up lays it out once.
-fn has_name(table: &[u8; 256], n: u8, word: &[u8]) -> bool
-    requires { ⌜ (now table ≡ rowsCells members) × (n < 16) ⌝ }
-    ensures { λ r. ⌜ r ≡ sameBytes (now (word .entry)) (nameOf (memberAt n)) ⌝ }
+// Whether the word is the name in a row.
+fn has_name(row: Row, word: &[u8]) -> bool
+    requires { ⌜ (row .size ≤ 12) × (length (row .name) ≡ 12) ⌝ }
+    ensures { λ r. ⌜ r ≡ sameBytes (now (word .entry)) (take (row .size) (row .name)) ⌝ }
 {
-    let start = 16 * n as usize;
-    let size = table[start + 12] as usize;
+    let name = row.name;
+    let size = row.size as usize;
     if word.len() != size {
         return false;
     }
     let mut i = 0;
     while i < size {
-        if word[i] != table[start + i] {
+        if word[i] != name[i] {
             return false;
         }
         i += 1;
@@ -175,14 +197,23 @@ fn has_name(table: &[u8; 256], n: u8, word: &[u8]) -> bool
     true
 }
 
+// Whether the word is the name of member n.
+fn is_named(n: u8, word: &[u8]) -> bool
+    ensures { λ r. ⌜ r ≡ sameBytes (now (word .entry)) (nameOf (memberAt n)) ⌝ }
+{
+    match member_at(n) {
+        Found::Is(m) => has_name(row_of(m), word),
+        Found::Unknown => word.len() == 0,
+    }
+}
+
 // The member of a name.
 pub fn named(word: &[u8]) -> Found
     ensures { λ r. ⌜ r ≡ memberOf (now (word .entry)) ⌝ }
 {
-    let table = MEMBERS;
     let mut n: u8 = 0;
     while n < 16 {
-        if has_name(&table, n, word) {
+        if is_named(n, word) {
             return member_at(n);
         }
         n += 1;

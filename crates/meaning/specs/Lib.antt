@@ -3,3 +3,4 @@ pub mod FormsLaws
 pub mod Binding
 pub mod Evaluation
 pub mod EvaluationLaws
+pub mod Substitution

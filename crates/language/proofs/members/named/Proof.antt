@@ -1,29 +1,26 @@
--- The table is the rows' cells, which antt computes, and the search among the rows that are left finds what the search among all finds.
--- Assumes nothing.
+-- The search among the rows that are left finds what the search among all finds. Assumes nothing.
 use mathlib.Core.Path.{_≡_, refl, sym, _∙_}
 use Prim.Native.Nat.{_-_, _≤_}
 use native.Mathlib.Omega.{arith}
 use lib.ListN.{drop}
 use borrow.Author.Needs.{needs}
-use Rattle.language.specs.Names.{bytes}
-use Rattle.language.specs.Members.{row, members, namedIn, memberOf, rowCells}
-use Rattle.language.specs.MembersLaws.{rowsCells, row-is, row-not, row-none}
+use Rattle.language.specs.Members.{members, namedIn, memberOf}
+use Rattle.language.specs.MembersLaws.{row-is, row-not, row-none}
 use Rattle.language.proofs.members.named.Statement.{statement}
 use Rattle.language.proofs.members.named.Tie as tie
 
 abbrev Inv-loop : tie.InvT-loop
-Inv-loop word table n₀ n = (n ≤ 16) × (namedIn (drop n members) word ≡ memberOf word)
+Inv-loop word n₀ n = (n ≤ 16) × (namedIn (drop n members) word ≡ memberOf word)
 
 abbrev μ-loop : tie.MeasureT-loop
-μ-loop word table n₀ n = 16 - n
+μ-loop word n₀ n = 16 - n
 
 loop-holds : tie.Need-loop-holds Inv-loop μ-loop
 unfolding memberOf
 loop-holds c = (omega arith, refl)
 
-has-name-requires : tie.Need-has-name-requires Inv-loop μ-loop
-unfolding rowsCells rowCells row bytes
-has-name-requires c κs = (refl, omega arith)
+is-named-requires : tie.Need-is-named-requires Inv-loop μ-loop
+is-named-requires c κs = search needs
 
 member-at-requires : tie.Need-member-at-requires Inv-loop μ-loop
 member-at-requires c κs = search needs
@@ -31,7 +28,7 @@ member-at-requires c κs = search needs
 returns : tie.Need-returns Inv-loop μ-loop
 returns c =
     let t = c .before .before in
-    c .member-at .ensures ∙ row-is _ _ (t .before .before .loop-test .taken) (sym (t .has-name .ensures) ∙ c .before .if1 .taken) ∙ t .before .before .before .loop .inv .1
+    c .member-at .ensures ∙ row-is _ _ (t .before .loop-test .taken) (sym (t .is-named .ensures) ∙ c .before .if1 .taken) ∙ t .before .before .loop .inv .1
 
 add-n : tie.Need-add-n Inv-loop μ-loop
 add-n c = omega arith
@@ -42,7 +39,7 @@ loop-less c = omega arith
 loop-again : tie.Need-loop-again Inv-loop μ-loop
 loop-again c =
     let t = c .before in
-    (omega arith, row-not _ _ (t .before .before .loop-test .taken) (sym (t .has-name .ensures) ∙ c .if1 .left) ∙ t .before .before .before .loop .inv .1)
+    (omega arith, row-not _ _ (t .before .loop-test .taken) (sym (t .is-named .ensures) ∙ c .if1 .left) ∙ t .before .before .loop .inv .1)
 
 returns-2 : tie.Need-returns-2 Inv-loop μ-loop
 returns-2 c = sym (row-none _ _ (c .loop-test .left)) ∙ c .before .loop .inv .1
@@ -54,7 +51,7 @@ named-spec =
     Inv-loop
     μ-loop
     loop-holds
-    has-name-requires
+    is-named-requires
     member-at-requires
     returns
     add-n

@@ -1,0 +1,84 @@
+-- What the proofs of the calls for C cite: the numbers of each case of an answer, and that a call's promise for C is its promise in numbers.
+-- Assumes nothing.
+use mathlib.Core.Path.{_≡_, refl, sym, ap, _∙_, subst}
+use mathlib.Core.Bool.{false, not, _&&_}
+use mathlib.Core.List.{List}
+use Prim.Native.Nat.{ℕ, _≤_, _<_}
+use native.Mathlib.Omega.{arith}
+use borrow.Author.Needs.{needs}
+use borrow.Author.Tests.{ltb-false}
+use lib.Dec.{leb, ltb}
+use lib.IntN.{ℤ}
+use lib.ListN.{length}
+use Rattle.language.specs.Limits.{textBytes, textParts}
+use Rattle.grammar.specs.Reading.{Reading, tree, refused as refusedAt}
+use Rattle.grammar.specs.Machine.{readText}
+use Rattle.model.specs.Cases.{split}
+use Rattle.model.specs.Language.{rejected}
+use Rattle.model.specs.Model.{refused}
+use Rattle.table.specs.Memory.{Memory, fits}
+use Rattle.table.specs.WellFormed.{wellFormed}
+use Rattle.evaluator.specs.declared.works.View.{View}
+use Rattle.records.specs.Records.{recordsOf}
+use Rattle.formulas.specs.Formulas.{parsed}
+use Rattle.bridge.specs.FormulaLaws.{formula-laws}
+use Rattle.engine.specs.declared.answers.Opened.{Opened}
+use Rattle.engine.specs.declared.answers.Edited.{Edited}
+use Rattle.engine.specs.declared.answers.Edited.the-variants as E
+use Rattle.engine.specs.declared.answers.Previewed.{Previewed}
+use Rattle.engine.specs.declared.answers.Previewed.the-variants as P
+use Rattle.engine.specs.declared.answers.EditAnswer.{EditAnswer}
+use Rattle.engine.specs.declared.answers.PreviewAnswer.{PreviewAnswer}
+use Rattle.engine.specs.Answers.{editedOf, openNumber, editNumbers, previewNumbers}
+use Rattle.engine.specs.Calls.{tooMany, boundTo, readAnswer, editAnswer}
+use Rattle.engine.specs.Contracts.{Opens, Edits, Previews, OpensForC, EditsForC, PreviewsForC, PlaceFits}
+
+module _ (x : Edited) where
+  pub edit-done : (w p a : ℕ) → x ≡ E.Done w p a → editNumbers (E.Done w p a) ≡ editNumbers x
+  edit-done w p a e = ap editNumbers (sym e)
+
+  pub edit-refused : (n at : ℕ) → x ≡ E.Refused n at → editNumbers (E.Refused n at) ≡ editNumbers x
+  edit-refused n at e = ap editNumbers (sym e)
+
+  pub place-small : (n at : ℕ) → x ≡ E.Refused n at → PlaceFits x → at < 4294967296
+  place-small n at e h = subst PlaceFits e h
+
+module _ (x : Previewed) where
+  pub preview-not-yet : (k : ℕ) → x ≡ P.NotYet k → previewNumbers (P.NotYet k) ≡ previewNumbers x
+  preview-not-yet k e = ap previewNumbers (sym e)
+
+  pub preview-refused : (n : ℕ) → x ≡ P.Refused n → previewNumbers (P.Refused n) ≡ previewNumbers x
+  preview-refused n e = ap previewNumbers (sym e)
+
+  pub preview-finished : (k : ℕ) (v : View) (r : PreviewAnswer) → r ≡ previewNumbers (P.Finished k v) → x ≡ P.Finished k v → r ≡ previewNumbers x
+  preview-finished k v r h e = h ∙ ap previewNumbers (sym e)
+
+pub ruleset numbers = (needs, edit-done, edit-refused, preview-not-yet, preview-finished, preview-refused)
+
+-- the place of a refusal is one of the text's, or its end
+read-place : (m : Memory) (text : List ℕ) (x : Reading) → readText text ≡ x → length text ≤ textBytes → PlaceFits (editedOf (readAnswer m x))
+unfolding readAnswer parsed
+read-place m text (refusedAt n at) e h = let r = formula-laws .rejected text n at h (ap parsed e) .inside in omega arith
+read-place m text (tree t) e h = split (tooMany (boundTo m (recordsOf t))) (λ p. rw p (omega arith)) (λ p. rw p tt)
+
+answer-place : (m : Memory) (places text : List ℕ) → PlaceFits (editedOf (editAnswer m places text))
+unfolding editAnswer
+answer-place m places text =
+    split (ltb textBytes (length text)) (λ p. rw p (omega arith))
+    (λ p. split (fits m && leb textParts (length places))
+    (λ q. split (wellFormed m) (λ w. rw (p, q, w) (read-place m text (readText text) refl (ltb-false textBytes (length text) p))) (λ w. rw (p, q, w) (omega arith)))
+    (λ q. rw (p, q) (omega arith)))
+
+pub place-fits : (m : Memory) (places text : List ℕ) (m′ : Memory) (places′ : List ℕ) (x : Edited) → Edits m places text m′ places′ x → PlaceFits x
+place-fits m places text m′ places′ x h = subst PlaceFits (sym (h .answer)) (answer-place m places text)
+
+-- the promises
+pub opens-for-c : (m : Memory) (recording : List ℤ) (m′ : Memory) (x : Opened) (r : ℕ) → Opens m recording m′ x → r ≡ openNumber x → OpensForC m recording m′ r
+opens-for-c m recording m′ x r h e = record { answer = e ∙ ap openNumber (h .answer); memory = h .memory }
+
+pub edits-for-c : (m : Memory) (places text : List ℕ) (m′ : Memory) (places′ : List ℕ) (x : Edited) (r : EditAnswer)
+    → Edits m places text m′ places′ x → r ≡ editNumbers x → EditsForC m places text m′ places′ r
+edits-for-c m places text m′ places′ x r h e = record { answer = e ∙ ap editNumbers (h .answer); memory = h .memory; placed = h .placed }
+
+pub previews-for-c : (m : Memory) (n a : ℕ) (m′ : Memory) (x : Previewed) (r : PreviewAnswer) → Previews m n a m′ x → r ≡ previewNumbers x → PreviewsForC m n a m′ r
+previews-for-c m n a m′ x r h e = record { answer = e ∙ ap previewNumbers (h .answer); memory = h .memory }

@@ -1,0 +1,2 @@
+mod EditLaws
+mod ExportRules
