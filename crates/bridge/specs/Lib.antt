@@ -4,3 +4,4 @@ pub mod Words
 pub mod Proper
 pub mod ProperLaws
 pub mod FormulaLaws
+pub mod LetLaws

@@ -58,7 +58,7 @@ module _ (P Q R : Site → Around → Type 0) (f : (s : Site) (d : Around) → P
     bothM (next e x) d p q = (bothE e (opened d) (p .0) (q .0), bothM x d (p .1) (q .1))
 
 -- the names of a tree are words where its tokens' are
-abbrev Worded : Site → Around → Type 0
+abbrev pub Worded : Site → Around → Type 0
 Worded (aLet x) d = Unit {0}
 Worded (aLambda x) d = IsWord x
 Worded aBracket d = Unit {0}
@@ -69,7 +69,7 @@ Worded (aCall m n) d = Unit {0}
 mutual
   unfolding spellE
 
-  wordedE : (e : Expression) (d : Around) (u : List Token) → All WordToken (spellE e u) → EverywhereE Worded e d × All WordToken u
+  pub wordedE : (e : Expression) (d : Around) (u : List Token) → All WordToken (spellE e u) → EverywhereE Worded e d × All WordToken u
   wordedE (letIn x a b) d u h = let A = wordedE a (opened d) (kIn ∷ spellE b u) (h .1 .1 .1) in let B = wordedE b (inLet x d) u (A .1 .1) in ((tt, A .0, B .0), B .1)
   wordedE (lambda x b) d u h = let B = wordedE b (inLambda x d) u (h .1 .1 .1) in ((h .1 .0, B .0), B .1)
   wordedE (name x r) d u h = let C = wordedC r d u (h .1) in ((h .0, C .0), C .1)

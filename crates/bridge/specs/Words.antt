@@ -151,7 +151,7 @@ word-number w h l =
     rw (x, z) (subst (λ (m : ℕ). wordNumber m (packOnto (h .head) (h .tail)) ≡ true) j (number-up (8 - (1 + length (h .tail))) (1 + length (h .tail)) (packOnto (h .head) (h .tail)) v))
 
 -- the bytes of a word
-word-bytes : (w : List ℕ) → IsWord w → Each NameByte w
+pub word-bytes : (w : List ℕ) → IsWord w → Each NameByte w
 word-bytes w h = let x = h .is in rw x (word-byte (h .head) (letter-word (h .head) (h .letter)), each-map word-byte (h .tail) (h .rest))
 
 other-word : (w v : List ℕ) → IsWord w → Each NameByte v → sameBytes w v ≡ false → eqb (packed w) (packed v) ≡ false

@@ -1,7 +1,7 @@
 -- 01, "Binding" and "The text": let elimination, the form of each part by place, and the order in which new entries are numbered.
 -- A name means the innermost let or lambda around it that binds it; one that nothing binds is marked unbound. A let's name stands for
--- the form of its value, so nothing is captured where no lambda takes the name of one around it; refusal 11 shuts those out.
--- Assumes nothing: these are definitions.
+-- the form of its value. That this is capture-avoiding substitution, where no lambda takes the name of one around it (refusal 11), is
+-- `lets-substituted` in SubstitutionLaws. Assumes nothing: these are definitions.
 use mathlib.Core.Bool.{Bool, true, false}
 use mathlib.Core.List.{List, [], _∷_}
 use Prim.Native.Nat.{ℕ}

@@ -4,3 +4,4 @@ pub mod Binding
 pub mod Evaluation
 pub mod EvaluationLaws
 pub mod Substitution
+pub mod SubstitutionLaws

@@ -7,7 +7,7 @@
 --   3. Over every list of calls after an opening the engine answers as the reference model does, and ends holding what it holds (model's Demand).
 use mathlib.Core.Path.{_≡_}
 use mathlib.Core.Logic.{_↔_}
-use mathlib.Core.List.{List, map}
+use mathlib.Core.List.{List, [], map}
 use Prim.Native.Nat.{ℕ}
 use lib.IntN.{ℤ}
 use Rattle.grammar.specs.Grammar.{Expression, Spells}
@@ -21,7 +21,9 @@ use Rattle.model.specs.Since.{Sendable}
 use Rattle.model.specs.Engine.{Sent, told}
 use Rattle.model.specs.Demand.{Demand, demand}
 use Rattle.formulas.specs.Formulas.{IsReading, formulas}
+use Rattle.meaning.specs.Substitution.{EveryLetE}
 use Rattle.bridge.specs.FormulaLaws.{formula-laws}
+use Rattle.bridge.specs.LetLaws.{text-lets}
 use Rattle.table.specs.Memory.{Memory}
 use Rattle.engine.specs.declared.answers.Previewed.the-variants.{Refused}
 use Rattle.engine.specs.Calls.{openAnswer, openMemory, editAnswer, editMemory, editPlaces, previewed, previewMemory}
@@ -56,6 +58,10 @@ read-exactly = text-read-plainly
 
 pub refused-exactly : (text : List ℕ) (n p : ℕ) → (readText text ≡ refusedAt n p) ↔ ((j : ℕ) × RefusedBy (tokensOf text) n j × (p ≡ placeOf text j))
 refused-exactly = text-refused
+
+-- Every let of a text that is read is replaced by capture-avoiding substitution.
+pub lets-replaced : (text : List ℕ) (e : Expression) → readText text ≡ tree e → EveryLetE e []
+lets-replaced = text-lets
 
 -- 3. Memory of any contents is opened, and then any calls are sent. The readings of a recording are within signed 32 bits.
 pub demand-three : (m : Memory) (r : List ℤ) (cs : List (Sent engine)) → openAnswer m r ≡ opened → All IsReading r → Sendable formulas (map (told engine) cs)
