@@ -1,10 +1,21 @@
 // The parts of the engine that benchmarks measure by themselves, exported under plain names. The watch links none of this.
+use evaluator::works;
+use reader::answer::Read;
+use reader::parser;
+use table::bind;
+use table::cells::at16;
+use table::chain;
+use table::check;
 use values::packing::pack;
 use values::windows;
 ghost use mathlib.Core.Path.{_≡_};
+ghost use mathlib.Core.List.{[]};
 ghost use Rattle.language.specs.declared.members.Member.the-variants as Members;
 ghost use Rattle.values.specs.Packing.{packOf};
 ghost use Rattle.values.specs.Windows.{ofWindow};
+ghost use Rattle.table.specs.WellFormed.{wellFormed};
+ghost use Rattle.table.specs.Checked.{memory};
+ghost use Rattle.measured.specs.Measures.{flag, readNumber, ReadInto, canBind, boundNumber, bindNumber, packedWork, canWork, Worked};
 
 // The sum of a window, as a packed value.
 #[no_mangle]
@@ -28,4 +39,125 @@ pub extern "C" fn measured_greatest(readings: &[i32], start: u16, length: u16) -
     ensures { λ r. ⌜ r ≡ packOf (ofWindow Members.Max (now (readings .entry)) start length) ⌝ }
 {
     pack(windows::greatest(readings, start, length))
+}
+
+// What reading a text came to, as one number.
+fn read_number(r: Read) -> u64
+    ensures { λ n. ⌜ n ≡ readNumber r ⌝ }
+{
+    match r {
+        Read::Done {
+            parts,
+            records,
+            root: _,
+        } => 65536 * parts as u64 + records as u64,
+        Read::Refused { number, place } => 4294967296 * number as u64 + place as u64 % 65536,
+    }
+}
+
+// Reads a text into lent arrays.
+#[no_mangle]
+pub extern "C" fn measured_read(
+    text: &[u8],
+    records: &mut [u64; 256],
+    places: &mut [u16; 128],
+) -> u64
+    ensures { λ r. ⌜ ReadInto (now (text .entry)) (now (records .entry)) (now (places .entry)) r (now (records .exit)) (now (places .exit)) ⌝ }
+{
+    read_number(parser::read(text, records, places))
+}
+
+fn flag(b: bool) -> u64
+    ensures { λ r. ⌜ r ≡ flag b ⌝ }
+{
+    if b { 1 } else { 0 }
+}
+
+// Whether a cache is well-formed: 1 for yes.
+#[no_mangle]
+pub extern "C" fn measured_well_formed(heads: &[u32], links: &[u16], cells: &[u64]) -> u64
+    ensures { λ r. ⌜ r ≡ flag (wellFormed (memory [] (now (heads .entry)) (now (links .entry)) (now (cells .entry)))) ⌝ }
+{
+    flag(check::well_formed(heads, links, cells))
+}
+
+// Whether from 1 to 128 records can be bound to the first `count` entries.
+fn can_bind(links: &[u16], cells: &[u64], count: u16, n: u16) -> bool
+    ensures { λ r. ⌜ r ≡ canBind (now (links .entry)) (now (cells .entry)) count n ⌝ }
+{
+    if count <= 512 {
+        return ((1 <= n) & (n <= 128)) & chain::distinct_nodes(links, cells, count);
+    }
+    false
+}
+
+// The test alone, which is part of the measure of binding.
+#[no_mangle]
+pub extern "C" fn measured_can_bind(links: &[u16], cells: &[u64], count: u16, n: u16) -> u64
+    ensures { λ r. ⌜ r ≡ flag (canBind (now (links .entry)) (now (cells .entry)) count n) ⌝ }
+{
+    flag(can_bind(links, cells, count, n))
+}
+
+// The number of entries, and the last record's entry.
+fn bound_number(total: u16, last: u16) -> u64
+    ensures { λ r. ⌜ r ≡ boundNumber total last ⌝ }
+{
+    65536 * total as u64 + last as u64
+}
+
+// Binds n records to the first `count` entries: how many entries there are then, and the last record's.
+#[no_mangle]
+pub extern "C" fn measured_bind(
+    links: &[u16],
+    cells: &[u64],
+    count: u16,
+    records: &[u64; 256],
+    n: u16,
+) -> u64
+    ensures { λ r. ⌜ r ≡ bindNumber (now (links .entry)) (now (cells .entry)) count (now (records .entry)) n ⌝ }
+{
+    if can_bind(links, cells, count, n) {
+        let mut numbers = [0u16; 128];
+        let mut fresh = [0u64; 256];
+        let total = bind::bind(links, cells, count, records, n, &mut numbers, &mut fresh);
+        return bound_number(total, at16(&numbers, n as usize - 1));
+    }
+    0
+}
+
+// Whether the memory suffices for the work on an entry.
+fn can_work(readings: &[i32], cells: &[u64], entry: u16) -> bool
+    ensures { λ r. ⌜ r ≡ canWork (now (readings .entry)) (now (cells .entry)) entry ⌝ }
+{
+    (readings.len() <= 1024) & ((2048 <= cells.len()) & (entry < 512))
+}
+
+// How much was worked out and whether some is left, as one number.
+fn packed_work(count: u32, left: bool) -> u64
+    ensures { λ r. ⌜ r ≡ packedWork count left ⌝ }
+{
+    if left {
+        2 * count as u64 + 1
+    } else {
+        2 * count as u64
+    }
+}
+
+// The work of a preview: twice the number of entries worked out, and 1 more if some are left.
+#[no_mangle]
+pub extern "C" fn measured_work(
+    readings: &[i32],
+    links: &[u16],
+    cells: &mut [u64],
+    entry: u16,
+    allowance: u32,
+) -> u64
+    ensures { λ r. ⌜ Worked (now (readings .entry)) (now (links .entry)) (now (cells .entry)) entry allowance (now (cells .exit)) r ⌝ }
+{
+    if can_work(readings, cells, entry) {
+        let w = works::work(readings, links, cells, entry as usize, allowance);
+        return packed_work(w.count, w.left);
+    }
+    0
 }

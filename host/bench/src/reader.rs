@@ -1,0 +1,425 @@
+//! A reader as one would write it in Rust: recursive descent with one token of lookahead, which writes the same records and places as the
+//! proved one and gives the same refusals.
+
+const PARTS: usize = 128;
+const MARKS: usize = 16;
+const LAMBDAS: usize = 2;
+const NAME_BYTES: usize = 8;
+const DATA: &[u8] = b"data";
+
+const VARIABLE: u64 = 1;
+const UNBOUND: u64 = 2;
+const RECORDING: u64 = 3;
+const FUNCTION: u64 = 4;
+const MEMBERS: u64 = 5;
+
+#[derive(Clone, Copy, PartialEq, Debug)]
+pub struct Refusal {
+    pub number: u8,
+    pub place: u16,
+}
+
+#[derive(Clone, Copy, PartialEq, Debug)]
+pub struct Counts {
+    pub parts: usize,
+    pub records: usize,
+}
+
+/// Two words a record, and the record of each part.
+pub struct Output {
+    pub records: [u64; 256],
+    pub places: [u16; 128],
+}
+
+impl Output {
+    pub fn new() -> Output {
+        Output { records: [0; 256], places: [0; 128] }
+    }
+}
+
+#[derive(Clone, Copy, PartialEq)]
+enum Kind {
+    End,
+    Let,
+    In,
+    Equals,
+    Lambda,
+    Arrow,
+    Dot,
+    Open,
+    Shut,
+    Comma,
+    Word,
+    Number,
+    Other,
+}
+
+#[derive(Clone, Copy)]
+struct Token {
+    kind: Kind,
+    start: usize,
+    end: usize,
+}
+
+/// What a name stands for: a lambda's variable, or the record of a let's value.
+#[derive(Clone, Copy)]
+enum Binder {
+    Variable,
+    Record(usize),
+}
+
+struct Reader<'a> {
+    text: &'a [u8],
+    token: Token,
+    parts: usize,
+    count: usize,
+    marks: usize,
+    lambdas: usize,
+    scope: Vec<(u64, Binder)>,
+    output: &'a mut Output,
+}
+
+/// Reads a whole text.
+pub fn read(text: &[u8], output: &mut Output) -> Result<Counts, Refusal> {
+    let mut reader = Reader {
+        text,
+        token: token_at(text, 0),
+        parts: 0,
+        count: 0,
+        marks: 0,
+        lambdas: 0,
+        scope: Vec::with_capacity(MARKS),
+        output,
+    };
+    reader.expression(false)?;
+    reader.expect(Kind::End)?;
+    Ok(Counts { parts: reader.parts, records: reader.count })
+}
+
+/// What a byte can be in a token.
+const BLANK: u8 = 1;
+const LETTER: u8 = 2;
+const DIGIT: u8 = 4;
+
+const CLASSES: [u8; 256] = {
+    let mut classes = [0; 256];
+    let mut b = 0;
+    while b < 256 {
+        classes[b] = match b as u8 {
+            b' ' | b'\t' | b'\r' | b'\n' => BLANK,
+            b'A'..=b'Z' | b'a'..=b'z' => LETTER,
+            b'0'..=b'9' => DIGIT,
+            _ => 0,
+        };
+        b += 1;
+    }
+    classes
+};
+
+/// The place behind the bytes of these classes from a place on.
+#[inline]
+fn end_of(text: &[u8], mut at: usize, classes: u8) -> usize {
+    while at < text.len() && CLASSES[usize::from(text[at])] & classes != 0 {
+        at += 1;
+    }
+    at
+}
+
+fn token_at(text: &[u8], at: usize) -> Token {
+    let start = end_of(text, at, BLANK);
+    let Some(&first) = text.get(start) else {
+        return Token { kind: Kind::End, start, end: start };
+    };
+    let one = |kind| Token { kind, start, end: start + 1 };
+    match first {
+        b'A'..=b'Z' | b'a'..=b'z' => {
+            let end = end_of(text, start + 1, LETTER | DIGIT);
+            let kind = match &text[start..end] {
+                b"let" => Kind::Let,
+                b"in" => Kind::In,
+                _ => Kind::Word,
+            };
+            Token { kind, start, end }
+        }
+        b'0'..=b'9' => Token { kind: Kind::Number, start, end: end_of(text, start + 1, DIGIT) },
+        b'-' => match text.get(start + 1) {
+            Some(b'0'..=b'9') => {
+                Token { kind: Kind::Number, start, end: end_of(text, start + 2, DIGIT) }
+            }
+            Some(b'>') => Token { kind: Kind::Arrow, start, end: start + 2 },
+            _ => one(Kind::Other),
+        },
+        b'=' => one(Kind::Equals),
+        b'\\' => one(Kind::Lambda),
+        b'.' => one(Kind::Dot),
+        b'(' => one(Kind::Open),
+        b')' => one(Kind::Shut),
+        b',' => one(Kind::Comma),
+        _ => one(Kind::Other),
+    }
+}
+
+fn packed(word: &[u8]) -> u64 {
+    word.iter().fold(0, |key, &b| key << 8 | u64::from(b))
+}
+
+/// The value of a number token, if it is within 32 bits.
+fn value_of(digits: &[u8]) -> Option<i32> {
+    let (sign, digits) = match digits {
+        [b'-', rest @ ..] => (-1, rest),
+        _ => (1, digits),
+    };
+    let mut size: i64 = 0;
+    for &b in digits {
+        size = (size * 10 + i64::from(b - b'0')).min(1 << 32);
+    }
+    i32::try_from(sign * size).ok()
+}
+
+/// A member's number and how many arguments it takes.
+fn member_of(word: &[u8]) -> Option<(u64, usize)> {
+    let found = match word {
+        b"add" => (0, 1),
+        b"sub" => (1, 1),
+        b"mul" => (2, 1),
+        b"div" => (3, 1),
+        b"gt" => (4, 1),
+        b"eq" => (5, 1),
+        b"skip" => (6, 1),
+        b"take" => (7, 1),
+        b"count" => (8, 0),
+        b"sum" => (9, 0),
+        b"min" => (10, 0),
+        b"max" => (11, 0),
+        b"at" => (12, 1),
+        b"countWhere" => (13, 1),
+        b"longestRun" => (14, 1),
+        b"sumBy" => (15, 1),
+        _ => return None,
+    };
+    Some(found)
+}
+
+type Step<T> = Result<T, Refusal>;
+
+impl Reader<'_> {
+    fn refuse<T>(&self, number: u8) -> Step<T> {
+        Err(Refusal { number, place: self.token.start as u16 })
+    }
+
+    fn advance(&mut self) {
+        self.token = token_at(self.text, self.token.end);
+    }
+
+    fn word(&self) -> &[u8] {
+        &self.text[self.token.start..self.token.end]
+    }
+
+    fn expect(&mut self, kind: Kind) -> Step<()> {
+        if self.token.kind != kind {
+            return self.refuse(5);
+        }
+        self.advance();
+        Ok(())
+    }
+
+    /// The place of the part that the token makes.
+    fn part(&mut self) -> Step<usize> {
+        if self.parts == PARTS {
+            return self.refuse(12);
+        }
+        self.parts += 1;
+        Ok(self.parts - 1)
+    }
+
+    fn open_mark(&mut self) -> Step<()> {
+        if self.marks == MARKS {
+            return self.refuse(12);
+        }
+        self.marks += 1;
+        Ok(())
+    }
+
+    /// A record for the part at a place; a link is one more than a record, 0 for none.
+    fn put(&mut self, place: usize, kind: u64, key: u64, first: usize, second: usize) -> usize {
+        let n = self.count;
+        self.output.records[2 * n] = kind | (first as u64) << 5 | (second as u64) << 13;
+        self.output.records[2 * n + 1] = key;
+        self.output.places[place] = n as u16;
+        self.count += 1;
+        n
+    }
+
+    /// `w`: one stands where a member takes no argument.
+    fn expression(&mut self, w: bool) -> Step<usize> {
+        match self.token.kind {
+            Kind::Let if w => self.refuse(9),
+            Kind::Let => self.let_in(),
+            Kind::Lambda if w => self.refuse(9),
+            Kind::Lambda => self.lambda(),
+            Kind::Open if w => self.refuse(9),
+            Kind::Open => {
+                let inner = self.bracket()?;
+                self.calls(inner)
+            }
+            Kind::Word => {
+                let name = self.name(w)?;
+                self.calls(name)
+            }
+            Kind::Number => {
+                let number = self.number(w)?;
+                self.calls(number)
+            }
+            _ => self.refuse(5),
+        }
+    }
+
+    /// A name that is bound.
+    fn binder(&mut self, is_lambda: bool) -> Step<u64> {
+        if self.token.kind != Kind::Word {
+            return self.refuse(5);
+        }
+        let word = self.word();
+        if word.len() > NAME_BYTES {
+            return self.refuse(7);
+        }
+        if word == DATA {
+            return self.refuse(8);
+        }
+        let key = packed(word);
+        let taken =
+            |(name, binder): &(u64, Binder)| *name == key && matches!(binder, Binder::Variable);
+        if is_lambda && self.scope.iter().any(taken) {
+            return self.refuse(11);
+        }
+        self.advance();
+        Ok(key)
+    }
+
+    fn let_in(&mut self) -> Step<usize> {
+        self.open_mark()?;
+        let place = self.part()?;
+        self.advance();
+        let name = self.binder(false)?;
+        self.expect(Kind::Equals)?;
+        let value = self.expression(false)?;
+        self.expect(Kind::In)?;
+        self.scope.push((name, Binder::Record(value)));
+        let body = self.expression(false)?;
+        self.scope.pop();
+        self.marks -= 1;
+        self.output.places[place] = body as u16;
+        Ok(body)
+    }
+
+    fn lambda(&mut self) -> Step<usize> {
+        if self.lambdas == LAMBDAS {
+            return self.refuse(10);
+        }
+        self.open_mark()?;
+        let place = self.part()?;
+        self.lambdas += 1;
+        self.advance();
+        let name = self.binder(true)?;
+        self.expect(Kind::Arrow)?;
+        self.scope.push((name, Binder::Variable));
+        let body = self.expression(false)?;
+        self.scope.pop();
+        self.lambdas -= 1;
+        self.marks -= 1;
+        Ok(self.put(place, FUNCTION, name, body + 1, 0))
+    }
+
+    fn bracket(&mut self) -> Step<usize> {
+        self.open_mark()?;
+        self.advance();
+        let inner = self.expression(false)?;
+        self.expect(Kind::Shut)?;
+        self.marks -= 1;
+        Ok(inner)
+    }
+
+    fn name(&mut self, w: bool) -> Step<usize> {
+        let word = self.word();
+        if word.len() > NAME_BYTES {
+            return self.refuse(7);
+        }
+        if w {
+            return self.refuse(9);
+        }
+        let (is_data, key) = (word == DATA, packed(word));
+        let place = self.part()?;
+        self.advance();
+        if is_data {
+            return Ok(self.put(place, RECORDING, 0, 0, 0));
+        }
+        match self.scope.iter().rev().find(|(name, _)| *name == key) {
+            Some((_, Binder::Record(record))) => {
+                let record = *record;
+                self.output.places[place] = record as u16;
+                Ok(record)
+            }
+            Some((_, Binder::Variable)) => Ok(self.put(place, VARIABLE, key, 0, 0)),
+            None => Ok(self.put(place, UNBOUND, key, 0, 0)),
+        }
+    }
+
+    fn number(&mut self, w: bool) -> Step<usize> {
+        let Some(value) = value_of(self.word()) else {
+            return self.refuse(6);
+        };
+        if w {
+            return self.refuse(9);
+        }
+        let place = self.part()?;
+        self.advance();
+        Ok(self.put(place, 0, (i64::from(value) + (1 << 31)) as u64, 0, 0))
+    }
+
+    fn calls(&mut self, mut receiver: usize) -> Step<usize> {
+        while self.token.kind == Kind::Dot {
+            receiver = self.call(receiver)?;
+        }
+        Ok(receiver)
+    }
+
+    fn call(&mut self, receiver: usize) -> Step<usize> {
+        let place = self.part()?;
+        self.advance();
+        if self.token.kind != Kind::Word {
+            return self.refuse(5);
+        }
+        let Some((member, takes)) = member_of(self.word()) else {
+            return self.refuse(9);
+        };
+        self.advance();
+        if self.token.kind != Kind::Open {
+            return self.refuse(5);
+        }
+        self.open_mark()?;
+        self.advance();
+        let argument = self.arguments(takes)?;
+        self.marks -= 1;
+        Ok(self.put(place, MEMBERS + member, 0, receiver + 1, argument))
+    }
+
+    /// The arguments and the bracket behind them: one more than the first argument's record, 0 for none.
+    fn arguments(&mut self, takes: usize) -> Step<usize> {
+        let mut given = 0;
+        let mut first = 0;
+        if self.token.kind != Kind::Shut {
+            first = self.expression(takes == 0)? + 1;
+            given = 1;
+        }
+        match self.token.kind {
+            Kind::Shut if given < takes => self.refuse(9),
+            Kind::Shut => {
+                self.advance();
+                Ok(first)
+            }
+            // every member takes one argument at most
+            Kind::Comma => self.refuse(9),
+            _ => self.refuse(5),
+        }
+    }
+}

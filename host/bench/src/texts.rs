@@ -1,0 +1,89 @@
+//! Texts of 1,024 bytes and 128 parts, put together from tokens.
+
+const BYTES: usize = 1024;
+
+/// The tokens of a formula of 128 parts: ten lets, and a chain of calls over them.
+fn formula(name: &dyn Fn(usize) -> String, number: &dyn Fn(usize) -> i64) -> Vec<String> {
+    let mut text = String::new();
+    for i in 0..10 {
+        let (x, a, b) = (name(i), number(i), number(i + 1));
+        text += &format!("let {x} = data . skip ( {a} ) . take ( {b} ) . ");
+        text += &match i {
+            0 => format!("countWhere ( \\ b -> b . gt ( {a} ) ) in "),
+            _ => "sum ( ) in ".to_string(),
+        };
+    }
+    text += &name(0);
+    for i in 0..12 {
+        let member = ["add", "sub", "mul", "div"][i % 4];
+        text += &format!(" . {member} ( {} . add ( {} ) )", name(i % 10), number(i));
+    }
+    text += " . add ( data . count ( ) ) . add ( 5 )";
+    text.split(' ').map(String::from).collect()
+}
+
+/// As one writes it: a blank beside a word, an `=` and an arrow.
+pub fn dense() -> Vec<u8> {
+    let tokens = formula(&|i| format!("speed{i:03}"), &|i| 100_000 + 7 * i as i64);
+    let mut text = String::new();
+    for token in tokens {
+        let spaced = matches!(token.as_str(), "=" | "->" | "in");
+        if spaced {
+            text.push(' ');
+        }
+        text += &token;
+        if spaced || token == "let" {
+            text.push(' ');
+        }
+    }
+    padded(text)
+}
+
+/// Short names and numbers, with a line break or blanks between all tokens.
+pub fn spaced() -> Vec<u8> {
+    let tokens = formula(&|i| format!("v{i}"), &|i| 7 * i as i64);
+    let mut text = String::new();
+    for token in tokens {
+        text += &token;
+        text += if token == "in" { "\r\n\t" } else { " " };
+    }
+    padded(text)
+}
+
+/// Blanks behind, up to the most that a text may have.
+fn padded(text: String) -> Vec<u8> {
+    assert!(text.len() <= BYTES, "{} bytes", text.len());
+    let mut bytes = text.into_bytes();
+    bytes.resize(BYTES, b' ');
+    bytes
+}
+
+/// 16 open marks, each a call's bracket.
+pub fn nested_calls() -> Vec<u8> {
+    ("data.skip(".repeat(16) + "1" + &")".repeat(16)).into_bytes()
+}
+
+/// 16 open marks, each a let in the value of the one around it.
+pub fn nested_lets() -> Vec<u8> {
+    ("let x = ".repeat(16) + "1" + &" in x".repeat(16)).into_bytes()
+}
+
+/// 16 open marks, each a bracket.
+pub fn nested_brackets() -> Vec<u8> {
+    ("(".repeat(16) + "1" + &")".repeat(16)).into_bytes()
+}
+
+/// A chain of as many calls as a text may have parts for.
+pub fn long_chain() -> Vec<u8> {
+    ("data".to_string() + &".sum()".repeat(127)).into_bytes()
+}
+
+/// The same, with 63 arguments.
+pub fn long_chain_with_arguments() -> Vec<u8> {
+    ("data".to_string() + &".skip(1)".repeat(63)).into_bytes()
+}
+
+/// 15 open marks around a chain of all the calls that are left, each with a 16th.
+pub fn chain_in_calls() -> Vec<u8> {
+    ("data.skip(".repeat(15) + "data" + &".sum()".repeat(97) + &")".repeat(15)).into_bytes()
+}

@@ -1,0 +1,93 @@
+/* Makes calls through the wrappers of formula.h and writes every field of every answer. */
+#include "formula.h"
+
+#include <inttypes.h>
+#include <stdio.h>
+#include <string.h>
+
+static formula_cache cache;
+static uint16_t places[FORMULA_PLACES];
+
+static void edit(const char *text)
+{
+    uint32_t part;
+    formula_edit_answer answer = formula_cache_edit(&cache, text, strlen(text), places);
+    printf("edit %" PRIu32 " %" PRIu32 " %" PRIu32 " %" PRIu32 " %" PRIu32 ":", answer.refusal,
+           answer.place, answer.whole, answer.parts, answer.added);
+    for (part = 0; part < answer.parts; part++) {
+        printf(" %u", (unsigned)places[part]);
+    }
+    printf("\n");
+}
+
+static void preview(uint32_t entry, uint32_t allowance)
+{
+    char name[FORMULA_NAME_BYTES + 1];
+    char other[FORMULA_NAME_BYTES + 1];
+    formula_preview_answer answer = formula_cache_preview(&cache, entry, allowance);
+    formula_name_text(answer.name, name);
+    formula_name_text(answer.other, other);
+    printf("preview %" PRIu32 " %" PRIu32 " %" PRIu32 " %" PRIu32 " %" PRId32 " %" PRIu32 " [%s] [%s]\n",
+           answer.refusal, answer.finished, answer.worked, answer.kind, answer.first, answer.second, name,
+           other);
+}
+
+static void depth(uint32_t entry)
+{
+    printf("depth %u\n", formula_cache_run_depth(&cache, entry));
+}
+
+/* Contents that no cache has. */
+static void fill_links(uint16_t link)
+{
+    size_t at;
+    for (at = 0; at < FORMULA_LINKS_CELLS; at++) {
+        cache.links[at] = link;
+    }
+}
+
+int main(void)
+{
+    static const int32_t recording[] = {140, 152, 160, 148, 155};
+    static const int32_t long_recording[FORMULA_RECORDING_READINGS + 1];
+    memset(&cache, 0xff, sizeof cache);
+    printf("open %" PRIu32 "\n", formula_cache_open(&cache, long_recording, FORMULA_RECORDING_READINGS + 1));
+    edit("data");
+    preview(0, 1);
+    printf("open %" PRIu32 "\n", formula_cache_open(&cache, NULL, 0));
+    edit("data.count()");
+    preview(1, 1);
+    printf("open %" PRIu32 "\n", formula_cache_open(&cache, recording, 5));
+    edit("let x = 2 in data.skip(1).take(x)");
+    preview(4, 1);
+    preview(4, 1);
+    edit("let x = 3 in data.skip(1).take(x)");
+    preview(6, 512);
+    edit("\\abcdefgh -> \\z9 -> abcdefgh.add(z9)");
+    preview(9, 512);
+    preview(10, 512);
+    preview(11, 512);
+    edit("-2147483648.div(-1)");
+    preview(14, 512);
+    preview(12, 0);
+    preview(15, 0);
+    edit("data.");
+    edit("");
+    edit("data.sumBy(\\p -> data.countWhere(\\q -> q.gt(p)))");
+    depth(21);
+    depth(20);
+    depth(19);
+    depth(18);
+    depth(22);
+    edit("let f = \\b -> data.take(b).longestRun(\\c -> c) in data.sumBy(f).add(data.countWhere(f)).add(data.sum())");
+    depth(32);
+    depth(31);
+    depth(33);
+    memset(&cache, 0xff, sizeof cache);
+    depth(511);
+    depth(512);
+    fill_links(20);
+    depth(19);
+    depth(511);
+    return 0;
+}

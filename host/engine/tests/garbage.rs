@@ -1,0 +1,332 @@
+//! Memory of any contents. `judge` says which is refused under 4. In the rest an edit is
+//! answered as binding over the decoded entries says, and a preview works out the entries
+//! that it must; where all kept results are those of their forms, so are the new ones.
+//! That a refused call changes nothing, and that no other cell is written, is tested by
+//! `Cache` at each call.
+
+use engine::cache::Cache;
+use engine::compare::{Pair, Tally};
+use engine::damage::{damage, is_affordable, made_up, with_spare};
+use engine::judge::is_well_formed;
+use engine::memory::Memory;
+use plain::bind::bind;
+use plain::eval::Evaluation;
+use plain::form::Forms;
+use plain::model::Answer;
+use plain::random::formula::{formula, join};
+use plain::random::limit::wide;
+use plain::random::rng::Rng;
+use plain::random::session;
+use plain::refusal::{NO_SUCH_ENTRY, TABLE_FULL};
+use plain::samples::{ALL, RECORDING, edit, open, preview};
+use plain::shown::Shown;
+use plain::syntax::parse;
+
+const ILL_FORMED: Answer = Answer::Refused { number: 4, place: 0 };
+
+/// What an edit of a well-formed cache gives, and the forms that it then holds.
+fn edited(memory: &Memory, text: &[u8]) -> (Answer, Forms) {
+    let held = memory.forms();
+    let parsed = match parse(text) {
+        Ok(parsed) => parsed,
+        Err(refusal) => {
+            let place = refusal.place as u32;
+            return (Answer::Refused { number: refusal.number, place }, held);
+        }
+    };
+    let mut forms = held.clone();
+    let bound = bind(&parsed, &mut forms);
+    if forms.list.len() > 512 {
+        return (Answer::Refused { number: TABLE_FULL, place: 0 }, held);
+    }
+    let answer = Answer::Edited {
+        whole: bound.whole as u32,
+        parts: parsed.parts as u32,
+        new: (forms.list.len() - held.list.len()) as u32,
+        places: bound.places.iter().map(|place| *place as u32).collect(),
+    };
+    (answer, forms)
+}
+
+fn check_edit(memory: &Memory, text: &[u8]) -> Answer {
+    let mut cache = Cache::new(memory);
+    let answer = cache.call(&edit(text));
+    if !is_well_formed(memory) {
+        assert_eq!(answer, ILL_FORMED);
+        return answer;
+    }
+    let (expected, forms) = edited(memory, text);
+    assert_eq!(answer, expected, "{}", String::from_utf8_lossy(text));
+    let after = cache.memory();
+    assert!(is_well_formed(&after));
+    assert_eq!(after.forms(), forms);
+    answer
+}
+
+/// The entries that a preview works out, and whether some are left.
+fn to_work_out(memory: &Memory, entry: usize, allowance: u32) -> (Vec<usize>, bool) {
+    let below = memory.forms().at_or_below(entry).into_iter();
+    let mut unworked: Vec<usize> =
+        below.filter(|below| memory.needs_work(*below) && memory.kept(*below) == 0).collect();
+    let is_left = unworked.len() > allowance as usize;
+    unworked.truncate(allowance as usize);
+    (unworked, is_left)
+}
+
+/// What the forms show, if all kept results agree with it.
+fn shown_by_forms(memory: &Memory) -> Option<Vec<Shown>> {
+    let forms = memory.forms();
+    let mut evaluation = Evaluation::new(&forms, memory.recording());
+    let shown: Vec<Shown> = (0..forms.list.len()).map(|form| evaluation.show(form)).collect();
+    let is_right = |entry: &usize| memory.shown(*entry).is_none_or(|kept| kept == shown[*entry]);
+    (0..forms.list.len()).all(|entry| is_right(&entry)).then_some(shown)
+}
+
+fn check_preview(memory: &Memory, entry: u32, allowance: u32) -> Answer {
+    let mut cache = Cache::new(memory);
+    let answer = cache.call(&preview(entry, allowance));
+    if !is_well_formed(memory) {
+        assert_eq!(answer, ILL_FORMED);
+        return answer;
+    }
+    if entry as usize >= memory.entries() {
+        assert_eq!(answer, Answer::Refused { number: NO_SUCH_ENTRY, place: 0 });
+        return answer;
+    }
+    let entry = entry as usize;
+    let after = cache.memory();
+    let (unworked, is_left) = to_work_out(memory, entry, allowance);
+    assert!(unworked.iter().all(|number| after.kept(*number) != 0), "{unworked:?}");
+    let worked = unworked.len() as u32;
+    if is_left {
+        assert_eq!(answer, Answer::NotYet { worked });
+    } else {
+        let leaf = || Evaluation::new(&memory.forms(), memory.recording()).show(entry);
+        let shown = after.shown(entry).unwrap_or_else(leaf);
+        assert_eq!(answer, Answer::Finished { worked, shown });
+    }
+    if let Some(shown) = shown_by_forms(memory) {
+        assert!(is_well_formed(&after));
+        for number in unworked {
+            assert_eq!(after.shown(number).as_ref(), Some(&shown[number]), "entry {number}");
+        }
+    }
+    answer
+}
+
+/// An edit and a preview of one memory, sometimes with longer slices.
+fn check(rng: &mut Rng, memory: &Memory, tally: &mut Tally) {
+    let memory = &if rng.one_in(4) { with_spare(rng, memory) } else { memory.clone() };
+    let tokens = formula(rng);
+    let text = if rng.one_in(4) { wide(rng) } else { join(rng, &tokens) };
+    tally.count(&check_edit(memory, &text));
+    let is_cheap = !is_well_formed(memory) || {
+        let readings = memory.heads[1] as usize;
+        is_affordable(&memory.forms(), readings)
+    };
+    if is_cheap {
+        let held = memory.heads[0];
+        let is_held = held > 0 && !rng.one_in(8);
+        let entry = if is_held { rng.below(held.into()) as u32 } else { held };
+        let allowance = rng.pick(&[0, 1, 2, 3, 512, u32::MAX]);
+        tally.count(&check_preview(memory, entry, allowance));
+    }
+}
+
+#[test]
+fn damaged_caches() {
+    let mut tally = Tally::default();
+    for seed in 0..150 {
+        let mut rng = Rng::new(seed);
+        let mut pair = Pair::new(seed);
+        session(2_000_000 + seed, 60).iter().for_each(|call| drop(pair.call(call)));
+        let memory = pair.cache.memory();
+        check(&mut rng, &memory, &mut tally);
+        for _ in 0..120 {
+            let mut damaged = memory.clone();
+            damage(&mut rng, &mut damaged);
+            check(&mut rng, &damaged, &mut tally);
+        }
+    }
+    tally.check(&["refused 4", "refused 14", "edited", "not yet", "number", "window"], 100);
+    tally.check(&["refused 5", "refused 13", "function", "delayed 1", "missing 1"], 5);
+}
+
+#[test]
+fn made_up_caches() {
+    let mut tally = Tally::default();
+    let mut rng = Rng::new(21);
+    for _ in 0..20_000 {
+        let memory = made_up(&mut rng);
+        check(&mut rng, &memory, &mut tally);
+    }
+    tally.check(&["refused 4", "refused 14", "edited", "not yet", "number", "window"], 100);
+    tally.check(&["function", "delayed 1", "delayed 2", "missing 1", "missing 2"], 5);
+}
+
+#[test]
+fn memory_of_any_contents() {
+    let mut rng = Rng::new(22);
+    let mut tally = Tally::default();
+    for fill in [0, 1, u64::MAX, 0x5555_5555_5555_5555, 1 << 63] {
+        check(&mut rng, &Memory::filled(|| fill), &mut tally);
+    }
+    for _ in 0..300 {
+        let mut memory = Memory::filled(|| rng.draw());
+        check(&mut rng, &memory, &mut tally);
+        memory.heads = vec![rng.below(600) as u32, rng.below(1100) as u32];
+        check(&mut rng, &memory, &mut tally);
+    }
+    tally.check(&["refused 4"], 500);
+    tally.check(&["edited"], 1);
+}
+
+/// Counts over the limits, on an otherwise good cache.
+#[test]
+fn counts_beyond_the_limits() {
+    let mut memory = used().memory();
+    for count in [513, 514, 1024, 65_536 + 3, u32::MAX] {
+        memory.heads[0] = count;
+        assert_eq!(check_edit(&memory, b"1"), ILL_FORMED);
+        assert_eq!(check_preview(&memory, 0, 1), ILL_FORMED);
+        assert_eq!(check_preview(&memory, count - 1, 1), ILL_FORMED);
+    }
+    let mut memory = used().memory();
+    for count in [1025, 65_536 + 5, u32::MAX] {
+        memory.heads[1] = count;
+        assert_eq!(check_edit(&memory, b"1"), ILL_FORMED);
+        assert_eq!(check_preview(&memory, 0, 1), ILL_FORMED);
+    }
+}
+
+/// Entries 0 data, 1 number, 2 `data.skip(1)`, 3 variable b, 4 variable a, 5 `b.add(a)`,
+/// 6 and 7 the functions around it, 8 `data.sumBy(7)`, 9 an unbound name. All are
+/// worked out, and behind them stands the entry 10, `data.count()`, which is not.
+fn used() -> Cache {
+    let mut cache = Cache::new(&Memory::filled(|| 0));
+    cache.call(&open(&RECORDING));
+    cache.call(&edit("data.skip(1)"));
+    cache.call(&edit("data.sumBy(\\a -> \\b -> b.add(a))"));
+    cache.call(&preview(8, ALL));
+    cache.call(&edit("nobody"));
+    cache.call(&edit("data.count()"));
+    cache
+}
+
+/// A change of one cell: in `links` at 3 x entry + at, or in `cells` at 4 x entry + at.
+#[derive(Clone, Copy)]
+enum Change {
+    Link(usize, usize, u16),
+    Cell(usize, usize, u64),
+}
+
+fn changed(change: Change) -> Memory {
+    let mut memory = used().memory();
+    match change {
+        Change::Link(entry, at, value) => memory.links[3 * entry + at] = value,
+        Change::Cell(entry, at, value) => memory.cells[4 * entry + at] = value,
+    }
+    memory
+}
+
+/// Each clause of refusal 4 by itself.
+#[test]
+fn clauses_of_refusal_4() {
+    use Change::{Cell, Link};
+    let clauses = [
+        ("unknown kind", Link(9, 0, 21)),
+        ("unknown kind", Link(2, 0, u16::MAX)),
+        ("a name that is none: empty", Cell(9, 0, 0)),
+        ("a name that is none: a digit first", Cell(9, 0, 0x3161)),
+        ("a name that is none: another byte", Cell(9, 0, 0x61_5f)),
+        ("a name that is none: a zero byte", Cell(9, 0, 0x61_00_61)),
+        ("a name that is none: let", Cell(9, 0, 0x6c6574)),
+        ("a name that is none: in", Cell(9, 0, 0x696e)),
+        ("a name that is none: data", Cell(9, 0, 0x64617461)),
+        ("a function's name that is none", Cell(7, 0, 0x31)),
+        ("a number beyond 32 bits", Cell(1, 0, 1 << 32)),
+        ("a key where the kind has none", Cell(0, 0, 1)),
+        ("a member with a key", Cell(10, 0, 1)),
+        ("too few dependencies: none", Link(10, 1, 0)),
+        ("too few dependencies: one", Link(2, 2, 0)),
+        ("too few dependencies: only the second", Link(2, 1, 0)),
+        ("too many dependencies", Link(10, 2, 1)),
+        ("a number with a dependency", Link(1, 1, 1)),
+        ("a function with two dependencies", Link(7, 2, 1)),
+        ("depends on itself", Link(10, 1, 11)),
+        ("depends on a higher entry", Link(2, 1, 9)),
+        ("depends on no entry", Link(10, 1, u16::MAX)),
+        ("equal entries twice", Cell(4, 0, 0x62)),
+        ("a kept number beyond 32 bits", Cell(2, 1, (1 << 32) + 1)),
+        ("a kept window beyond the recording", Cell(2, 1, (1 << 33) + 65_536 + 5)),
+        ("a kept window from beyond the recording", Cell(2, 1, (1 << 33) + 6 * 65_536)),
+        ("a kept function with another cell", Cell(7, 1, (1 << 34) + 1)),
+        ("a kept delay with another cell", Cell(6, 1, (3 << 33) + 1)),
+        ("reason 0", Cell(2, 1, 1 << 35)),
+        ("reason 6", Cell(2, 1, (1 << 35) + 6)),
+        ("a kept cell beyond all kinds", Cell(2, 1, u64::MAX)),
+        ("a name beside a window", Cell(2, 2, 0x61)),
+        ("a second name beside a window", Cell(2, 3, 0x61)),
+        ("a second name beside a function", Cell(7, 3, 0x61)),
+        ("a function without a name", Cell(7, 2, 0)),
+        ("a delay without a name", Cell(6, 2, 0)),
+        ("a delay with a name that is none", Cell(5, 3, 0x31)),
+        ("a name without a result", Cell(10, 2, 0x61)),
+        ("a number that keeps a result", Cell(1, 1, 1)),
+        ("a variable that keeps a result", Cell(3, 1, 3 << 33)),
+        ("worked out over an unworked receiver", Cell(6, 1, 0)),
+    ];
+    for (clause, change) in clauses {
+        let memory = changed(change);
+        assert!(!is_well_formed(&memory), "{clause}");
+        assert_eq!(check_edit(&memory, b"data"), ILL_FORMED, "{clause}");
+        assert_eq!(check_preview(&memory, 0, 1), ILL_FORMED, "{clause}");
+    }
+}
+
+/// An entry that awaits three names, by a third variable that is added to two others.
+#[test]
+fn three_awaited_names_are_refused() {
+    let mut memory = used().memory();
+    memory.heads[0] = 13;
+    memory.links[33..39].copy_from_slice(&[1, 0, 0, 5, 6, 12]);
+    memory.cells[44..52].copy_from_slice(&[0x63, 0, 0, 0, 0, 0, 0, 0]);
+    assert!(!is_well_formed(&memory));
+    assert_eq!(check_edit(&memory, b"data"), ILL_FORMED);
+    memory.links[37] = 4;
+    assert!(is_well_formed(&memory));
+    assert!(matches!(check_edit(&memory, b"data"), Answer::Edited { whole: 0, new: 0, .. }));
+}
+
+/// Contents at the limits that are not refused.
+#[test]
+fn good_contents_at_the_limits() {
+    use Change::Cell;
+    let contents = [
+        Cell(0, 0, 0),
+        Cell(1, 0, (1 << 32) - 1),
+        Cell(9, 0, 0x61_62_63_64_65_66_67_68),
+        Cell(9, 0, 0x5a),
+        Cell(9, 0, 0x6c6573),
+        Cell(2, 1, 1),
+        Cell(2, 1, 1 << 32),
+        Cell(2, 1, 1 << 33),
+        Cell(2, 1, (1 << 33) + 65_536 + 4),
+        Cell(2, 1, (1 << 33) + 5 * 65_536),
+        Cell(2, 1, (1 << 35) + 1),
+        Cell(2, 1, (1 << 35) + 5),
+        Cell(6, 2, 0x7a),
+        Cell(6, 3, 0x7a),
+        Cell(8, 1, 0),
+    ];
+    for change in contents {
+        let memory = changed(change);
+        assert!(is_well_formed(&memory));
+        let answer = check_edit(&memory, b"data");
+        assert!(matches!(answer, Answer::Edited { whole: 0, new: 0, .. }), "{answer:?}");
+        for entry in 0..11 {
+            let answer = check_preview(&memory, entry, ALL);
+            assert!(matches!(answer, Answer::Finished { .. }), "{answer:?}");
+        }
+    }
+}

@@ -1,0 +1,205 @@
+//! Random sessions against the reference model, call by call, and the state at the end.
+//!
+//! FORMULA_SEED and FORMULA_CALLS set another first seed and number of calls:
+//!     FORMULA_SEED=77 FORMULA_CALLS=5000000 cargo test --release -p engine --test sessions
+
+use engine::compare::{Pair, Tally};
+use plain::limits::TABLE_ENTRIES;
+use plain::model::Answer;
+use plain::random::formula::{formula, join};
+use plain::random::limit::wide;
+use plain::random::nested::nested;
+use plain::random::rng::Rng;
+use plain::random::{is_affordable, session};
+use plain::refusal::TABLE_FULL;
+use plain::samples::{edit, open, preview};
+use std::thread;
+
+const CALLS_OF_SESSION: usize = 80;
+
+const FULL: Answer = Answer::Refused { number: TABLE_FULL, place: 0 };
+
+fn setting(name: &str, otherwise: u64) -> u64 {
+    match std::env::var(name) {
+        Ok(value) => value.parse().unwrap_or_else(|_| panic!("{name} is no number: {value}")),
+        Err(_) => otherwise,
+    }
+}
+
+/// One session in both, from memory of any contents.
+fn run(seed: u64) -> Tally {
+    let mut tally = Tally::default();
+    let mut pair = Pair::new(seed);
+    for (at, call) in session(seed, CALLS_OF_SESSION).iter().enumerate() {
+        let answer = pair.call_in(call, || format!("seed {seed}, call {at}:"));
+        tally.count(&answer);
+    }
+    pair.check_state();
+    tally
+}
+
+/// Sessions of as many seeds from the first one on, on a few threads.
+fn run_all(first: u64, sessions: u64) -> Tally {
+    let threads = thread::available_parallelism().map_or(1, |count| count.get() as u64).min(4);
+    let part = |thread: u64| {
+        let mut tally = Tally::default();
+        for seed in (thread..sessions).step_by(threads as usize) {
+            tally.add(run(first.wrapping_add(seed)));
+        }
+        tally
+    };
+    let mut all = Tally::default();
+    thread::scope(|scope| {
+        let workers: Vec<_> =
+            (0..threads).map(|thread| scope.spawn(move || part(thread))).collect();
+        workers.into_iter().for_each(|worker| all.add(worker.join().expect("a session failed")));
+    });
+    all
+}
+
+/// Each kind of answer comes often enough to be of use.
+#[test]
+fn random_sessions() {
+    let calls = setting("FORMULA_CALLS", 200_000);
+    let sessions = calls.div_ceil(CALLS_OF_SESSION as u64);
+    let tally = run_all(setting("FORMULA_SEED", 0), sessions);
+    assert!(tally.total() as u64 >= calls);
+    if calls >= 200_000 {
+        let refused = [1, 2, 3, 5, 6, 7, 8, 9, 10, 11, 12, 13, 14];
+        let labels = refused.map(|number| format!("refused {number}"));
+        tally.check(&labels.each_ref().map(String::as_str), 50);
+        tally.check(&["opened", "edited", "not yet", "number", "window", "function"], 50);
+        tally.check(&["delayed 1", "delayed 2"], 50);
+        tally.check(&["missing 1", "missing 2", "missing 3", "missing 4", "missing 5"], 50);
+    }
+}
+
+/// Previews of an entry, first without an allowance, then with this one up to the end.
+fn preview_to_end(pair: &mut Pair, entry: u32, allowance: u32) {
+    pair.call(&preview(entry, 0));
+    while let Answer::NotYet { .. } = pair.call(&preview(entry, allowance)) {}
+}
+
+/// Fills the table with long texts and then, one entry at a time, to the last.
+fn fill(pair: &mut Pair, rng: &mut Rng) -> Vec<Vec<u8>> {
+    let mut taken = Vec::new();
+    loop {
+        let text = wide(rng);
+        match pair.call(&edit(&text)) {
+            Answer::Edited { .. } => taken.push(text),
+            FULL => break,
+            _ => (),
+        }
+    }
+    let held = pair.model.forms().list.len();
+    for number in 0..TABLE_ENTRIES - held {
+        let answer = pair.call(&edit((10_000 + number).to_string()));
+        assert!(matches!(answer, Answer::Edited { new: 1, .. }), "{answer:?}");
+    }
+    taken
+}
+
+#[test]
+fn full_tables() {
+    for seed in 0..40 {
+        let mut rng = Rng::new(seed);
+        let mut pair = Pair::new(seed);
+        pair.call(&open(&[3, -1, 4]));
+        let taken = fill(&mut pair, &mut rng);
+        assert_eq!(pair.cache.memory().entries(), 512);
+        for text in ["20000", "let u = 20000 in 10000", "\\z -> z", "unknown.add(20000)"] {
+            assert_eq!(pair.call(&edit(text)), FULL, "{text}");
+        }
+        for text in &taken {
+            let answer = pair.call(&edit(text));
+            assert!(matches!(answer, Answer::Edited { new: 0, .. }), "{answer:?}");
+        }
+        for entry in (0..512).step_by(5) {
+            preview_to_end(&mut pair, entry, [1, 2, 7, u32::MAX][entry as usize % 4]);
+        }
+        pair.call(&preview(512, 1));
+        pair.check_state();
+        pair.call(&open(&[]));
+        pair.call(&edit("20000"));
+        pair.check_state();
+    }
+}
+
+/// Recordings with the extreme readings, of no reading, one, and as many as there can be.
+fn recordings() -> Vec<Vec<i32>> {
+    let mut rng = Rng::new(11);
+    let both = [i32::MIN, i32::MAX];
+    vec![
+        vec![],
+        vec![i32::MIN],
+        vec![i32::MAX],
+        vec![0],
+        vec![i32::MIN; 1024],
+        vec![i32::MAX; 1024],
+        (0..1024).map(|at| both[at % 2]).collect(),
+        (0..1024).map(|at| both[usize::from(at < 511)]).collect(),
+        (-512..512).collect(),
+        (0..1024).map(|_| rng.reading()).collect(),
+        (0..1023).map(|_| rng.draw() as i32).collect(),
+    ]
+}
+
+/// Every member at the limits of recordings and numbers.
+#[rustfmt::skip]
+const TEXTS: [&str; 36] = [
+    "data", "data.sum()", "data.min()", "data.max()", "data.count()",
+    "data.at(0)", "data.at(1022)", "data.at(1023)", "data.at(1024)", "data.at(-1)",
+    "data.at(2147483647)", "data.skip(1023)", "data.skip(1024)", "data.skip(1025)",
+    "data.skip(2147483647).min()", "data.take(2147483647)", "data.skip(-1)",
+    "data.take(-2147483648)", "data.skip(512).take(511).sum()", "data.take(0).max()",
+    "data.max().sub(data.min())", "data.min().div(-1)", "data.max().add(1)",
+    "data.min().mul(data.max())", "data.sumBy(\\x -> x)", "data.sumBy(\\x -> x.div(-1))",
+    "data.sumBy(\\x -> x.div(x))", "data.sumBy(\\x -> x.mul(x))", "data.sumBy(\\x -> 2147483647)",
+    "data.sumBy(\\x -> data.min())", "data.countWhere(\\x -> x.gt(-2147483648))",
+    "data.longestRun(\\x -> x.eq(2147483647))", "data.longestRun(\\x -> x.gt(0))",
+    "data.countWhere(\\x -> data.skip(x))", "data.take(0).countWhere(\\x -> y)",
+    "data.take(30).sumBy(\\p -> data.skip(990).countWhere(\\q -> q.gt(p)))",
+];
+
+/// Edits a text and previews it to the end, over a new opening if the table is full.
+fn show(pair: &mut Pair, recording: &[i32], text: &[u8], allowance: u32) {
+    let mut answer = pair.call(&edit(text));
+    if answer == FULL {
+        pair.check_state();
+        pair.call(&open(recording));
+        answer = pair.call(&edit(text));
+    }
+    if let Answer::Edited { whole, .. } = answer {
+        preview_to_end(pair, whole, allowance);
+    }
+}
+
+#[test]
+fn extreme_recordings() {
+    let mut rng = Rng::new(12);
+    for (seed, recording) in recordings().iter().enumerate() {
+        let mut pair = Pair::new(seed as u64);
+        pair.call(&open(recording));
+        for (at, text) in TEXTS.iter().enumerate() {
+            show(&mut pair, recording, text.as_bytes(), [1, 2, u32::MAX][at % 3]);
+        }
+        for _ in 0..150 {
+            let tokens = if rng.one_in(2) { formula(&mut rng) } else { nested(&mut rng) };
+            let text = join(&mut rng, &tokens);
+            if is_affordable(&text, recording.len()) {
+                show(&mut pair, recording, &text, 1);
+            }
+        }
+        pair.check_state();
+    }
+}
+
+#[test]
+fn runs_within_runs_over_the_longest_recording() {
+    let recording: Vec<i32> = (0..1024).map(|at| at * 37 % 101).collect();
+    let mut pair = Pair::new(0);
+    pair.call(&open(&recording));
+    let text = b"data.sumBy(\\p -> data.countWhere(\\q -> q.gt(p)))";
+    show(&mut pair, &recording, text, 2);
+    pair.check_state();
+}

@@ -1,0 +1,132 @@
+//! The formula screen, shell/formula.c: the stored example, recordings that can't be used,
+//! and texts that no example file holds.
+
+use engine::program::{linked, root, text, written};
+use plain::samples::taken::forms_128;
+use std::io::Write;
+use std::path::{Path, PathBuf};
+use std::process::{Command, Output, Stdio};
+use std::sync::OnceLock;
+
+fn folder() -> &'static Path {
+    Path::new(env!("CARGO_TARGET_TMPDIR"))
+}
+
+fn shell() -> &'static Path {
+    static SHELL: OnceLock<PathBuf> = OnceLock::new();
+    SHELL.get_or_init(|| linked(&root().join("shell/formula.c"), &folder().join("formula")))
+}
+
+/// Runs the screen with arguments and an input.
+fn run(arguments: &[&str], input: &[u8]) -> Output {
+    let mut command = Command::new(shell());
+    command.args(arguments).current_dir(root());
+    command.stdin(Stdio::piped()).stdout(Stdio::piped()).stderr(Stdio::piped());
+    let mut child = command.spawn().expect("the screen runs");
+    let mut stdin = child.stdin.take().expect("the input is piped");
+    let input = input.to_vec();
+    // The screen may end before it has read its input.
+    let writer = std::thread::spawn(move || drop(stdin.write_all(&input)));
+    let output = child.wait_with_output().expect("the screen ends");
+    writer.join().expect("the input is written");
+    output
+}
+
+/// Runs the screen over a recording with these contents.
+fn run_over(name: &str, recording: &str, input: &[u8]) -> Output {
+    let path = folder().join(name);
+    std::fs::write(&path, recording).expect("the folder can be written");
+    run(&[path.to_str().expect("a path in UTF-8")], input)
+}
+
+#[test]
+fn the_stored_example() {
+    let input = std::fs::read(root().join("shell/example.in")).expect("the example is there");
+    let stored = std::fs::read_to_string(root().join("shell/example.out"));
+    let output = written(&run(&["shell/interval.txt"], &input));
+    assert_eq!(output, stored.expect("the example is there"));
+    assert_eq!(written(&run(&[], &input)), output);
+}
+
+#[test]
+fn the_recording_that_ships_says_that_it_is_synthetic() {
+    let recording = std::fs::read_to_string(root().join("shell/interval.txt"));
+    assert!(recording.expect("the recording is there").starts_with("# Synthetic"));
+}
+
+/// The exit status is 1, the words say why, and nothing is shown.
+fn check_bad(output: &Output, words: &str) {
+    assert_eq!(output.status.code(), Some(1), "{words}");
+    assert!(text(&output.stderr).contains(words), "{words}: {}", text(&output.stderr));
+    assert_eq!(text(&output.stdout), "");
+}
+
+#[test]
+fn recordings_that_cannot_be_used() {
+    check_bad(&run(&["no/such/file"], b"1\n"), "no/such/file: No such file");
+    check_bad(&run(&["shell"], b"1\n"), "shell: Is a directory");
+    for (word, fault) in [
+        ("abc", "is no number"),
+        ("12x", "is no number"),
+        ("1.5", "is no number"),
+        ("1,2", "is no number"),
+        ("-", "is no number"),
+        ("--1", "is no number"),
+        ("+1", "is no number"),
+        ("0000000000000000000000000000000000001", "is no number"),
+        ("2147483648", "is beyond 32 bits"),
+        ("-2147483649", "is beyond 32 bits"),
+        ("-21474836480", "is beyond 32 bits"),
+        ("99999999999999999999", "is beyond 32 bits"),
+    ] {
+        let recording = format!("# a comment\n1 2\n3 {word}\n");
+        let output = run_over("bad.txt", &recording, b"data\n");
+        check_bad(&output, &format!("bad.txt:3: '{}", &word[..word.len().min(31)]));
+        check_bad(&output, fault);
+    }
+    let long = "7 ".repeat(1025);
+    check_bad(&run_over("long.txt", &long, b"data\n"), "long.txt:1: over 1024 readings");
+    let output = run(&["one", "two"], b"");
+    assert_eq!(output.status.code(), Some(2));
+}
+
+#[test]
+fn recordings_at_the_limits() {
+    let seen = |recording: &str, formula: &str| {
+        written(&run_over("good.txt", recording, format!("{formula}\n").as_bytes()))
+    };
+    assert!(seen("", "data.count()").contains(".count           entry   1  0\n"));
+    assert!(seen("# none", "data").contains("window from 0, length 0\n"));
+    let ends = "-2147483648\t-0\r\n0002147483647# the last";
+    assert!(seen(ends, "data").contains("length 3: -2147483648 0 2147483647\n"));
+    assert!(seen(&"7 ".repeat(1024), "data.sum()").contains("entry   1  7168\n"));
+}
+
+#[test]
+fn texts_at_the_limits() {
+    let seen = |formula: &[u8]| written(&run(&["shell/interval.txt"], formula));
+    let zeros = "0".repeat(1024);
+    assert!(seen(zeros.as_bytes()).contains("1 part; entries: 1 new"));
+    let longer = seen(format!("{zeros}0").as_bytes());
+    assert!(longer.ends_with("  refused (1): the text is over 1,024 bytes\n"), "{longer}");
+    assert_eq!(seen(format!("{zeros}{zeros}").as_bytes()), longer);
+    let stray = seen(b"1.add(\x00\xff\t2)\n");
+    assert!(stray.contains("at byte 6\n    1.add(?? 2)\n          ^\n"), "{stray}");
+    let far = seen(format!("1{}#{}", ".add(1)".repeat(20), " 2".repeat(90)).as_bytes());
+    let excerpt = format!("    ...{}# 2 2 2 2 2 2 2 ...", ".add(1)".repeat(8));
+    let caret = format!("{excerpt}\n{}^\n", " ".repeat(4 + 3 + 56));
+    assert!(far.contains("at byte 141\n") && far.contains(&caret), "{far}");
+    assert!(seen(b"\n  \t\n# data\n").ends_with("240 readings\n"));
+}
+
+/// The fifth text of 128 new entries finds the table full; the recording is opened again.
+#[test]
+fn a_full_table() {
+    let texts: Vec<String> = (0..5).map(|round| forms_128(64 * round)).collect();
+    let output = written(&run(&["shell/interval.txt"], texts.join("\n").as_bytes()));
+    let full =
+        "  refused (13): the table of 512 entries is full\n  the recording is opened again\n";
+    assert_eq!(output.matches(full).count(), 1);
+    assert_eq!(output.matches("128 parts; entries: 128 new, 0 reused, 64 worked out").count(), 5);
+    assert_eq!(output.matches("not yet").count(), 5 * 31);
+}

@@ -1,0 +1,259 @@
+/*
+ * The formula engine: open, edit and preview, over memory that the caller lends. C99 or later, and C++.
+ *
+ * The engine has no memory of its own. All that it keeps between calls stands in a cache of four slices
+ * (23,560 bytes); all else is on the stack during a call. It allocates nothing, keeps no pointer after a
+ * call, reads no clock and has no global variable.
+ *
+ *     static formula_cache cache;
+ *     uint16_t places[FORMULA_PLACES];
+ *
+ *     if (formula_cache_open(&cache, recording, length) != FORMULA_ACCEPTED) ...
+ *     formula_edit_answer edit = formula_cache_edit(&cache, text, text_length, places);
+ *     if (edit.refusal == FORMULA_ACCEPTED) {
+ *         formula_preview_answer seen = formula_cache_preview(&cache, places[part], allowance);
+ *         if (seen.finished) ... show it; otherwise draw "not yet" and preview again at the next frame
+ *     }
+ *
+ * For every slice:
+ *   - it is passed as a pointer to its first cell and its length in cells, not in bytes;
+ *   - the pointer is aligned for its type and never null, even where the length is 0;
+ *   - the slices of one call do not overlap.
+ * This is all that a caller must see to. Any contents and any lengths are allowed otherwise: the call is
+ * then answered, or refused with a number. A refused call has written nothing.
+ */
+#ifndef FORMULA_H
+#define FORMULA_H
+
+#include <stddef.h>
+#include <stdint.h>
+
+#ifdef __cplusplus
+extern "C" {
+#endif
+
+/* Limits, each of the thing that it names. */
+#define FORMULA_RECORDING_READINGS 1024 /* most readings of a recording */
+#define FORMULA_TEXT_BYTES 1024         /* most bytes of a text */
+#define FORMULA_TEXT_PARTS 128          /* most parts of a text */
+#define FORMULA_OPEN_MARKS 16           /* most of let, \ and ( open at one point of a text */
+#define FORMULA_OPEN_LAMBDAS 2          /* most of \ open at one point of a text */
+#define FORMULA_NAME_BYTES 8            /* most bytes of a name */
+#define FORMULA_TABLE_ENTRIES 512       /* most entries of a cache */
+
+/* The least lengths of the lent slices, in cells. Cells past them are neither read nor written. */
+#define FORMULA_READINGS_CELLS 1024
+#define FORMULA_HEADS_CELLS 2
+#define FORMULA_LINKS_CELLS 1536
+#define FORMULA_CELLS_CELLS 2048
+#define FORMULA_PLACES 128
+
+/* The cache in bytes: 4 x 1,024 + 4 x 2 + 2 x 1,536 + 8 x 2,048. */
+#define FORMULA_CACHE_BYTES 23560
+
+/*
+ * Refusals. Where more than one applies: 1 to 4 by number; then, of 5 to 12, the one with the lowest byte
+ * place, and at one place the lowest number; then 13 or 14.
+ */
+enum formula_refusal {
+    FORMULA_ACCEPTED = 0,
+    FORMULA_REFUSAL_TEXT_TOO_LONG = 1,      /* edit: text over 1,024 bytes */
+    FORMULA_REFUSAL_RECORDING_TOO_LONG = 2, /* open: over 1,024 readings */
+    FORMULA_REFUSAL_MEMORY_TOO_SMALL = 3,   /* all: a slice of the cache, or the list of places, is too short */
+    FORMULA_REFUSAL_CACHE_ILL_FORMED = 4,   /* edit, preview: ill-formed contents; open it again */
+    FORMULA_REFUSAL_UNGRAMMATICAL = 5,      /* edit: no grammatical text goes on with this token or end */
+    FORMULA_REFUSAL_NUMBER_OUTSIDE = 6,     /* edit: number outside -2147483648 to 2147483647 */
+    FORMULA_REFUSAL_NAME_TOO_LONG = 7,      /* edit: name over 8 bytes */
+    FORMULA_REFUSAL_DATA_BOUND = 8,         /* edit: `data` as the name of a let or \ */
+    FORMULA_REFUSAL_WRONG_CALL = 9,         /* edit: unknown member, or too few or too many arguments */
+    FORMULA_REFUSAL_THIRD_LAMBDA = 10,      /* edit: third open \ */
+    FORMULA_REFUSAL_LAMBDA_REPEATED = 11,   /* edit: \ with the name of a \ around it */
+    FORMULA_REFUSAL_TEXT_LIMIT = 12,        /* edit: 17th open mark or 129th part */
+    FORMULA_REFUSAL_TABLE_FULL = 13,        /* edit: entries held plus new ones exceed 512 */
+    FORMULA_REFUSAL_NO_SUCH_ENTRY = 14      /* preview: the cache has no entry of this number */
+};
+
+/* What an entry shows. */
+enum formula_kind {
+    FORMULA_KIND_NUMBER = 1,   /* first: the number */
+    FORMULA_KIND_WINDOW = 2,   /* first: the start, counted in the recording; second: the length */
+    FORMULA_KIND_FUNCTION = 3, /* name: the name of its variable */
+    FORMULA_KIND_DELAYED = 4,  /* name, other: the names that it awaits; other is 0 where it is one */
+    FORMULA_KIND_MISSING = 5   /* first: the reason */
+};
+
+/* Why nothing is shown. */
+enum formula_reason {
+    FORMULA_REASON_UNBOUND_NAME = 1,
+    FORMULA_REASON_WRONG_KIND = 2,
+    FORMULA_REASON_DIVISION_BY_ZERO = 3,
+    FORMULA_REASON_BEYOND_32_BITS = 4,
+    FORMULA_REASON_OUTSIDE = 5 /* negative count, index outside, or least or greatest of an empty window */
+};
+
+/* The answer to an edit, 20 bytes. A field that has no value is 0. */
+typedef struct {
+    uint32_t refusal; /* enum formula_refusal */
+    uint32_t place;   /* refused under 5 to 12: the byte of the text; the end's is the text's length */
+    uint32_t whole;   /* the entry of the whole text */
+    uint32_t parts;   /* how many parts the text has */
+    uint32_t added;   /* how many entries are new */
+} formula_edit_answer;
+
+/* The answer to a preview, 40 bytes. A field that has no value is 0. */
+typedef struct {
+    uint32_t refusal;  /* enum formula_refusal */
+    uint32_t finished; /* 1: nothing is left to work out, and the fields from kind on are set; 0: not yet */
+    uint32_t worked;   /* how many entries this call worked out */
+    uint32_t kind;     /* enum formula_kind */
+    int32_t first;
+    uint32_t second;
+    uint64_t name; /* packed; see formula_name_text */
+    uint64_t other;
+} formula_preview_answer;
+
+/*
+ * Empties the cache and copies in a recording of 0 to 1,024 readings. The cache may hold anything before.
+ * Writes: the readings of the recording, and both heads. The links and cells are not touched.
+ * Gives 0, or the refusal's number: 2, 3.
+ */
+uint32_t formula_open(const int32_t *recording, size_t recording_length, int32_t *readings,
+                      size_t readings_length, uint32_t *heads, size_t heads_length, const uint16_t *links,
+                      size_t links_length, const uint64_t *cells, size_t cells_length);
+
+/*
+ * Reads a text and binds it. Each part (let, \, dot, name in use, number; in the order of these marks) gets
+ * the number of its entry at its place. Equal parts have one entry, whichever text they stand in, so that
+ * results are kept from edit to edit. Nothing is worked out.
+ * Writes: places 0 to parts - 1, the first head, the links and cells of the new entries.
+ * Refusals: 1, 3, 4, 5 to 12 with a byte place, 13.
+ */
+formula_edit_answer formula_edit(const uint8_t *text, size_t text_length, uint16_t *places,
+                                 size_t places_length, const int32_t *readings, size_t readings_length,
+                                 uint32_t *heads, size_t heads_length, uint16_t *links, size_t links_length,
+                                 uint64_t *cells, size_t cells_length);
+
+/*
+ * Works out the entries that an entry depends on and then the entry itself, lowest number first, as far as
+ * they are not worked out yet and at most `allowance` of them. Says what the entry shows if none is left.
+ * Work is kept: repeated previews with an allowance of 1 or more come to an end.
+ * Writes: the kept cells of the entries that this call worked out.
+ * Refusals: 3, 4, 14.
+ */
+formula_preview_answer formula_preview(uint32_t entry, uint32_t allowance, const int32_t *readings,
+                                       size_t readings_length, const uint32_t *heads, size_t heads_length,
+                                       const uint16_t *links, size_t links_length, uint64_t *cells,
+                                       size_t cells_length);
+
+/*
+ * A whole cache. Only open it, edit and preview it by the calls below; what stands in it is described in
+ * docs/MEMORY.md. The readings of a window that a preview shows are readings[first] up to
+ * readings[first + second - 1].
+ */
+typedef struct {
+    uint64_t cells[FORMULA_CELLS_CELLS];
+    int32_t readings[FORMULA_READINGS_CELLS];
+    uint32_t heads[FORMULA_HEADS_CELLS];
+    uint16_t links[FORMULA_LINKS_CELLS];
+} formula_cache;
+
+/* The sizes that the engine was proved with. */
+#if defined(__cplusplus) && __cplusplus >= 201103L
+#define FORMULA_ASSERT(name, condition) static_assert(condition, #name)
+#elif !defined(__cplusplus) && defined(__STDC_VERSION__) && __STDC_VERSION__ >= 201112L
+#define FORMULA_ASSERT(name, condition) _Static_assert(condition, #name)
+#else
+#define FORMULA_ASSERT(name, condition) typedef char formula_assert_##name[(condition) ? 1 : -1]
+#endif
+
+FORMULA_ASSERT(edit_answer_has_20_bytes, sizeof(formula_edit_answer) == 20);
+FORMULA_ASSERT(preview_answer_has_40_bytes, sizeof(formula_preview_answer) == 40);
+FORMULA_ASSERT(names_are_at_24_and_32, offsetof(formula_preview_answer, name) == 24 &&
+                                           offsetof(formula_preview_answer, other) == 32);
+FORMULA_ASSERT(cache_has_its_bytes, sizeof(formula_cache) == FORMULA_CACHE_BYTES);
+FORMULA_ASSERT(cells_make_up_the_cache,
+               4 * FORMULA_READINGS_CELLS + 4 * FORMULA_HEADS_CELLS + 2 * FORMULA_LINKS_CELLS +
+                       8 * FORMULA_CELLS_CELLS ==
+                   FORMULA_CACHE_BYTES);
+FORMULA_ASSERT(every_reading_has_a_cell, FORMULA_READINGS_CELLS == FORMULA_RECORDING_READINGS);
+FORMULA_ASSERT(an_entry_has_three_links, FORMULA_LINKS_CELLS == 3 * FORMULA_TABLE_ENTRIES);
+FORMULA_ASSERT(an_entry_has_four_cells, FORMULA_CELLS_CELLS == 4 * FORMULA_TABLE_ENTRIES);
+FORMULA_ASSERT(every_part_has_a_place, FORMULA_PLACES == FORMULA_TEXT_PARTS);
+
+/* As formula_open. `recording` may be null where its length is 0, and must not lie within the cache. */
+static inline uint32_t formula_cache_open(formula_cache *cache, const int32_t *recording,
+                                          size_t recording_length)
+{
+    static const int32_t none = 0;
+    return formula_open(recording != NULL ? recording : &none, recording_length, cache->readings,
+                        FORMULA_READINGS_CELLS, cache->heads, FORMULA_HEADS_CELLS, cache->links,
+                        FORMULA_LINKS_CELLS, cache->cells, FORMULA_CELLS_CELLS);
+}
+
+/* As formula_edit. The text needs no zero at its end, and may be null where its length is 0. */
+static inline formula_edit_answer formula_cache_edit(formula_cache *cache, const char *text,
+                                                     size_t text_length, uint16_t places[FORMULA_PLACES])
+{
+    return formula_edit((const uint8_t *)(text != NULL ? text : ""), text_length, places, FORMULA_PLACES,
+                        cache->readings, FORMULA_READINGS_CELLS, cache->heads, FORMULA_HEADS_CELLS,
+                        cache->links, FORMULA_LINKS_CELLS, cache->cells, FORMULA_CELLS_CELLS);
+}
+
+/* As formula_preview. */
+static inline formula_preview_answer formula_cache_preview(formula_cache *cache, uint32_t entry,
+                                                           uint32_t allowance)
+{
+    return formula_preview(entry, allowance, cache->readings, FORMULA_READINGS_CELLS, cache->heads,
+                           FORMULA_HEADS_CELLS, cache->links, FORMULA_LINKS_CELLS, cache->cells,
+                           FORMULA_CELLS_CELLS);
+}
+
+/*
+ * How deep runs of functions (countWhere, longestRun, sumBy) stand within runs below an entry, itself counted.
+ * An allowance counts entries, not time: an entry of depth d may take as many runs as the recording has readings,
+ * to the power of d, and nothing interrupts it. Ask this before the first preview; see docs/INTEGRATION.md.
+ * Over contents that no cache has it still ends, and gives some number; 0 for an entry that is not there.
+ */
+static inline unsigned formula_cache_run_depth(const formula_cache *cache, uint32_t entry)
+{
+    uint16_t depths[FORMULA_TABLE_ENTRIES];
+    uint32_t at;
+    if (entry >= FORMULA_TABLE_ENTRIES || entry >= cache->heads[0]) {
+        return 0;
+    }
+    for (at = 0; at <= entry; at++) {
+        /* The entry's kind, and one more than each dependency's number, which is lower; 0 for none. */
+        const uint16_t *links = cache->links + 3 * at;
+        uint16_t first = links[1] >= 1 && links[1] <= at ? depths[links[1] - 1] : (uint16_t)0;
+        uint16_t second = links[2] >= 1 && links[2] <= at ? depths[links[2] - 1] : (uint16_t)0;
+        /* Kinds 18 to 20 are the members that run a function. */
+        unsigned runs = links[0] >= 18 && links[0] <= 20 ? 1 : 0;
+        depths[at] = (uint16_t)((first > second ? first : second) + runs);
+    }
+    return depths[entry];
+}
+
+/*
+ * Writes a packed name as text, with a zero at its end. A name is packed in base 256, its first byte
+ * highest, and is 0 where there is none: that gives the empty text.
+ */
+static inline void formula_name_text(uint64_t name, char text[FORMULA_NAME_BYTES + 1])
+{
+    unsigned length = 0;
+    unsigned at;
+    uint64_t rest;
+    for (rest = name; rest != 0; rest /= 256) {
+        length++;
+    }
+    text[length] = '\0';
+    for (at = length; at > 0; at--) {
+        text[at - 1] = (char)(name % 256);
+        name /= 256;
+    }
+}
+
+#ifdef __cplusplus
+}
+#endif
+
+#endif
