@@ -1,0 +1,288 @@
+// Runs the sample previews of 01, and its small examples of calls that are declined. For each text it writes a line: what the edit
+// answers; what the whole text then shows, with the readings of a shown window; and how many entries that preview worked out.
+// The file `stdout` is written by hand from 01.
+mod say;
+
+use engine::edit::edit;
+use engine::fetch::fetch;
+use engine::open::open;
+use engine::preview::preview;
+ghost use Prim.Native.Nat.{_≤_};
+ghost use lib.ListN.{length};
+
+// As much work as there is.
+const ALLOWANCE: u32 = 512;
+
+fn show(
+    entry: u32,
+    readings: &[i32; 1024],
+    heads: &[u32; 2],
+    links: &[u16; 1536],
+    cells: &mut [u64; 2048],
+) {
+    let answer = preview(entry, ALLOWANCE, readings, heads, links, cells);
+    say::preview_answer(answer);
+    say::readings(fetch(entry, readings, heads, links, cells));
+    say::work(answer);
+    say::words(b"\n");
+}
+
+// A text, and what its edit answers. Gives the entry of the whole text.
+fn begin(
+    text: &[u8],
+    places: &mut [u16; 128],
+    readings: &[i32; 1024],
+    heads: &mut [u32; 2],
+    links: &mut [u16; 1536],
+    cells: &mut [u64; 2048],
+) -> u32 {
+    say::text(text);
+    say::words(b" => ");
+    say::edit_answer(edit(text, places, readings, heads, links, cells), places)
+}
+
+// A text's line.
+fn line(
+    text: &[u8],
+    places: &mut [u16; 128],
+    readings: &[i32; 1024],
+    heads: &mut [u32; 2],
+    links: &mut [u16; 1536],
+    cells: &mut [u64; 2048],
+) {
+    let whole = begin(text, places, readings, heads, links, cells);
+    if whole == say::NO_ENTRY {
+        say::words(b"\n");
+    } else {
+        say::words(b", ");
+        show(whole, readings, heads, links, cells);
+    }
+}
+
+// Where the text that begins at a place ends.
+fn text_end(texts: &[u8], at: usize) -> usize
+    requires { ⌜ at ≤ length (now texts) ⌝ }
+    ensures { λ r. ⌜ (at ≤ r) × (r ≤ length (now (texts .entry))) ⌝ }
+{
+    let mut i = at;
+    while i < texts.len() {
+        if texts[i] == b'\n' {
+            return i;
+        }
+        i += 1;
+    }
+    i
+}
+
+fn lines(
+    texts: &[u8],
+    places: &mut [u16; 128],
+    readings: &[i32; 1024],
+    heads: &mut [u32; 2],
+    links: &mut [u16; 1536],
+    cells: &mut [u64; 2048],
+) {
+    let mut at: usize = 0;
+    while at < texts.len() {
+        let end = text_end(texts, at);
+        line(&texts[at..end], places, readings, heads, links, cells);
+        at = end + 1;
+    }
+}
+
+// The texts, one to a line, over a cache that is opened with the recording.
+fn session(recording: &[i32], texts: &[u8]) {
+    let mut readings = [0i32; 1024];
+    let mut heads = [0u32; 2];
+    let mut links = [0u16; 1536];
+    let mut cells = [0u64; 2048];
+    let mut places = [0u16; 128];
+    say::open_answer(
+        open(recording, &mut readings, &mut heads, &links, &cells),
+        recording.len(),
+    );
+    lines(
+        texts,
+        &mut places,
+        &readings,
+        &mut heads,
+        &mut links,
+        &mut cells,
+    );
+}
+
+fn entry(
+    n: u32,
+    readings: &[i32; 1024],
+    heads: &[u32; 2],
+    links: &[u16; 1536],
+    cells: &mut [u64; 2048],
+) {
+    say::words(b"  ");
+    say::number(n as u64);
+    say::words(b": ");
+    show(n, readings, heads, links, cells);
+}
+
+// A preview of each entry, lowest first; and of the next number, which no entry has.
+fn entries(
+    count: u32,
+    readings: &[i32; 1024],
+    heads: &[u32; 2],
+    links: &[u16; 1536],
+    cells: &mut [u64; 2048],
+) {
+    let mut n: u32 = 0;
+    while n < count {
+        entry(n, readings, heads, links, cells);
+        n += 1;
+    }
+    entry(count, readings, heads, links, cells);
+}
+
+// A text, entry by entry.
+fn by_entry(recording: &[i32], text: &[u8]) {
+    let mut readings = [0i32; 1024];
+    let mut heads = [0u32; 2];
+    let mut links = [0u16; 1536];
+    let mut cells = [0u64; 2048];
+    let mut places = [0u16; 128];
+    open(recording, &mut readings, &mut heads, &links, &cells);
+    begin(
+        text,
+        &mut places,
+        &readings,
+        &mut heads,
+        &mut links,
+        &mut cells,
+    );
+    say::words(b"\n");
+    let count = heads[0];
+    entries(count, &readings, &heads, &links, &mut cells);
+}
+
+// A text of 1,024 bytes and 128 parts: a digit, 127 times a member, and spaces.
+fn chain(digit: u8) -> [u8; 1024] {
+    let member = b".sum()";
+    let mut text = [b' '; 1024];
+    text[0] = digit;
+    let mut i: usize = 0;
+    while i < 762 {
+        text[i + 1] = member[i % 6];
+        i += 1;
+    }
+    text
+}
+
+// Four such texts make 512 entries.
+fn chains(
+    places: &mut [u16; 128],
+    readings: &[i32; 1024],
+    heads: &mut [u32; 2],
+    links: &mut [u16; 1536],
+    cells: &mut [u64; 2048],
+) {
+    let mut digit = b'0';
+    while digit < b'4' {
+        line(&chain(digit), places, readings, heads, links, cells);
+        digit += 1;
+    }
+}
+
+// A table that is full, and one new entry.
+fn full(recording: &[i32]) {
+    let mut readings = [0i32; 1024];
+    let mut heads = [0u32; 2];
+    let mut links = [0u16; 1536];
+    let mut cells = [0u64; 2048];
+    let mut places = [0u16; 128];
+    open(recording, &mut readings, &mut heads, &links, &cells);
+    chains(&mut places, &readings, &mut heads, &mut links, &mut cells);
+    line(
+        b"4",
+        &mut places,
+        &readings,
+        &mut heads,
+        &mut links,
+        &mut cells,
+    );
+}
+
+// Memory that an edit declines: 127 places; and a cache in which entry 0, a count, depends on 0.
+fn memory() {
+    let readings = [0i32; 1024];
+    let mut heads = [1u32, 0];
+    let mut links = [0u16; 1536];
+    links[0] = 13;
+    links[1] = 1;
+    let mut cells = [0u64; 2048];
+    let mut few = [0u16; 127];
+    say::words(b"127 places: 1 => ");
+    say::edit_answer(
+        edit(
+            b"1",
+            &mut few,
+            &readings,
+            &mut heads,
+            &mut links,
+            &mut cells,
+        ),
+        &few,
+    );
+    let mut places = [0u16; 128];
+    say::words(b"\nentry 0 depends on 0: ");
+    line(
+        b"1",
+        &mut places,
+        &readings,
+        &mut heads,
+        &mut links,
+        &mut cells,
+    );
+}
+
+fn main() {
+    let run = [140, 152, 160, 148, 155];
+    // Sample previews
+    session(
+        &run,
+        b"let x = 2 in data.skip(1).take(x)\nlet x = 3 in data.skip(1).take(x)",
+    );
+    session(&run, b"data.countWhere(\\b -> b.gt(150))");
+    session(&run, b"data.sum()");
+    session(&run, b"data.longestRun(\\b -> b.gt(145))");
+    session(&run, b"data.sumBy(\\p -> data.countWhere(\\q -> q.gt(p)))");
+    session(&run, b"-7.div(2)");
+    session(&run, b"-2147483648.div(-1)");
+    session(&run, b"7.div(0)");
+    session(&run, b"let u = 1.div(0) in 6");
+    session(&run, b"let y = b in \\b -> y");
+    session(&run, b"data.take(0).countWhere(\\b -> b.div(0))");
+    session(&run, b"data.take(0).countWhere(\\b -> 1.div(0))");
+    session(&run, b"data.skip(9)\ndata.skip(9).min()");
+    session(&run, b"1.add(data)");
+    // A lambda that runs inside another of the same name
+    session(
+        &[0, 2, 3],
+        b"let h = \\y -> data.skip(1).sumBy(\\x -> y.div(x)) in data.sumBy(\\x -> data.skip(x).sumBy(h))",
+    );
+    // Every part of a text
+    by_entry(&run, b"let x = 2 in data.skip(1).take(x)");
+    by_entry(&run, b"data.sumBy(\\p -> data.countWhere(\\q -> q.gt(p)))");
+    // Taken
+    session(&run, b"((((((((((((((((1))))))))))))))))");
+    session(&run, b"let distance = 5 in distance");
+    full(&run);
+    // When a call is declined
+    session(&run, &[b' '; 1025]);
+    session(&[0; 1025], b"");
+    memory();
+    session(
+        &run,
+        b"data.\n2147483648\nheartrate\nlet data = 1 in 2\ndata.skip()",
+    );
+    session(
+        &run,
+        b"\\a -> \\b -> \\c -> 1\n\\a -> \\a -> 1\n(((((((((((((((((",
+    );
+}
