@@ -31,7 +31,7 @@ use Rattle.reader.specs.Lexing.{lexAt, tokensFrom}
 use Rattle.reader.specs.Cursors.{cursorOf, stateOf, refusing, passing}
 use Rattle.reader.specs.CursorsLaws.{head-place, at-kind, not-kind}
 use Rattle.reader.specs.Scratch.{Wrote, WroteFor, NameAhead, NumberAhead, ShutAhead, Recorded, callOf}
-use Rattle.reader.specs.Parsing.{Ready, ReadyAt, Parses}
+use Rattle.reader.specs.Parsing.{Ready, ReadyAt, Parses, Continues}
 use Rattle.reader.specs.Reading.{answerOf, noBinders, Reading}
 
 -- ---- one mark more, one binder more
@@ -72,14 +72,26 @@ module _ (text : List ℕ) where
     pub root-few : Fit m (stateOf text c R P S) → a .root < 128
     root-few f = let g = read-fit f in omega (arith, g .own, g .count, g .parts)
 
+  -- ---- a call that is refused, and one of which a part is read
+  module _ {marks depth : ℕ} {m : Mode} {c : Cursor} {R P S : List ℕ} where
+    stopped : {a : Cursor} {R′ P′ S′ : List ℕ} → (a .number ≡ 0 → ⊥) → Parses m text c R P S a R′ P′ S′ → Continues m marks depth text c R P S a R′ P′ S′
+    stopped z h = record { stops = λ _. h; goes = λ y. absurd (z y); fit = λ y. absurd (z y); less = λ y. absurd (z y) }
+
+    behind : {n : Mode} {a b : Cursor} {R₁ P₁ S₁ R′ P′ S′ : List ℕ} → tokens-left a ≤ tokens-left c
+        → ((r : Cursor) (R″ P″ S″ : List ℕ) → Parses n text a R₁ P₁ S₁ r R″ P″ S″ → Parses m text c R P S r R″ P″ S″)
+        → Continues n marks depth text a R₁ P₁ S₁ b R′ P′ S′ → Continues m marks depth text c R P S b R′ P′ S′
+    behind l g k =
+        record {
+          stops = λ z. g _ _ _ _ (k .stops z);
+          goes = λ z r R″ P″ S″ y. g r R″ P″ S″ (k .goes z r R″ P″ S″ y);
+          fit = k .fit;
+          less = λ z. let h = k .less z in omega arith;
+        }
+
   -- ---- fewer tokens are left
   pub shut-less : (k : Call) (c a : Cursor) (R P R′ P′ : List ℕ) (x : Lexed) → x ≡ lexAt text (c .at) → x .kind ≡ 8 → WroteFor text (D.readShut end (callOf k)) c R P a R′ P′
       → a .number ≡ 0 → tokens-left a + 1 ≤ tokens-left c
   shut-less k c a R P R′ P′ x e q h z = PathsCalls.less-shut end 0 0 (stateOf text c R P []) (callOf k) (ahead c x e 8 q) (h .same []) (eq-eqb (a .number) 0 z)
-
-  pub call-less : (marks : ℕ) (c h : Cursor) (x : Lexed) → x ≡ lexAt text (c .at) → x .kind ≡ 6 → cursorOf text h ≡ C.callHead end marks (cursorOf text c)
-      → h .number ≡ 0 → tokens-left h + 3 ≤ tokens-left c
-  call-less marks c h x e q p z = PathsCalls.less-call end marks 0 (stateOf text c [] [] []) (cursorOf text h) (ahead c x e 6 q) p (eq-eqb (h .number) 0 z)
 
   pub comma-less : (more n : ℕ) (c h : Cursor) (x : Lexed) → x ≡ lexAt text (c .at) → x .kind ≡ 9 → n ≡ C.atComma more → cursorOf text h ≡ passing text n c
       → h .number ≡ 0 → tokens-left h + 1 ≤ tokens-left c
@@ -94,6 +106,10 @@ module _ (text : List ℕ) where
   pub number-less : (w : Bool) (c a : Cursor) (R P R′ P′ : List ℕ) (x : Lexed) → x ≡ lexAt text (c .at) → x .kind ≡ 11 → WroteFor text (D.readNumber end w) c R P a R′ P′
       → a .number ≡ 0 → tokens-left a + 1 ≤ tokens-left c
   number-less w c a R P R′ P′ x e q h z = Paths.less-number end w 0 0 (stateOf text c R P []) (ahead c x e 11 q) (h .same []) (eq-eqb (a .number) 0 z)
+
+  refusing-some : (n : ℕ) (c r : Cursor) → cursorOf text r ≡ refusing text (suc n) c → r .number ≡ 0 → ⊥
+  unfolding C.refuse
+  refusing-some n c r g z = let e : r .number ≡ suc n = ap (λ (v : C.Cursor). v .number) g in omega arith
 
   -- ---- arguments and more
   module _ (marks depth : ℕ) (k : Call) (c : Cursor) (R P S : List ℕ) where
@@ -124,30 +140,28 @@ module _ (text : List ℕ) where
 
     module _ (x : Lexed) (a : Cursor) (R′ P′ : List ℕ) (e : x ≡ lexAt text (c .at)) (q : x .kind ≡ 8)
         (h : WroteFor text (D.readShut end (callOf k)) c R P a R′ P′) where
-      pub arguments-none-refused : (a .number ≡ 0 → ⊥) → Parses (inArguments (callOf k) marks depth) text c R P S a R′ P′ S
-      arguments-none-refused z = record { reads = PathsCalls.none-refused end marks depth s (callOf k) (ahead c x e 8 q) (h .same S) (ne-eqb (a .number) 0 z) }
+      not-refused : a .number ≡ 0 → D.readShut end (callOf k) s .cursor .number ≡ 0
+      not-refused z = sym (ap (λ (u : State). u .cursor .number) (h .same S)) ∙ z
 
-      pub more-last-refused : (a .number ≡ 0 → ⊥) → Parses (inMore (callOf k) marks depth) text c R P S a R′ P′ S
-      more-last-refused z = record { reads = PathsCalls.last-refused end marks depth s (callOf k) (ahead c x e 8 q) (h .same S) (ne-eqb (a .number) 0 z) }
+      pub arguments-none : Ready (inArguments (callOf k) marks depth) text c R P S → Continues (inArguments (callOf k) marks depth) marks depth text c R P S a R′ P′ S
+      arguments-none f =
+          let b = ahead c x e 8 q in
+          record {
+            stops = λ z. record { reads = PathsCalls.none-refused end marks depth s (callOf k) b (h .same S) (ne-eqb (a .number) 0 z) };
+            goes = λ z r R″ P″ S″ y. record { reads = PathsCalls.none-read end marks depth s (callOf k) b (h .same S) (eq-eqb (a .number) 0 z) (y .reads) };
+            fit = λ z. record { fit = subst (Fit (inCalls marks depth)) (sym (h .same S)) (G.fit-shut-arguments end marks depth s (callOf k) (f .fit) b (not-refused z)) };
+            less = shut-less k c a R P R′ P′ x e q h;
+          }
 
-      module _ (z : a .number ≡ 0) where
-        not-refused : D.readShut end (callOf k) s .cursor .number ≡ 0
-        not-refused = sym (ap (λ (u : State). u .cursor .number) (h .same S)) ∙ z
-
-        pub arguments-shut-fit : Ready (inArguments (callOf k) marks depth) text c R P S → Ready (inCalls marks depth) text a R′ P′ S
-        arguments-shut-fit f =
-            record { fit = subst (Fit (inCalls marks depth)) (sym (h .same S)) (G.fit-shut-arguments end marks depth s (callOf k) (f .fit) (ahead c x e 8 q) not-refused) }
-
-        pub more-shut-fit : Ready (inMore (callOf k) marks depth) text c R P S → Ready (inCalls marks depth) text a R′ P′ S
-        more-shut-fit f =
-            record { fit = subst (Fit (inCalls marks depth)) (sym (h .same S)) (G.fit-shut-more end marks depth s (callOf k) (f .fit) (ahead c x e 8 q) not-refused) }
-
-        module _ (r : Cursor) (R″ P″ S″ : List ℕ) (y : Parses (inCalls marks depth) text a R′ P′ S r R″ P″ S″) where
-          pub arguments-none : Parses (inArguments (callOf k) marks depth) text c R P S r R″ P″ S″
-          arguments-none = record { reads = PathsCalls.none-read end marks depth s (callOf k) (ahead c x e 8 q) (h .same S) (eq-eqb (a .number) 0 z) (y .reads) }
-
-          pub more-last : Parses (inMore (callOf k) marks depth) text c R P S r R″ P″ S″
-          more-last = record { reads = PathsCalls.last-read end marks depth s (callOf k) (ahead c x e 8 q) (h .same S) (eq-eqb (a .number) 0 z) (y .reads) }
+      pub more-last : Ready (inMore (callOf k) marks depth) text c R P S → Continues (inMore (callOf k) marks depth) marks depth text c R P S a R′ P′ S
+      more-last f =
+          let b = ahead c x e 8 q in
+          record {
+            stops = λ z. record { reads = PathsCalls.last-refused end marks depth s (callOf k) b (h .same S) (ne-eqb (a .number) 0 z) };
+            goes = λ z r R″ P″ S″ y. record { reads = PathsCalls.last-read end marks depth s (callOf k) b (h .same S) (eq-eqb (a .number) 0 z) (y .reads) };
+            fit = λ z. record { fit = subst (Fit (inCalls marks depth)) (sym (h .same S)) (G.fit-shut-more end marks depth s (callOf k) (f .fit) b (not-refused z)) };
+            less = shut-less k c a R P R′ P′ x e q h;
+          }
 
     pub argument-fit : Ready (inArguments (callOf k) marks depth) text c R P S → Ready (inExpression (eqb (k .takes) 0) (marks + 1) depth) text c R P S
     argument-fit f = record { fit = less-marks (λ m. Fit m s) (F.fit-argument end marks depth s (callOf k) (f .fit)) }
@@ -156,34 +170,38 @@ module _ (text : List ℕ) where
       first-reads : Reads end (inExpression (eqb (k .takes) 0) (suc marks) depth) s (stateOf text a R′ P′ S′)
       first-reads = more-marks (λ m. Reads end m s (stateOf text a R′ P′ S′)) (h .reads)
 
-      pub arguments-first-refused : (x : Lexed) → x ≡ lexAt text (c .at) → (x .kind ≡ 8 → ⊥) → (a .number ≡ 0 → ⊥) → Parses (inArguments (callOf k) marks depth) text c R P S a R′ P′ S′
-      arguments-first-refused x e q z = record { reads = PathsCalls.first-refused end marks depth s (callOf k) (not-ahead c x e 8 q) first-reads (ne-eqb (a .number) 0 z) }
+      pub arguments-first-refused : (x : Lexed) → x ≡ lexAt text (c .at) → (x .kind ≡ 8 → ⊥) → (a .number ≡ 0 → ⊥)
+          → Continues (inArguments (callOf k) marks depth) marks depth text c R P S a R′ P′ S′
+      arguments-first-refused x e q z = stopped z (record { reads = PathsCalls.first-refused end marks depth s (callOf k) (not-ahead c x e 8 q) first-reads (ne-eqb (a .number) 0 z) })
 
       module _ (z : a .number ≡ 0) (g : Call) (u : callOf g ≡ firstGiven (a .root) (callOf k)) where
         pub first-fit : Ready (inArguments (callOf k) marks depth) text c R P S → Ready (inMore (callOf g) marks depth) text a R′ P′ S′
         first-fit f =
             record { fit = subst (λ (j : D.Call). Fit (inMore j marks depth) (stateOf text a R′ P′ S′)) (sym u) (Paths.first-fit end (callOf k) marks depth (f .fit) first-reads z) }
 
-        pub arguments-first : (x : Lexed) → x ≡ lexAt text (c .at) → (x .kind ≡ 8 → ⊥) → {r : Cursor} {R″ P″ S″ : List ℕ} → Parses (inMore (callOf g) marks depth) text a R′ P′ S′ r R″ P″ S″
-            → Parses (inArguments (callOf k) marks depth) text c R P S r R″ P″ S″
-        arguments-first x e q {r} {R″} {P″} {S″} y =
+        pub arguments-first : (x : Lexed) → x ≡ lexAt text (c .at) → (x .kind ≡ 8 → ⊥) → {r : Cursor} {R″ P″ S″ : List ℕ}
+            → Continues (inMore (callOf g) marks depth) marks depth text a R′ P′ S′ r R″ P″ S″ → Continues (inArguments (callOf k) marks depth) marks depth text c R P S r R″ P″ S″
+        arguments-first x e q =
+            behind (omega (arith, read-less _ _ _ _ _ _ _ _ _ h z))
+            (λ r R″ P″ S″ y.
             record {
               reads = PathsCalls.first-read end marks depth s (callOf k) (not-ahead c x e 8 q) first-reads (eq-eqb (a .number) 0 z)
                   (subst (λ (j : D.Call). Reads end (inMore j marks depth) (stateOf text a R′ P′ S′) (stateOf text r R″ P″ S″)) u (y .reads));
-            }
+            })
 
     -- another argument
     pub more-refused : (x : Lexed) (r : Cursor) → x ≡ lexAt text (c .at) → (x .kind ≡ 8 → ⊥) → (x .kind ≡ 9 → ⊥) → cursorOf text r ≡ refusing text 5 c
-        → Parses (inMore (callOf k) marks depth) text c R P S r R P S
+        → Continues (inMore (callOf k) marks depth) marks depth text c R P S r R P S
     more-refused x r e p q g =
-        record { reads = subst (λ (v : C.Cursor). Reads end (inMore (callOf k) marks depth) s (moved s v)) (sym g) (PathsCalls.more-refused end marks depth s (callOf k) (not-ahead c x e 8 p) (not-ahead c x e 9 q)) }
+        stopped (refusing-some 4 c r g)
+        (record { reads = subst (λ (v : C.Cursor). Reads end (inMore (callOf k) marks depth) s (moved s v)) (sym g) (PathsCalls.more-refused end marks depth s (callOf k) (not-ahead c x e 8 p) (not-ahead c x e 9 q)) })
 
     module _ (x : Lexed) (n : ℕ) (h : Cursor) (e : x ≡ lexAt text (c .at)) (q : x .kind ≡ 9) (o : n ≡ C.atComma (k .takes)) (p : cursorOf text h ≡ passing text n c) where
       comma-is : cursorOf text h ≡ passing text (C.atComma (k .takes)) c
       comma-is = p ∙ ap (λ (j : ℕ). passing text j c) o
 
-      pub comma-refused : (h .number ≡ 0 → ⊥) → Parses (inMore (callOf k) marks depth) text c R P S h R P S
-      comma-refused z = record { reads = PathsCalls.comma-refused end marks depth s (callOf k) (cursorOf text h) (ahead c x e 9 q) comma-is (ne-eqb (h .number) 0 z) }
+      pub comma-refused : (h .number ≡ 0 → ⊥) → Continues (inMore (callOf k) marks depth) marks depth text c R P S h R P S
+      comma-refused z = stopped z (record { reads = PathsCalls.comma-refused end marks depth s (callOf k) (cursorOf text h) (ahead c x e 9 q) comma-is (ne-eqb (h .number) 0 z) })
 
       module _ (z : h .number ≡ 0) where
         pub comma-fit : Ready (inMore (callOf k) marks depth) text c R P S → Ready (inExpression false (marks + 1) depth) text h R P S
@@ -197,9 +215,10 @@ module _ (text : List ℕ) where
           next-reads : Reads end (inExpression false (suc marks) depth) (stateOf text h R P S) (stateOf text a R′ P′ S′)
           next-reads = more-marks (λ m. Reads end m (stateOf text h R P S) (stateOf text a R′ P′ S′)) (y .reads)
 
-          pub more-next-refused : (a .number ≡ 0 → ⊥) → Parses (inMore (callOf k) marks depth) text c R P S a R′ P′ S′
+          pub more-next-refused : (a .number ≡ 0 → ⊥) → Continues (inMore (callOf k) marks depth) marks depth text c R P S a R′ P′ S′
           more-next-refused v =
-              record { reads = PathsCalls.next-refused end marks depth s (callOf k) (cursorOf text h) (ahead c x e 9 q) comma-is (eq-eqb (h .number) 0 z) next-reads (ne-eqb (a .number) 0 v) }
+              stopped v
+              (record { reads = PathsCalls.next-refused end marks depth s (callOf k) (cursorOf text h) (ahead c x e 9 q) comma-is (eq-eqb (h .number) 0 z) next-reads (ne-eqb (a .number) 0 v) })
 
           module _ (v : a .number ≡ 0) (g : Call) (u : callOf g ≡ nextGiven (callOf k)) where
             pub next-fit : Ready (inMore (callOf k) marks depth) text c R P S → Ready (inMore (callOf g) marks depth) text a R′ P′ S′
@@ -209,37 +228,68 @@ module _ (text : List ℕ) where
                       (Paths.next-fit end (callOf k) marks depth (cursorOf text h) (f .fit) (ahead c x e 9 q) comma-is z next-reads v);
                 }
 
-            pub more-next : {r : Cursor} {R″ P″ S″ : List ℕ} → Parses (inMore (callOf g) marks depth) text a R′ P′ S′ r R″ P″ S″
-                → Parses (inMore (callOf k) marks depth) text c R P S r R″ P″ S″
-            more-next {r} {R″} {P″} {S″} w =
+            pub more-next : {r : Cursor} {R″ P″ S″ : List ℕ} → Continues (inMore (callOf g) marks depth) marks depth text a R′ P′ S′ r R″ P″ S″
+                → Continues (inMore (callOf k) marks depth) marks depth text c R P S r R″ P″ S″
+            more-next =
+                behind (omega (arith, comma-less (k .takes) n c h x e q o p z, read-less _ _ _ _ _ _ _ _ _ y v))
+                (λ r R″ P″ S″ w.
                 record {
                   reads = PathsCalls.next-read end marks depth s (callOf k) (cursorOf text h) (ahead c x e 9 q) comma-is (eq-eqb (h .number) 0 z) next-reads (eq-eqb (a .number) 0 v)
                       (subst (λ (j : D.Call). Reads end (inMore j marks depth) (stateOf text a R′ P′ S′) (stateOf text r R″ P″ S″)) u (w .reads));
-                }
+                })
 
-  -- ---- calls
-  module _ (marks depth : ℕ) (c : Cursor) (R P S : List ℕ) (x : Lexed) (e : x ≡ lexAt text (c .at)) where
+  -- ---- a call
+  module _ (marks depth : ℕ) (c : Cursor) (R P S : List ℕ) where
     abbrev here : State
     here = stateOf text c R P S
 
-    pub calls-over : (x .kind ≡ 6 → ⊥) → Parses (inCalls marks depth) text c R P S c R P S
-    calls-over q = record { reads = PathsCalls.calls-over end marks depth here (not-ahead c x e 6 q) }
-
-    module _ (h : Cursor) (q : x .kind ≡ 6) (p : cursorOf text h ≡ C.callHead end marks (cursorOf text c)) where
-      pub call-head-refused : (h .number ≡ 0 → ⊥) → Parses (inCalls marks depth) text c R P S h R P S
-      call-head-refused z = record { reads = PathsCalls.call-head-refused end marks depth here (cursorOf text h) (ahead c x e 6 q) p (ne-eqb (h .number) 0 z) }
+    module _ (h : Cursor) (f : ReadyAt 6 (inCalls marks depth) text c R P S) (p : cursorOf text h ≡ C.callHead end marks (cursorOf text c)) where
+      pub call-head-refused : (h .number ≡ 0 → ⊥) → Continues (inCalls marks depth) marks depth text c R P S h R P S
+      call-head-refused z = stopped z (record { reads = PathsCalls.call-head-refused end marks depth here (cursorOf text h) (f .ahead) p (ne-eqb (h .number) 0 z) })
 
       module _ (z : h .number ≡ 0) where
-        pub call-fit : Ready (inCalls marks depth) text c R P S → Ready (inArguments (D.newCall (cursorOf text c) (cursorOf text h)) marks depth) text h R P S
-        call-fit f =
+        pub call-less : tokens-left h + 3 ≤ tokens-left c
+        call-less = PathsCalls.less-call end marks depth here (cursorOf text h) (f .ahead) p (eq-eqb (h .number) 0 z)
+
+        pub call-fit : Ready (inArguments (D.newCall (cursorOf text c) (cursorOf text h)) marks depth) text h R P S
+        call-fit =
             record {
               fit = subst (λ (v : C.Cursor). Fit (inArguments (D.newCall (cursorOf text c) v) marks depth) (moved here v)) (sym p)
-                  (F.fit-call end marks depth here (f .fit) (ahead c x e 6 q) (sym (ap (λ (v : C.Cursor). v .number) p) ∙ z));
+                  (F.fit-call end marks depth here (f .fit) (f .ahead) (sym (ap (λ (v : C.Cursor). v .number) p) ∙ z));
             }
 
-        pub call-read : {r : Cursor} {R′ P′ S′ : List ℕ} → Parses (inArguments (D.newCall (cursorOf text c) (cursorOf text h)) marks depth) text h R P S r R′ P′ S′
-            → Parses (inCalls marks depth) text c R P S r R′ P′ S′
-        call-read y = record { reads = PathsCalls.call-read end marks depth here (cursorOf text h) (ahead c x e 6 q) p (eq-eqb (h .number) 0 z) (y .reads) }
+        pub call-read : {r : Cursor} {R′ P′ S′ : List ℕ} → Continues (inArguments (D.newCall (cursorOf text c) (cursorOf text h)) marks depth) marks depth text h R P S r R′ P′ S′
+            → Continues (inCalls marks depth) marks depth text c R P S r R′ P′ S′
+        call-read =
+            behind (omega (arith, call-less))
+            (λ r R″ P″ S″ y. record { reads = PathsCalls.call-read end marks depth here (cursorOf text h) (f .ahead) p (eq-eqb (h .number) 0 z) (y .reads) })
+
+    -- ---- a chain of calls, from c up to a: what the calls from a on give, those from c on give
+    pub record Chain (a : Cursor) (R′ P′ S′ : List ℕ) : Type 0 where
+      pub goes : (r : Cursor) (R″ P″ S″ : List ℕ) → Parses (inCalls marks depth) text a R′ P′ S′ r R″ P″ S″ → Parses (inCalls marks depth) text c R P S r R″ P″ S″
+      pub fit : Ready (inCalls marks depth) text a R′ P′ S′
+      pub less : tokens-left a ≤ tokens-left c
+
+    pub chain-none : Ready (inCalls marks depth) text c R P S → Chain c R P S
+    chain-none f = record { goes = λ _ _ _ _ y. y; fit = f; less = omega arith }
+
+    module _ (a : Cursor) (R′ P′ S′ : List ℕ) (h : Chain a R′ P′ S′) (t : Bool) (e : t ≡ C.isAt 6 (tokensFrom text (a .at))) where
+      pub chain-over : t ≡ false → Parses (inCalls marks depth) text c R P S a R′ P′ S′
+      chain-over q = h .goes a R′ P′ S′ (record { reads = PathsCalls.calls-over end marks depth (stateOf text a R′ P′ S′) (sym e ∙ q) })
+
+      pub chain-ready : t ≡ true → ReadyAt 6 (inCalls marks depth) text a R′ P′ S′
+      chain-ready q = record { ahead = sym e ∙ q; fit = h .fit .fit }
+
+    module _ (a : Cursor) (R′ P′ S′ : List ℕ) (h : Chain a R′ P′ S′) (b : Cursor) (R″ P″ S″ : List ℕ)
+        (k : Continues (inCalls marks depth) marks depth text a R′ P′ S′ b R″ P″ S″) where
+      pub chain-refused : (b .number ≡ 0 → ⊥) → Parses (inCalls marks depth) text c R P S b R″ P″ S″
+      chain-refused z = h .goes b R″ P″ S″ (k .stops z)
+
+      pub chain-on : b .number ≡ 0 → Chain b R″ P″ S″
+      chain-on z =
+          let l = h .less in
+          let m = k .less z in
+          record { goes = λ r R₁ P₁ S₁ y. h .goes r R₁ P₁ S₁ (k .goes z r R₁ P₁ S₁ y); fit = k .fit z; less = omega arith }
 
   -- ---- expression
   module _ (w : Bool) (marks depth : ℕ) (c : Cursor) (R P S : List ℕ) where

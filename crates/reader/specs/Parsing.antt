@@ -3,10 +3,10 @@
 use mathlib.Core.Path.{_≡_}
 use mathlib.Core.Bool.{true}
 use mathlib.Core.List.{List}
-use Prim.Native.Nat.{ℕ, _+_, _*_}
+use Prim.Native.Nat.{ℕ, _+_, _*_, _≤_}
 use lib.ListN.{length}
 use Rattle.descent.specs.Cursor.{isAt}
-use Rattle.descent.specs.Descent.{Mode}
+use Rattle.descent.specs.Descent.{Mode, inCalls}
 use Rattle.descent.specs.Fit.{Fit}
 use Rattle.descent.specs.Paths.{Reads}
 use Rattle.reader.specs.declared.cursor.Cursor.{Cursor}
@@ -23,6 +23,15 @@ pub record ReadyAt (k : ℕ) (m : Mode) (text : List ℕ) (c : Cursor) (records 
 
 pub record Parses (m : Mode) (text : List ℕ) (c : Cursor) (records places scope : List ℕ) (r : Cursor) (records′ places′ scope′ : List ℕ) : Type 0 where
   pub reads : Reads (length text) m (stateOf text c records places scope) (stateOf text r records′ places′ scope′)
+
+-- of a call, from somewhere in it to behind the bracket that ends it: a refusal on the way is the answer of the reader m, and else m goes on with
+-- the calls from there
+pub record Continues (m : Mode) (marks depth : ℕ) (text : List ℕ) (c : Cursor) (records places scope : List ℕ) (a : Cursor) (records′ places′ scope′ : List ℕ) : Type 0 where
+  pub stops : (a .number ≡ 0 → ⊥) → Parses m text c records places scope a records′ places′ scope′
+  pub goes : a .number ≡ 0 → (r : Cursor) (records″ places″ scope″ : List ℕ) → Parses (inCalls marks depth) text a records′ places′ scope′ r records″ places″ scope″
+      → Parses m text c records places scope r records″ places″ scope″
+  pub fit : a .number ≡ 0 → Ready (inCalls marks depth) text a records′ places′ scope′
+  pub less : a .number ≡ 0 → length (tokensFrom text (a .at)) + 1 ≤ length (tokensFrom text (c .at))
 
 -- three for each token that is left, and the order of the calls that pass none
 abbrev pub measure : ℕ → List ℕ → Cursor → ℕ

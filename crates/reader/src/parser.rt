@@ -4,7 +4,8 @@
 //     calls      := (. member ( arguments )) calls or nothing
 //     arguments  := nothing or expression (, expression) ..
 //
-// Each function is the reader of its name in descent's Descent, run with any fuel that is enough.
+// Each function is the reader of its name in descent's Descent, run with any fuel that is enough. Of a call, though, they read up to the bracket
+// that ends it, where descent's arguments and more go on with the calls: those are the next turn of the loop in calls.
 use crate::answer::Read;
 use crate::cursor;
 use crate::cursor::Cursor;
@@ -14,10 +15,11 @@ use crate::tokens;
 use crate::tokens::Lexed;
 ghost use mathlib.Core.Path.{_≡_};
 ghost use Prim.Native.Nat.{_-_, _≤_};
-ghost use Rattle.descent.specs.Cursor.{letKind, lambdaKind, openKind};
+ghost use Rattle.descent.specs.Cursor.{isAt, letKind, lambdaKind, dotKind, openKind};
 ghost use Rattle.descent.specs.Descent.{firstGiven, nextGiven, inExpression, inCalls, inArguments, inMore};
+ghost use Rattle.reader.specs.Lexing.{tokensFrom};
 ghost use Rattle.reader.specs.Scratch.{callOf};
-ghost use Rattle.reader.specs.Parsing.{Ready, ReadyAt, Parses};
+ghost use Rattle.reader.specs.Parsing.{Ready, ReadyAt, Parses, Continues};
 ghost use Rattle.reader.specs.Reading.{Reading};
 
 // One less, down to 0.
@@ -195,7 +197,15 @@ fn read_bracket(
     }
 }
 
-// The calls on the record last read.
+// Is a call next?
+fn is_call(text: &[u8], at: usize) -> bool
+    ensures { λ r. ⌜ r ≡ isAt dotKind (tokensFrom (now (text .entry)) at) ⌝ }
+{
+    let x = tokens::token(text, at);
+    x.kind == Lexed::DOT
+}
+
+// The calls on the record last read. A chain of them is a loop, so that its length takes no stack.
 fn calls(
     text: &[u8],
     marks: usize,
@@ -208,27 +218,45 @@ fn calls(
     requires { ⌜ Ready (inCalls marks depth) (now text) c (now records) (now places) (now scope) ⌝ }
     ensures { λ r. ⌜ Parses (inCalls marks depth) (now (text .entry)) c (now (records .entry)) (now (places .entry)) (now (scope .entry)) r (now (records .exit)) (now (places .exit)) (now (scope .exit)) ⌝ }
 {
-    let x = tokens::token(text, c.at);
-    if x.kind == Lexed::DOT {
-        let h = cursor::call_head(text, marks, c);
-        if h.number == 0 {
-            let k = Call {
-                kind: h.name,
-                takes: h.takes,
-                receiver: c.root,
-                place: c.parts,
-                argument: 0,
-            };
-            arguments(text, k, marks, depth, h, records, places, scope)
-        } else {
-            h
+    let mut a = c;
+    while is_call(text, a.at) {
+        a = call(text, marks, depth, a, records, places, scope);
+        if a.number != 0 {
+            return a;
         }
+    }
+    a
+}
+
+// One call, up to the bracket that ends it.
+fn call(
+    text: &[u8],
+    marks: usize,
+    depth: usize,
+    c: Cursor,
+    records: &mut [u64; 256],
+    places: &mut [u16; 128],
+    scope: &mut [u64; 32],
+) -> Cursor
+    requires { ⌜ ReadyAt dotKind (inCalls marks depth) (now text) c (now records) (now places) (now scope) ⌝ }
+    ensures { λ r. ⌜ Continues (inCalls marks depth) marks depth (now (text .entry)) c (now (records .entry)) (now (places .entry)) (now (scope .entry)) r (now (records .exit)) (now (places .exit)) (now (scope .exit)) ⌝ }
+{
+    let h = cursor::call_head(text, marks, c);
+    if h.number == 0 {
+        let k = Call {
+            kind: h.name,
+            takes: h.takes,
+            receiver: c.root,
+            place: c.parts,
+            argument: 0,
+        };
+        arguments(text, k, marks, depth, h, records, places, scope)
     } else {
-        c
+        h
     }
 }
 
-// What stands behind the bracket of a call.
+// What stands behind the bracket of a call, up to the one that ends it.
 fn arguments(
     text: &[u8],
     k: Call,
@@ -240,16 +268,11 @@ fn arguments(
     scope: &mut [u64; 32],
 ) -> Cursor
     requires { ⌜ Ready (inArguments (callOf k) marks depth) (now text) c (now records) (now places) (now scope) ⌝ }
-    ensures { λ r. ⌜ Parses (inArguments (callOf k) marks depth) (now (text .entry)) c (now (records .entry)) (now (places .entry)) (now (scope .entry)) r (now (records .exit)) (now (places .exit)) (now (scope .exit)) ⌝ }
+    ensures { λ r. ⌜ Continues (inArguments (callOf k) marks depth) marks depth (now (text .entry)) c (now (records .entry)) (now (places .entry)) (now (scope .entry)) r (now (records .exit)) (now (places .exit)) (now (scope .exit)) ⌝ }
 {
     let x = tokens::token(text, c.at);
     if x.kind == Lexed::SHUT {
-        let a = scratch::read_shut(text, k, c, records, places);
-        if a.number == 0 {
-            calls(text, marks, depth, a, records, places, scope)
-        } else {
-            a
-        }
+        scratch::read_shut(text, k, c, records, places)
     } else {
         let a = expression(
             text,
@@ -278,7 +301,7 @@ fn arguments(
     }
 }
 
-// What stands behind an argument.
+// What stands behind an argument, up to the bracket that ends the call.
 fn more(
     text: &[u8],
     k: Call,
@@ -290,16 +313,12 @@ fn more(
     scope: &mut [u64; 32],
 ) -> Cursor
     requires { ⌜ Ready (inMore (callOf k) marks depth) (now text) c (now records) (now places) (now scope) ⌝ }
-    ensures { λ r. ⌜ Parses (inMore (callOf k) marks depth) (now (text .entry)) c (now (records .entry)) (now (places .entry)) (now (scope .entry)) r (now (records .exit)) (now (places .exit)) (now (scope .exit)) ⌝ }
+    ensures { λ r. ⌜ Continues (inMore (callOf k) marks depth) marks depth (now (text .entry)) c (now (records .entry)) (now (places .entry)) (now (scope .entry)) r (now (records .exit)) (now (places .exit)) (now (scope .exit)) ⌝ }
 {
     let x = tokens::token(text, c.at);
     let kind = x.kind;
     if kind == Lexed::SHUT {
-        let a = scratch::read_shut(text, k, c, records, places);
-        if a.number == 0 {
-            return calls(text, marks, depth, a, records, places, scope);
-        }
-        return a;
+        return scratch::read_shut(text, k, c, records, places);
     }
     if kind == Lexed::COMMA {
         let h = cursor::judged(text, cursor::at_comma(k.takes), c);

@@ -1,5 +1,6 @@
 -- Each path through a reader is one of descent's rules, and the state at each call is fit and has fewer tokens left, or the call comes
--- later in the order of those that pass none. Assumes nothing.
+-- later in the order of those that pass none. The invariant of the loop over a chain of calls says that what the calls from here on give, the
+-- whole chain gives. Assumes nothing.
 use native.Mathlib.Omega.{arith}
 use borrow.Author.Needs.{needs}
 use Rattle.reader.specs.Parsing.{measure}
@@ -9,25 +10,28 @@ use borrow.Fn.Kinds.{In}
 use borrow.Fn.PlainCycle.{Measures, is, falls, and}
 use Rattle.reader.proofs.parser.arguments.Reads as arguments
 use Rattle.reader.proofs.parser.arguments.Kinds as arguments-kinds
-use Rattle.reader.proofs.parser.+arguments+calls+expression+more+read_bracket+read_lambda+read_let.Lts-arguments as arguments-lts
+use Rattle.reader.proofs.parser.+arguments+call+calls+expression+more+read_bracket+read_lambda+read_let.Lts-arguments as arguments-lts
+use Rattle.reader.proofs.parser.call.Reads as call
+use Rattle.reader.proofs.parser.call.Kinds as call-kinds
+use Rattle.reader.proofs.parser.+arguments+call+calls+expression+more+read_bracket+read_lambda+read_let.Lts-call as call-lts
 use Rattle.reader.proofs.parser.calls.Reads as calls
 use Rattle.reader.proofs.parser.calls.Kinds as calls-kinds
-use Rattle.reader.proofs.parser.+arguments+calls+expression+more+read_bracket+read_lambda+read_let.Lts-calls as calls-lts
+use Rattle.reader.proofs.parser.+arguments+call+calls+expression+more+read_bracket+read_lambda+read_let.Lts-calls as calls-lts
 use Rattle.reader.proofs.parser.expression.Reads as expression
 use Rattle.reader.proofs.parser.expression.Kinds as expression-kinds
-use Rattle.reader.proofs.parser.+arguments+calls+expression+more+read_bracket+read_lambda+read_let.Lts-expression as expression-lts
+use Rattle.reader.proofs.parser.+arguments+call+calls+expression+more+read_bracket+read_lambda+read_let.Lts-expression as expression-lts
 use Rattle.reader.proofs.parser.more.Reads as more
 use Rattle.reader.proofs.parser.more.Kinds as more-kinds
-use Rattle.reader.proofs.parser.+arguments+calls+expression+more+read_bracket+read_lambda+read_let.Lts-more as more-lts
+use Rattle.reader.proofs.parser.+arguments+call+calls+expression+more+read_bracket+read_lambda+read_let.Lts-more as more-lts
 use Rattle.reader.proofs.parser.read_bracket.Reads as read-bracket
 use Rattle.reader.proofs.parser.read_bracket.Kinds as read-bracket-kinds
-use Rattle.reader.proofs.parser.+arguments+calls+expression+more+read_bracket+read_lambda+read_let.Lts-read_bracket as read-bracket-lts
+use Rattle.reader.proofs.parser.+arguments+call+calls+expression+more+read_bracket+read_lambda+read_let.Lts-read_bracket as read-bracket-lts
 use Rattle.reader.proofs.parser.read_lambda.Reads as read-lambda
 use Rattle.reader.proofs.parser.read_lambda.Kinds as read-lambda-kinds
-use Rattle.reader.proofs.parser.+arguments+calls+expression+more+read_bracket+read_lambda+read_let.Lts-read_lambda as read-lambda-lts
+use Rattle.reader.proofs.parser.+arguments+call+calls+expression+more+read_bracket+read_lambda+read_let.Lts-read_lambda as read-lambda-lts
 use Rattle.reader.proofs.parser.read_let.Reads as read-let
 use Rattle.reader.proofs.parser.read_let.Kinds as read-let-kinds
-use Rattle.reader.proofs.parser.+arguments+calls+expression+more+read_bracket+read_lambda+read_let.Lts-read_let as read-let-lts
+use Rattle.reader.proofs.parser.+arguments+call+calls+expression+more+read_bracket+read_lambda+read_let.Lts-read_let as read-let-lts
 use Rattle.reader.proofs.cursor.at_bracket.Reads as at-bracket-reads
 use Rattle.reader.proofs.cursor.at_comma.Reads as at-comma-reads
 use Rattle.reader.proofs.cursor.call_head.Reads as call-head-reads
@@ -37,6 +41,7 @@ use Rattle.reader.proofs.cursor.let_head.Reads as let-head-reads
 use Rattle.reader.proofs.cursor.need.Reads as need-reads
 use Rattle.reader.proofs.cursor.refused.Reads as refused-reads
 use Rattle.reader.proofs.parser.first_given.Reads as first-given-reads
+use Rattle.reader.proofs.parser.is_call.Reads as is-call-reads
 use Rattle.reader.proofs.parser.next_given.Reads as next-given-reads
 use Rattle.reader.proofs.scratch.enter.Reads as enter-reads
 use Rattle.reader.proofs.scratch.mark.Reads as mark-reads
@@ -45,18 +50,21 @@ use Rattle.reader.proofs.scratch.read_name.Reads as read-name-reads
 use Rattle.reader.proofs.scratch.read_number.Reads as read-number-reads
 use Rattle.reader.proofs.scratch.read_shut.Reads as read-shut-reads
 use Rattle.reader.proofs.tokens.token.Reads as token-reads
-use Rattle.reader.proofs.parser.+arguments+calls+expression+more+read_bracket+read_lambda+read_let.{
+use Rattle.reader.proofs.parser.+arguments+call+calls+expression+more+read_bracket+read_lambda+read_let.{
   statement,
 }
-use Rattle.reader.proofs.parser.+arguments+calls+expression+more+read_bracket+read_lambda+read_let.Tie.{
+use Rattle.reader.proofs.parser.+arguments+call+calls+expression+more+read_bracket+read_lambda+read_let.Tie.{
   close,
 }
 
 abbrev μ-arguments : Measures 4 arguments-kinds.ps ℕ
 μ-arguments κs a = measure 2 (a .0 .now) (a .1 .1 .1 .1 .0)
 
+abbrev μ-call : Measures 4 call-kinds.ps ℕ
+μ-call κs a = measure 0 (a .0 .now) (a .1 .1 .1 .0)
+
 abbrev μ-calls : Measures 4 calls-kinds.ps ℕ
-μ-calls κs a = measure 0 (a .0 .now) (a .1 .1 .1 .0)
+μ-calls κs a = measure 1 (a .0 .now) (a .1 .1 .1 .0)
 
 abbrev μ-expression : Measures 4 expression-kinds.ps ℕ
 μ-expression κs a = measure 1 (a .0 .now) (a .1 .1 .1 .1 .0)
@@ -79,6 +87,12 @@ arguments-at t = and 4 arguments-kinds.ps (is 4 arguments-kinds.ps μ-arguments 
 abbrev arguments-below : ℕ → In 4 arguments-kinds.ps
 arguments-below t =
     and 4 arguments-kinds.ps (falls 4 arguments-kinds.ps _<_ μ-arguments t) arguments.Pre
+
+abbrev call-at : ℕ → In 4 call-kinds.ps
+call-at t = and 4 call-kinds.ps (is 4 call-kinds.ps μ-call t) call.Pre
+
+abbrev call-below : ℕ → In 4 call-kinds.ps
+call-below t = and 4 call-kinds.ps (falls 4 call-kinds.ps _<_ μ-call t) call.Pre
 
 abbrev calls-at : ℕ → In 4 calls-kinds.ps
 calls-at t = and 4 calls-kinds.ps (is 4 calls-kinds.ps μ-calls t) calls.Pre
@@ -127,241 +141,84 @@ abbrev read-let-below : ℕ → In 4 read-let-kinds.ps
 read-let-below t =
     and 4 read-let-kinds.ps (falls 4 read-let-kinds.ps _<_ μ-read-let t) read-let.Pre
 
-arguments-token-requires : (t : ℕ) → arguments-lts.Need-token-requires (
-  token-reads.Asked,
-  token-reads.Learnt,
-  read-shut-reads.Asked,
-  read-shut-reads.Learnt,
-  calls-below t,
-  calls.Post,
-  expression-below t,
-  expression.Post,
-  first-given-reads.Asked,
-  first-given-reads.Learnt,
-  more-below t,
-  more.Post,
-) (arguments-at t) arguments.Post
+abbrev arguments-claims : ℕ → arguments-lts.Claims
+arguments-claims t =
+    (token-reads.Asked, token-reads.Learnt, read-shut-reads.Asked, read-shut-reads.Learnt, expression-below t, expression.Post, first-given-reads.Asked, first-given-reads.Learnt, more-below t, more.Post)
+
+arguments-token-requires : (t : ℕ) → arguments-lts.Need-token-requires (arguments-claims t) (arguments-at t) arguments.Post
 arguments-token-requires t c κs = search needs
 
-arguments-read-shut-requires : (t : ℕ) → arguments-lts.Need-read-shut-requires (
-  token-reads.Asked,
-  token-reads.Learnt,
-  read-shut-reads.Asked,
-  read-shut-reads.Learnt,
-  calls-below t,
-  calls.Post,
-  expression-below t,
-  expression.Post,
-  first-given-reads.Asked,
-  first-given-reads.Learnt,
-  more-below t,
-  more.Post,
-) (arguments-at t) arguments.Post
+arguments-read-shut-requires : (t : ℕ) → arguments-lts.Need-read-shut-requires (arguments-claims t) (arguments-at t) arguments.Post
 arguments-read-shut-requires t c κs = L.arguments-room _ _ _ _ _ _ _ _ (c .before .before .before .before .before .before .pre .1)
 
-arguments-calls-requires : (t : ℕ) → arguments-lts.Need-calls-requires (
-  token-reads.Asked,
-  token-reads.Learnt,
-  read-shut-reads.Asked,
-  read-shut-reads.Learnt,
-  calls-below t,
-  calls.Post,
-  expression-below t,
-  expression.Post,
-  first-given-reads.Asked,
-  first-given-reads.Learnt,
-  more-below t,
-  more.Post,
-) (arguments-at t) arguments.Post
-arguments-calls-requires t c κs = (omega (arith, c .before .before .before .before .before .before .before .before .before .before .before .before .pre .0, L.shut-less _ _ _ _ _ _ _ _ _ (c .before .before .before .before .before .before .before .before .before .before .token .ensures) (c .before .before .before .before .before .before .before .before .if1 .taken) (c .before .before .before .before .before .read-shut .ensures) (c .before .before .before .if2 .taken)), L.arguments-shut-fit _ _ _ _ _ _ _ _ _ _ _ _ (c .before .before .before .before .before .before .before .before .before .before .token .ensures) (c .before .before .before .before .before .before .before .before .if1 .taken) (c .before .before .before .before .before .read-shut .ensures) (c .before .before .before .if2 .taken) (c .before .before .before .before .before .before .before .before .before .before .before .before .pre .1))
-
-arguments-add-expression : (t : ℕ) → arguments-lts.Need-add-expression (
-  token-reads.Asked,
-  token-reads.Learnt,
-  read-shut-reads.Asked,
-  read-shut-reads.Learnt,
-  calls-below t,
-  calls.Post,
-  expression-below t,
-  expression.Post,
-  first-given-reads.Asked,
-  first-given-reads.Learnt,
-  more-below t,
-  more.Post,
-) (arguments-at t) arguments.Post
+arguments-add-expression : (t : ℕ) → arguments-lts.Need-add-expression (arguments-claims t) (arguments-at t) arguments.Post
 arguments-add-expression t c = omega (arith, c .before .before .before .before .before .pre .1 .fit .marks)
 
-arguments-expression-requires : (t : ℕ) → arguments-lts.Need-expression-requires (
-  token-reads.Asked,
-  token-reads.Learnt,
-  read-shut-reads.Asked,
-  read-shut-reads.Learnt,
-  calls-below t,
-  calls.Post,
-  expression-below t,
-  expression.Post,
-  first-given-reads.Asked,
-  first-given-reads.Learnt,
-  more-below t,
-  more.Post,
-) (arguments-at t) arguments.Post
+arguments-expression-requires : (t : ℕ) → arguments-lts.Need-expression-requires (arguments-claims t) (arguments-at t) arguments.Post
 arguments-expression-requires t c κs = (omega (arith, c .before .before .before .before .before .before .before .before .pre .0), L.argument-fit _ _ _ _ _ _ _ _ (c .before .before .before .before .before .before .before .before .pre .1))
 
-arguments-first-given-requires : (t : ℕ) → arguments-lts.Need-first-given-requires (
-  token-reads.Asked,
-  token-reads.Learnt,
-  read-shut-reads.Asked,
-  read-shut-reads.Learnt,
-  calls-below t,
-  calls.Post,
-  expression-below t,
-  expression.Post,
-  first-given-reads.Asked,
-  first-given-reads.Learnt,
-  more-below t,
-  more.Post,
-) (arguments-at t) arguments.Post
-arguments-first-given-requires t c κs = omega (arith, L.root-few _ _ _ _ _ _ _ _ _ _ (c .before .before .expression .ensures) (c .if3 .taken) ((L.argument-fit _ _ _ _ _ _ _ _ (c .before .before .before .before .before .before .before .before .before .before .before .pre .1)) .fit))
+arguments-first-given-requires : (t : ℕ) → arguments-lts.Need-first-given-requires (arguments-claims t) (arguments-at t) arguments.Post
+arguments-first-given-requires t c κs = omega (arith, L.root-few _ _ _ _ _ _ _ _ _ _ (c .before .before .expression .ensures) (c .if2 .taken) ((L.argument-fit _ _ _ _ _ _ _ _ (c .before .before .before .before .before .before .before .before .before .before .before .pre .1)) .fit))
 
-arguments-more-requires : (t : ℕ) → arguments-lts.Need-more-requires (
-  token-reads.Asked,
-  token-reads.Learnt,
-  read-shut-reads.Asked,
-  read-shut-reads.Learnt,
-  calls-below t,
-  calls.Post,
-  expression-below t,
-  expression.Post,
-  first-given-reads.Asked,
-  first-given-reads.Learnt,
-  more-below t,
-  more.Post,
-) (arguments-at t) arguments.Post
-arguments-more-requires t c κs = (omega (arith, c .before .before .before .before .before .before .before .before .before .before .before .before .before .before .before .pre .0, L.read-less _ _ _ _ _ _ _ _ _ _ (c .before .before .before .before .before .before .expression .ensures) (c .before .before .before .before .if3 .taken)), L.first-fit _ _ _ _ _ _ _ _ _ _ _ _ (c .before .before .before .before .before .before .expression .ensures) (c .before .before .before .before .if3 .taken) _ (c .before .before .before .first-given .ensures) (c .before .before .before .before .before .before .before .before .before .before .before .before .before .before .before .pre .1))
+arguments-more-requires : (t : ℕ) → arguments-lts.Need-more-requires (arguments-claims t) (arguments-at t) arguments.Post
+arguments-more-requires t c κs = (omega (arith, c .before .before .before .before .before .before .before .before .before .before .before .before .before .before .before .pre .0, L.read-less _ _ _ _ _ _ _ _ _ _ (c .before .before .before .before .before .before .expression .ensures) (c .before .before .before .before .if2 .taken)), L.first-fit _ _ _ _ _ _ _ _ _ _ _ _ (c .before .before .before .before .before .before .expression .ensures) (c .before .before .before .before .if2 .taken) _ (c .before .before .before .first-given .ensures) (c .before .before .before .before .before .before .before .before .before .before .before .before .before .before .before .pre .1))
 
-arguments-returns : (t : ℕ) → arguments-lts.Need-returns (
-  token-reads.Asked,
-  token-reads.Learnt,
-  read-shut-reads.Asked,
-  read-shut-reads.Learnt,
-  calls-below t,
-  calls.Post,
-  expression-below t,
-  expression.Post,
-  first-given-reads.Asked,
-  first-given-reads.Learnt,
-  more-below t,
-  more.Post,
-) (arguments-at t) arguments.Post
-arguments-returns t c = L.arguments-none _ _ _ _ _ _ _ _ _ _ _ _ (c .before .before .before .before .before .before .before .before .before .before .before .token .ensures) (c .before .before .before .before .before .before .before .before .before .if1 .taken) (c .before .before .before .before .before .before .read-shut .ensures) (c .before .before .before .before .if2 .taken) _ _ _ _ (c .calls .ensures)
+arguments-returns : (t : ℕ) → arguments-lts.Need-returns (arguments-claims t) (arguments-at t) arguments.Post
+arguments-returns t c = L.arguments-none _ _ _ _ _ _ _ _ _ _ _ _ (c .before .before .before .before .before .token .ensures) (c .before .before .before .if1 .taken) (c .read-shut .ensures) (c .before .before .before .before .before .before .before .pre .1)
 
-arguments-returns-2 : (t : ℕ) → arguments-lts.Need-returns-2 (
-  token-reads.Asked,
-  token-reads.Learnt,
-  read-shut-reads.Asked,
-  read-shut-reads.Learnt,
-  calls-below t,
-  calls.Post,
-  expression-below t,
-  expression.Post,
-  first-given-reads.Asked,
-  first-given-reads.Learnt,
-  more-below t,
-  more.Post,
-) (arguments-at t) arguments.Post
-arguments-returns-2 t c = L.arguments-none-refused _ _ _ _ _ _ _ _ _ _ _ _ (c .before .before .before .before .before .before .before .token .ensures) (c .before .before .before .before .before .if1 .taken) (c .before .before .read-shut .ensures) (c .if2 .left)
+arguments-returns-2 : (t : ℕ) → arguments-lts.Need-returns-2 (arguments-claims t) (arguments-at t) arguments.Post
+arguments-returns-2 t c = L.arguments-first _ _ _ _ _ _ _ _ _ _ _ _ (c .before .before .before .before .before .before .before .expression .ensures) (c .before .before .before .before .before .if2 .taken) _ (c .before .before .before .before .first-given .ensures) _ (c .before .before .before .before .before .before .before .before .before .before .before .before .before .before .token .ensures) (c .before .before .before .before .before .before .before .before .before .before .before .before .if1 .left) (c .more .ensures)
 
-arguments-returns-3 : (t : ℕ) → arguments-lts.Need-returns-3 (
-  token-reads.Asked,
-  token-reads.Learnt,
-  read-shut-reads.Asked,
-  read-shut-reads.Learnt,
-  calls-below t,
-  calls.Post,
-  expression-below t,
-  expression.Post,
-  first-given-reads.Asked,
-  first-given-reads.Learnt,
-  more-below t,
-  more.Post,
-) (arguments-at t) arguments.Post
-arguments-returns-3 t c = L.arguments-first _ _ _ _ _ _ _ _ _ _ _ _ (c .before .before .before .before .before .before .before .expression .ensures) (c .before .before .before .before .before .if3 .taken) _ (c .before .before .before .before .first-given .ensures) _ (c .before .before .before .before .before .before .before .before .before .before .before .before .before .before .token .ensures) (c .before .before .before .before .before .before .before .before .before .before .before .before .if1 .left) (c .more .ensures)
+arguments-returns-3 : (t : ℕ) → arguments-lts.Need-returns-3 (arguments-claims t) (arguments-at t) arguments.Post
+arguments-returns-3 t c = L.arguments-first-refused _ _ _ _ _ _ _ _ _ _ _ _ (c .before .before .expression .ensures) _ (c .before .before .before .before .before .before .before .before .before .token .ensures) (c .before .before .before .before .before .before .before .if1 .left) (c .if2 .left)
 
-arguments-returns-4 : (t : ℕ) → arguments-lts.Need-returns-4 (
-  token-reads.Asked,
-  token-reads.Learnt,
-  read-shut-reads.Asked,
-  read-shut-reads.Learnt,
-  calls-below t,
-  calls.Post,
-  expression-below t,
-  expression.Post,
-  first-given-reads.Asked,
-  first-given-reads.Learnt,
-  more-below t,
-  more.Post,
-) (arguments-at t) arguments.Post
-arguments-returns-4 t c = L.arguments-first-refused _ _ _ _ _ _ _ _ _ _ _ _ (c .before .before .expression .ensures) _ (c .before .before .before .before .before .before .before .before .before .token .ensures) (c .before .before .before .before .before .before .before .if1 .left) (c .if3 .left)
+abbrev call-claims : ℕ → call-lts.Claims
+call-claims t =
+    (call-head-reads.Asked, call-head-reads.Learnt, arguments-below t, arguments.Post)
 
-calls-token-requires : (t : ℕ) → calls-lts.Need-token-requires (
-  token-reads.Asked,
-  token-reads.Learnt,
-  call-head-reads.Asked,
-  call-head-reads.Learnt,
-  arguments-below t,
-  arguments.Post,
-) (calls-at t) calls.Post
-calls-token-requires t c κs = search needs
+call-call-head-requires : (t : ℕ) → call-lts.Need-call-head-requires (call-claims t) (call-at t) call.Post
+call-call-head-requires t c κs = c .before .pre .1 .fit .parts
 
-calls-call-head-requires : (t : ℕ) → calls-lts.Need-call-head-requires (
-  token-reads.Asked,
-  token-reads.Learnt,
-  call-head-reads.Asked,
-  call-head-reads.Learnt,
-  arguments-below t,
-  arguments.Post,
-) (calls-at t) calls.Post
-calls-call-head-requires t c κs = c .before .before .before .before .pre .1 .fit .parts
+call-arguments-requires : (t : ℕ) → call-lts.Need-arguments-requires (call-claims t) (call-at t) call.Post
+call-arguments-requires t c κs = (omega (arith, c .before .before .before .before .before .before .before .pre .0, L.call-less _ _ _ _ _ _ _ _ (c .before .before .before .before .before .before .before .pre .1) (c .before .before .before .before .before .call-head .ensures) (c .before .before .before .if1 .taken)), L.call-fit _ _ _ _ _ _ _ _ (c .before .before .before .before .before .before .before .pre .1) (c .before .before .before .before .before .call-head .ensures) (c .before .before .before .if1 .taken))
 
-calls-arguments-requires : (t : ℕ) → calls-lts.Need-arguments-requires (
-  token-reads.Asked,
-  token-reads.Learnt,
-  call-head-reads.Asked,
-  call-head-reads.Learnt,
-  arguments-below t,
-  arguments.Post,
-) (calls-at t) calls.Post
-calls-arguments-requires t c κs = (omega (arith, c .before .before .before .before .before .before .before .before .before .before .pre .0, L.call-less _ _ _ _ _ (c .before .before .before .before .before .before .before .before .token .ensures) (c .before .before .before .before .before .before .if1 .taken) (c .before .before .before .before .before .call-head .ensures) (c .before .before .before .if2 .taken)), L.call-fit _ _ _ _ _ _ _ _ (c .before .before .before .before .before .before .before .before .token .ensures) _ (c .before .before .before .before .before .before .if1 .taken) (c .before .before .before .before .before .call-head .ensures) (c .before .before .before .if2 .taken) (c .before .before .before .before .before .before .before .before .before .before .pre .1))
+call-returns : (t : ℕ) → call-lts.Need-returns (call-claims t) (call-at t) call.Post
+call-returns t c = L.call-read _ _ _ _ _ _ _ _ (c .before .before .before .before .before .before .before .before .pre .1) (c .before .before .before .before .before .before .call-head .ensures) (c .before .before .before .before .if1 .taken) (c .arguments .ensures)
 
-calls-returns : (t : ℕ) → calls-lts.Need-returns (
-  token-reads.Asked,
-  token-reads.Learnt,
-  call-head-reads.Asked,
-  call-head-reads.Learnt,
-  arguments-below t,
-  arguments.Post,
-) (calls-at t) calls.Post
-calls-returns t c = L.call-read _ _ _ _ _ _ _ _ (c .before .before .before .before .before .before .before .before .before .token .ensures) _ (c .before .before .before .before .before .before .before .if1 .taken) (c .before .before .before .before .before .before .call-head .ensures) (c .before .before .before .before .if2 .taken) (c .arguments .ensures)
+call-returns-2 : (t : ℕ) → call-lts.Need-returns-2 (call-claims t) (call-at t) call.Post
+call-returns-2 t c = L.call-head-refused _ _ _ _ _ _ _ _ (c .before .before .before .before .pre .1) (c .before .before .call-head .ensures) (c .if1 .left)
 
-calls-returns-2 : (t : ℕ) → calls-lts.Need-returns-2 (
-  token-reads.Asked,
-  token-reads.Learnt,
-  call-head-reads.Asked,
-  call-head-reads.Learnt,
-  arguments-below t,
-  arguments.Post,
-) (calls-at t) calls.Post
-calls-returns-2 t c = L.call-head-refused _ _ _ _ _ _ _ _ (c .before .before .before .before .before .token .ensures) _ (c .before .before .before .if1 .taken) (c .before .before .call-head .ensures) (c .if2 .left)
+abbrev calls-claims : ℕ → calls-lts.Claims
+calls-claims t =
+    (is-call-reads.Asked, is-call-reads.Learnt, call-below t, call.Post)
 
-calls-returns-3 : (t : ℕ) → calls-lts.Need-returns-3 (
-  token-reads.Asked,
-  token-reads.Learnt,
-  call-head-reads.Asked,
-  call-head-reads.Learnt,
-  arguments-below t,
-  arguments.Post,
-) (calls-at t) calls.Post
-calls-returns-3 t c = L.calls-over _ _ _ _ _ _ _ _ (c .before .before .token .ensures) (c .if1 .left)
+abbrev calls-Inv-loop : calls-lts.InvT-loop
+calls-Inv-loop text marks depth records₀ places₀ scope₀ a₀ records places scope a =
+    L.Chain text marks depth a₀ records₀ places₀ scope₀ a records places scope
+
+abbrev calls-μ-loop : calls-lts.MeasureT-loop
+calls-μ-loop text marks depth records₀ places₀ scope₀ a₀ records places scope a = measure 0 text a
+
+calls-loop-holds : (t : ℕ) → calls-lts.Need-loop-holds (calls-claims t) (calls-at t) calls.Post calls-Inv-loop calls-μ-loop
+calls-loop-holds t c = L.chain-none _ _ _ _ _ _ _ (c .before .pre .1)
+
+calls-is-call-requires : (t : ℕ) → calls-lts.Need-is-call-requires (calls-claims t) (calls-at t) calls.Post calls-Inv-loop calls-μ-loop
+calls-is-call-requires t c κs = search needs
+
+calls-call-requires : (t : ℕ) → calls-lts.Need-call-requires (calls-claims t) (calls-at t) calls.Post calls-Inv-loop calls-μ-loop
+calls-call-requires t c κs = (omega (arith, c .before .before .before .before .before .before .before .pre .0, c .before .before .before .before .before .loop .inv .less), L.chain-ready _ _ _ _ _ _ _ _ _ _ _ (c .before .before .before .before .before .loop .inv) _ (c .before .before .before .before .is-call .ensures) (c .before .before .before .if1 .taken))
+
+calls-returns : (t : ℕ) → calls-lts.Need-returns (calls-claims t) (calls-at t) calls.Post calls-Inv-loop calls-μ-loop
+calls-returns t c = L.chain-refused _ _ _ _ _ _ _ _ _ _ _ (c .before .before .before .before .before .before .before .before .loop .inv) _ _ _ _ (c .before .before .call .ensures) (c .if2 .taken)
+
+calls-loop-less : (t : ℕ) → calls-lts.Need-loop-less (calls-claims t) (calls-at t) calls.Post calls-Inv-loop calls-μ-loop
+calls-loop-less t c = omega (arith, c .before .before .call .ensures .less (c .if2 .left))
+
+calls-loop-again : (t : ℕ) → calls-lts.Need-loop-again (calls-claims t) (calls-at t) calls.Post calls-Inv-loop calls-μ-loop
+calls-loop-again t c = L.chain-on _ _ _ _ _ _ _ _ _ _ _ (c .before .before .before .before .before .before .before .before .loop .inv) _ _ _ _ (c .before .before .call .ensures) (c .if2 .left)
+
+calls-returns-2 : (t : ℕ) → calls-lts.Need-returns-2 (calls-claims t) (calls-at t) calls.Post calls-Inv-loop calls-μ-loop
+calls-returns-2 t c = L.chain-over _ _ _ _ _ _ _ _ _ _ _ (c .before .before .loop .inv) _ (c .before .is-call .ensures) (c .if1 .left)
 
 expression-token-requires : (t : ℕ) → expression-lts.Need-token-requires (
   token-reads.Asked,
@@ -703,357 +560,51 @@ expression-returns-8 : (t : ℕ) → expression-lts.Need-returns-8 (
 ) (expression-at t) expression.Post
 expression-returns-8 t c = L.expression-refused _ _ _ _ _ _ _ _ _ (c .before .before .before .before .before .before .token .ensures) _ (c .before .before .before .before .before .if1 .left) (c .before .before .before .before .if2 .left) (c .before .before .before .if3 .left) (c .before .before .if4 .left) (c .before .if6 .left) (c .refused .ensures)
 
-more-token-requires : (t : ℕ) → more-lts.Need-token-requires (
-  token-reads.Asked,
-  token-reads.Learnt,
-  read-shut-reads.Asked,
-  read-shut-reads.Learnt,
-  calls-below t,
-  calls.Post,
-  at-comma-reads.Asked,
-  at-comma-reads.Learnt,
-  judged-reads.Asked,
-  judged-reads.Learnt,
-  expression-below t,
-  expression.Post,
-  next-given-reads.Asked,
-  next-given-reads.Learnt,
-  more-below t,
-  more.Post,
-  refused-reads.Asked,
-  refused-reads.Learnt,
-) (more-at t) more.Post
+abbrev more-claims : ℕ → more-lts.Claims
+more-claims t =
+    (token-reads.Asked, token-reads.Learnt, read-shut-reads.Asked, read-shut-reads.Learnt, at-comma-reads.Asked, at-comma-reads.Learnt, judged-reads.Asked, judged-reads.Learnt, expression-below t, expression.Post, next-given-reads.Asked, next-given-reads.Learnt, more-below t, more.Post, refused-reads.Asked, refused-reads.Learnt)
+
+more-token-requires : (t : ℕ) → more-lts.Need-token-requires (more-claims t) (more-at t) more.Post
 more-token-requires t c κs = search needs
 
-more-read-shut-requires : (t : ℕ) → more-lts.Need-read-shut-requires (
-  token-reads.Asked,
-  token-reads.Learnt,
-  read-shut-reads.Asked,
-  read-shut-reads.Learnt,
-  calls-below t,
-  calls.Post,
-  at-comma-reads.Asked,
-  at-comma-reads.Learnt,
-  judged-reads.Asked,
-  judged-reads.Learnt,
-  expression-below t,
-  expression.Post,
-  next-given-reads.Asked,
-  next-given-reads.Learnt,
-  more-below t,
-  more.Post,
-  refused-reads.Asked,
-  refused-reads.Learnt,
-) (more-at t) more.Post
+more-read-shut-requires : (t : ℕ) → more-lts.Need-read-shut-requires (more-claims t) (more-at t) more.Post
 more-read-shut-requires t c κs = L.more-room _ _ _ _ _ _ _ _ (c .before .before .before .before .before .pre .1)
 
-more-calls-requires : (t : ℕ) → more-lts.Need-calls-requires (
-  token-reads.Asked,
-  token-reads.Learnt,
-  read-shut-reads.Asked,
-  read-shut-reads.Learnt,
-  calls-below t,
-  calls.Post,
-  at-comma-reads.Asked,
-  at-comma-reads.Learnt,
-  judged-reads.Asked,
-  judged-reads.Learnt,
-  expression-below t,
-  expression.Post,
-  next-given-reads.Asked,
-  next-given-reads.Learnt,
-  more-below t,
-  more.Post,
-  refused-reads.Asked,
-  refused-reads.Learnt,
-) (more-at t) more.Post
-more-calls-requires t c κs = (omega (arith, c .before .before .before .before .before .before .before .before .before .before .before .pre .0, L.shut-less _ _ _ _ _ _ _ _ _ (c .before .before .before .before .before .before .before .before .before .token .ensures) (c .before .before .before .before .before .before .before .before .if1 .taken) (c .before .before .before .before .before .read-shut .ensures) (c .before .before .before .if2 .taken)), L.more-shut-fit _ _ _ _ _ _ _ _ _ _ _ _ (c .before .before .before .before .before .before .before .before .before .token .ensures) (c .before .before .before .before .before .before .before .before .if1 .taken) (c .before .before .before .before .before .read-shut .ensures) (c .before .before .before .if2 .taken) (c .before .before .before .before .before .before .before .before .before .before .before .pre .1))
+more-returns : (t : ℕ) → more-lts.Need-returns (more-claims t) (more-at t) more.Post
+more-returns t c = L.more-last _ _ _ _ _ _ _ _ _ _ _ _ (c .before .before .before .before .token .ensures) (c .before .before .before .if1 .taken) (c .read-shut .ensures) (c .before .before .before .before .before .before .pre .1)
 
-more-returns : (t : ℕ) → more-lts.Need-returns (
-  token-reads.Asked,
-  token-reads.Learnt,
-  read-shut-reads.Asked,
-  read-shut-reads.Learnt,
-  calls-below t,
-  calls.Post,
-  at-comma-reads.Asked,
-  at-comma-reads.Learnt,
-  judged-reads.Asked,
-  judged-reads.Learnt,
-  expression-below t,
-  expression.Post,
-  next-given-reads.Asked,
-  next-given-reads.Learnt,
-  more-below t,
-  more.Post,
-  refused-reads.Asked,
-  refused-reads.Learnt,
-) (more-at t) more.Post
-more-returns t c = L.more-last _ _ _ _ _ _ _ _ _ _ _ _ (c .before .before .before .before .before .before .before .before .before .before .token .ensures) (c .before .before .before .before .before .before .before .before .before .if1 .taken) (c .before .before .before .before .before .before .read-shut .ensures) (c .before .before .before .before .if2 .taken) _ _ _ _ (c .calls .ensures)
-
-more-returns-2 : (t : ℕ) → more-lts.Need-returns-2 (
-  token-reads.Asked,
-  token-reads.Learnt,
-  read-shut-reads.Asked,
-  read-shut-reads.Learnt,
-  calls-below t,
-  calls.Post,
-  at-comma-reads.Asked,
-  at-comma-reads.Learnt,
-  judged-reads.Asked,
-  judged-reads.Learnt,
-  expression-below t,
-  expression.Post,
-  next-given-reads.Asked,
-  next-given-reads.Learnt,
-  more-below t,
-  more.Post,
-  refused-reads.Asked,
-  refused-reads.Learnt,
-) (more-at t) more.Post
-more-returns-2 t c = L.more-last-refused _ _ _ _ _ _ _ _ _ _ _ _ (c .before .before .before .before .before .before .token .ensures) (c .before .before .before .before .before .if1 .taken) (c .before .before .read-shut .ensures) (c .if2 .left)
-
-more-at-comma-requires : (t : ℕ) → more-lts.Need-at-comma-requires (
-  token-reads.Asked,
-  token-reads.Learnt,
-  read-shut-reads.Asked,
-  read-shut-reads.Learnt,
-  calls-below t,
-  calls.Post,
-  at-comma-reads.Asked,
-  at-comma-reads.Learnt,
-  judged-reads.Asked,
-  judged-reads.Learnt,
-  expression-below t,
-  expression.Post,
-  next-given-reads.Asked,
-  next-given-reads.Learnt,
-  more-below t,
-  more.Post,
-  refused-reads.Asked,
-  refused-reads.Learnt,
-) (more-at t) more.Post
+more-at-comma-requires : (t : ℕ) → more-lts.Need-at-comma-requires (more-claims t) (more-at t) more.Post
 more-at-comma-requires t c κs = search needs
 
-more-judged-requires : (t : ℕ) → more-lts.Need-judged-requires (
-  token-reads.Asked,
-  token-reads.Learnt,
-  read-shut-reads.Asked,
-  read-shut-reads.Learnt,
-  calls-below t,
-  calls.Post,
-  at-comma-reads.Asked,
-  at-comma-reads.Learnt,
-  judged-reads.Asked,
-  judged-reads.Learnt,
-  expression-below t,
-  expression.Post,
-  next-given-reads.Asked,
-  next-given-reads.Learnt,
-  more-below t,
-  more.Post,
-  refused-reads.Asked,
-  refused-reads.Learnt,
-) (more-at t) more.Post
+more-judged-requires : (t : ℕ) → more-lts.Need-judged-requires (more-claims t) (more-at t) more.Post
 more-judged-requires t c κs = search needs
 
-more-add-expression : (t : ℕ) → more-lts.Need-add-expression (
-  token-reads.Asked,
-  token-reads.Learnt,
-  read-shut-reads.Asked,
-  read-shut-reads.Learnt,
-  calls-below t,
-  calls.Post,
-  at-comma-reads.Asked,
-  at-comma-reads.Learnt,
-  judged-reads.Asked,
-  judged-reads.Learnt,
-  expression-below t,
-  expression.Post,
-  next-given-reads.Asked,
-  next-given-reads.Learnt,
-  more-below t,
-  more.Post,
-  refused-reads.Asked,
-  refused-reads.Learnt,
-) (more-at t) more.Post
+more-add-expression : (t : ℕ) → more-lts.Need-add-expression (more-claims t) (more-at t) more.Post
 more-add-expression t c = omega (arith, c .before .before .before .before .before .before .before .before .pre .1 .fit .marks)
 
-more-expression-requires : (t : ℕ) → more-lts.Need-expression-requires (
-  token-reads.Asked,
-  token-reads.Learnt,
-  read-shut-reads.Asked,
-  read-shut-reads.Learnt,
-  calls-below t,
-  calls.Post,
-  at-comma-reads.Asked,
-  at-comma-reads.Learnt,
-  judged-reads.Asked,
-  judged-reads.Learnt,
-  expression-below t,
-  expression.Post,
-  next-given-reads.Asked,
-  next-given-reads.Learnt,
-  more-below t,
-  more.Post,
-  refused-reads.Asked,
-  refused-reads.Learnt,
-) (more-at t) more.Post
-more-expression-requires t c κs = (omega (arith, c .before .before .before .before .before .before .before .before .before .before .before .pre .0, L.comma-less _ _ _ _ _ _ (c .before .before .before .before .before .before .before .before .before .token .ensures) (c .before .before .before .before .before .before .before .if3 .taken) (c .before .before .before .before .before .before .at-comma .ensures) (c .before .before .before .before .before .judged .ensures) (c .before .before .before .if4 .taken)), L.comma-fit _ _ _ _ _ _ _ _ _ _ _ (c .before .before .before .before .before .before .before .before .before .token .ensures) (c .before .before .before .before .before .before .before .if3 .taken) (c .before .before .before .before .before .before .at-comma .ensures) (c .before .before .before .before .before .judged .ensures) (c .before .before .before .if4 .taken) (c .before .before .before .before .before .before .before .before .before .before .before .pre .1))
+more-expression-requires : (t : ℕ) → more-lts.Need-expression-requires (more-claims t) (more-at t) more.Post
+more-expression-requires t c κs = (omega (arith, c .before .before .before .before .before .before .before .before .before .before .before .pre .0, L.comma-less _ _ _ _ _ _ (c .before .before .before .before .before .before .before .before .before .token .ensures) (c .before .before .before .before .before .before .before .if2 .taken) (c .before .before .before .before .before .before .at-comma .ensures) (c .before .before .before .before .before .judged .ensures) (c .before .before .before .if3 .taken)), L.comma-fit _ _ _ _ _ _ _ _ _ _ _ (c .before .before .before .before .before .before .before .before .before .token .ensures) (c .before .before .before .before .before .before .before .if2 .taken) (c .before .before .before .before .before .before .at-comma .ensures) (c .before .before .before .before .before .judged .ensures) (c .before .before .before .if3 .taken) (c .before .before .before .before .before .before .before .before .before .before .before .pre .1))
 
-more-next-given-requires : (t : ℕ) → more-lts.Need-next-given-requires (
-  token-reads.Asked,
-  token-reads.Learnt,
-  read-shut-reads.Asked,
-  read-shut-reads.Learnt,
-  calls-below t,
-  calls.Post,
-  at-comma-reads.Asked,
-  at-comma-reads.Learnt,
-  judged-reads.Asked,
-  judged-reads.Learnt,
-  expression-below t,
-  expression.Post,
-  next-given-reads.Asked,
-  next-given-reads.Learnt,
-  more-below t,
-  more.Post,
-  refused-reads.Asked,
-  refused-reads.Learnt,
-) (more-at t) more.Post
+more-next-given-requires : (t : ℕ) → more-lts.Need-next-given-requires (more-claims t) (more-at t) more.Post
 more-next-given-requires t c κs = search needs
 
-more-more-requires : (t : ℕ) → more-lts.Need-more-requires (
-  token-reads.Asked,
-  token-reads.Learnt,
-  read-shut-reads.Asked,
-  read-shut-reads.Learnt,
-  calls-below t,
-  calls.Post,
-  at-comma-reads.Asked,
-  at-comma-reads.Learnt,
-  judged-reads.Asked,
-  judged-reads.Learnt,
-  expression-below t,
-  expression.Post,
-  next-given-reads.Asked,
-  next-given-reads.Learnt,
-  more-below t,
-  more.Post,
-  refused-reads.Asked,
-  refused-reads.Learnt,
-) (more-at t) more.Post
-more-more-requires t c κs = (omega (arith, c .before .before .before .before .before .before .before .before .before .before .before .before .before .before .before .before .before .before .pre .0, L.comma-less _ _ _ _ _ _ (c .before .before .before .before .before .before .before .before .before .before .before .before .before .before .before .before .token .ensures) (c .before .before .before .before .before .before .before .before .before .before .before .before .before .before .if3 .taken) (c .before .before .before .before .before .before .before .before .before .before .before .before .before .at-comma .ensures) (c .before .before .before .before .before .before .before .before .before .before .before .before .judged .ensures) (c .before .before .before .before .before .before .before .before .before .before .if4 .taken), L.read-less _ _ _ _ _ _ _ _ _ _ (c .before .before .before .before .before .before .expression .ensures) (c .before .before .before .before .if5 .taken)), L.next-fit _ _ _ _ _ _ _ _ _ _ _ (c .before .before .before .before .before .before .before .before .before .before .before .before .before .before .before .before .token .ensures) (c .before .before .before .before .before .before .before .before .before .before .before .before .before .before .if3 .taken) (c .before .before .before .before .before .before .before .before .before .before .before .before .before .at-comma .ensures) (c .before .before .before .before .before .before .before .before .before .before .before .before .judged .ensures) (c .before .before .before .before .before .before .before .before .before .before .if4 .taken) _ _ _ _ (c .before .before .before .before .before .before .expression .ensures) (c .before .before .before .before .if5 .taken) _ (c .before .before .before .next-given .ensures) (c .before .before .before .before .before .before .before .before .before .before .before .before .before .before .before .before .before .before .pre .1))
+more-more-requires : (t : ℕ) → more-lts.Need-more-requires (more-claims t) (more-at t) more.Post
+more-more-requires t c κs = (omega (arith, c .before .before .before .before .before .before .before .before .before .before .before .before .before .before .before .before .before .before .pre .0, L.comma-less _ _ _ _ _ _ (c .before .before .before .before .before .before .before .before .before .before .before .before .before .before .before .before .token .ensures) (c .before .before .before .before .before .before .before .before .before .before .before .before .before .before .if2 .taken) (c .before .before .before .before .before .before .before .before .before .before .before .before .before .at-comma .ensures) (c .before .before .before .before .before .before .before .before .before .before .before .before .judged .ensures) (c .before .before .before .before .before .before .before .before .before .before .if3 .taken), L.read-less _ _ _ _ _ _ _ _ _ _ (c .before .before .before .before .before .before .expression .ensures) (c .before .before .before .before .if4 .taken)), L.next-fit _ _ _ _ _ _ _ _ _ _ _ (c .before .before .before .before .before .before .before .before .before .before .before .before .before .before .before .before .token .ensures) (c .before .before .before .before .before .before .before .before .before .before .before .before .before .before .if2 .taken) (c .before .before .before .before .before .before .before .before .before .before .before .before .before .at-comma .ensures) (c .before .before .before .before .before .before .before .before .before .before .before .before .judged .ensures) (c .before .before .before .before .before .before .before .before .before .before .if3 .taken) _ _ _ _ (c .before .before .before .before .before .before .expression .ensures) (c .before .before .before .before .if4 .taken) _ (c .before .before .before .next-given .ensures) (c .before .before .before .before .before .before .before .before .before .before .before .before .before .before .before .before .before .before .pre .1))
 
-more-returns-3 : (t : ℕ) → more-lts.Need-returns-3 (
-  token-reads.Asked,
-  token-reads.Learnt,
-  read-shut-reads.Asked,
-  read-shut-reads.Learnt,
-  calls-below t,
-  calls.Post,
-  at-comma-reads.Asked,
-  at-comma-reads.Learnt,
-  judged-reads.Asked,
-  judged-reads.Learnt,
-  expression-below t,
-  expression.Post,
-  next-given-reads.Asked,
-  next-given-reads.Learnt,
-  more-below t,
-  more.Post,
-  refused-reads.Asked,
-  refused-reads.Learnt,
-) (more-at t) more.Post
-more-returns-3 t c = L.more-next _ _ _ _ _ _ _ _ _ _ _ (c .before .before .before .before .before .before .before .before .before .before .before .before .before .before .before .before .before .token .ensures) (c .before .before .before .before .before .before .before .before .before .before .before .before .before .before .before .if3 .taken) (c .before .before .before .before .before .before .before .before .before .before .before .before .before .before .at-comma .ensures) (c .before .before .before .before .before .before .before .before .before .before .before .before .before .judged .ensures) (c .before .before .before .before .before .before .before .before .before .before .before .if4 .taken) _ _ _ _ (c .before .before .before .before .before .before .before .expression .ensures) (c .before .before .before .before .before .if5 .taken) _ (c .before .before .before .before .next-given .ensures) (c .more .ensures)
+more-returns-2 : (t : ℕ) → more-lts.Need-returns-2 (more-claims t) (more-at t) more.Post
+more-returns-2 t c = L.more-next _ _ _ _ _ _ _ _ _ _ _ (c .before .before .before .before .before .before .before .before .before .before .before .before .before .before .before .before .before .token .ensures) (c .before .before .before .before .before .before .before .before .before .before .before .before .before .before .before .if2 .taken) (c .before .before .before .before .before .before .before .before .before .before .before .before .before .before .at-comma .ensures) (c .before .before .before .before .before .before .before .before .before .before .before .before .before .judged .ensures) (c .before .before .before .before .before .before .before .before .before .before .before .if3 .taken) _ _ _ _ (c .before .before .before .before .before .before .before .expression .ensures) (c .before .before .before .before .before .if4 .taken) _ (c .before .before .before .before .next-given .ensures) (c .more .ensures)
 
-more-returns-4 : (t : ℕ) → more-lts.Need-returns-4 (
-  token-reads.Asked,
-  token-reads.Learnt,
-  read-shut-reads.Asked,
-  read-shut-reads.Learnt,
-  calls-below t,
-  calls.Post,
-  at-comma-reads.Asked,
-  at-comma-reads.Learnt,
-  judged-reads.Asked,
-  judged-reads.Learnt,
-  expression-below t,
-  expression.Post,
-  next-given-reads.Asked,
-  next-given-reads.Learnt,
-  more-below t,
-  more.Post,
-  refused-reads.Asked,
-  refused-reads.Learnt,
-) (more-at t) more.Post
-more-returns-4 t c = L.more-next-refused _ _ _ _ _ _ _ _ _ _ _ (c .before .before .before .before .before .before .before .before .before .before .before .before .token .ensures) (c .before .before .before .before .before .before .before .before .before .before .if3 .taken) (c .before .before .before .before .before .before .before .before .before .at-comma .ensures) (c .before .before .before .before .before .before .before .before .judged .ensures) (c .before .before .before .before .before .before .if4 .taken) _ _ _ _ (c .before .before .expression .ensures) (c .if5 .left)
+more-returns-3 : (t : ℕ) → more-lts.Need-returns-3 (more-claims t) (more-at t) more.Post
+more-returns-3 t c = L.more-next-refused _ _ _ _ _ _ _ _ _ _ _ (c .before .before .before .before .before .before .before .before .before .before .before .before .token .ensures) (c .before .before .before .before .before .before .before .before .before .before .if2 .taken) (c .before .before .before .before .before .before .before .before .before .at-comma .ensures) (c .before .before .before .before .before .before .before .before .judged .ensures) (c .before .before .before .before .before .before .if3 .taken) _ _ _ _ (c .before .before .expression .ensures) (c .if4 .left)
 
-more-returns-5 : (t : ℕ) → more-lts.Need-returns-5 (
-  token-reads.Asked,
-  token-reads.Learnt,
-  read-shut-reads.Asked,
-  read-shut-reads.Learnt,
-  calls-below t,
-  calls.Post,
-  at-comma-reads.Asked,
-  at-comma-reads.Learnt,
-  judged-reads.Asked,
-  judged-reads.Learnt,
-  expression-below t,
-  expression.Post,
-  next-given-reads.Asked,
-  next-given-reads.Learnt,
-  more-below t,
-  more.Post,
-  refused-reads.Asked,
-  refused-reads.Learnt,
-) (more-at t) more.Post
-more-returns-5 t c = L.comma-refused _ _ _ _ _ _ _ _ _ _ _ (c .before .before .before .before .before .before .token .ensures) (c .before .before .before .before .if3 .taken) (c .before .before .before .at-comma .ensures) (c .before .before .judged .ensures) (c .if4 .left)
+more-returns-4 : (t : ℕ) → more-lts.Need-returns-4 (more-claims t) (more-at t) more.Post
+more-returns-4 t c = L.comma-refused _ _ _ _ _ _ _ _ _ _ _ (c .before .before .before .before .before .before .token .ensures) (c .before .before .before .before .if2 .taken) (c .before .before .before .at-comma .ensures) (c .before .before .judged .ensures) (c .if3 .left)
 
-more-refused-requires : (t : ℕ) → more-lts.Need-refused-requires (
-  token-reads.Asked,
-  token-reads.Learnt,
-  read-shut-reads.Asked,
-  read-shut-reads.Learnt,
-  calls-below t,
-  calls.Post,
-  at-comma-reads.Asked,
-  at-comma-reads.Learnt,
-  judged-reads.Asked,
-  judged-reads.Learnt,
-  expression-below t,
-  expression.Post,
-  next-given-reads.Asked,
-  next-given-reads.Learnt,
-  more-below t,
-  more.Post,
-  refused-reads.Asked,
-  refused-reads.Learnt,
-) (more-at t) more.Post
+more-refused-requires : (t : ℕ) → more-lts.Need-refused-requires (more-claims t) (more-at t) more.Post
 more-refused-requires t c κs = search needs
 
-more-returns-6 : (t : ℕ) → more-lts.Need-returns-6 (
-  token-reads.Asked,
-  token-reads.Learnt,
-  read-shut-reads.Asked,
-  read-shut-reads.Learnt,
-  calls-below t,
-  calls.Post,
-  at-comma-reads.Asked,
-  at-comma-reads.Learnt,
-  judged-reads.Asked,
-  judged-reads.Learnt,
-  expression-below t,
-  expression.Post,
-  next-given-reads.Asked,
-  next-given-reads.Learnt,
-  more-below t,
-  more.Post,
-  refused-reads.Asked,
-  refused-reads.Learnt,
-) (more-at t) more.Post
-more-returns-6 t c = L.more-refused _ _ _ _ _ _ _ _ _ _ (c .before .before .before .token .ensures) (c .before .before .if1 .left) (c .before .if3 .left) (c .refused .ensures)
+more-returns-5 : (t : ℕ) → more-lts.Need-returns-5 (more-claims t) (more-at t) more.Post
+more-returns-5 t c = L.more-refused _ _ _ _ _ _ _ _ _ _ (c .before .before .before .token .ensures) (c .before .before .if1 .left) (c .before .if2 .left) (c .refused .ensures)
 
 read-bracket-at-bracket-requires : (t : ℕ) → read-bracket-lts.Need-at-bracket-requires (
   at-bracket-reads.Asked,
@@ -1525,60 +1076,49 @@ read-let-returns-5 : (t : ℕ) → read-let-lts.Need-returns-5 (
 ) (read-let-at t) read-let.Post
 read-let-returns-5 t c = L.let-head-refused _ _ _ _ _ _ _ _ _ (c .before .before .before .before .pre .1) (c .before .before .let-head .ensures) (c .if1 .left)
 
-pub +arguments+calls+expression+more+read-bracket+read-lambda+read-let-spec :
+pub +arguments+call+calls+expression+more+read-bracket+read-lambda+read-let-spec :
     {M : Type 1} → statement M
-+arguments+calls+expression+more+read-bracket+read-lambda+read-let-spec =
++arguments+call+calls+expression+more+read-bracket+read-lambda+read-let-spec =
     close
     μ-arguments
+    μ-call
     μ-calls
     μ-expression
     μ-more
     μ-read-bracket
     μ-read-lambda
     μ-read-let
-    (λ t. arguments-lts.spec (
-      token-reads.Asked,
-      token-reads.Learnt,
-      read-shut-reads.Asked,
-      read-shut-reads.Learnt,
-      calls-below t,
-      calls.Post,
-      expression-below t,
-      expression.Post,
-      first-given-reads.Asked,
-      first-given-reads.Learnt,
-      more-below t,
-      more.Post,
-    )
+    (λ t. arguments-lts.spec (arguments-claims t)
     (arguments-at t)
     arguments.Post
     (arguments-token-requires t)
     (arguments-read-shut-requires t)
-    (arguments-calls-requires t)
     (arguments-add-expression t)
     (arguments-expression-requires t)
     (arguments-first-given-requires t)
     (arguments-more-requires t)
     (arguments-returns t)
     (arguments-returns-2 t)
-    (arguments-returns-3 t)
-    (arguments-returns-4 t))
-    (λ t. calls-lts.spec (
-      token-reads.Asked,
-      token-reads.Learnt,
-      call-head-reads.Asked,
-      call-head-reads.Learnt,
-      arguments-below t,
-      arguments.Post,
-    )
+    (arguments-returns-3 t))
+    (λ t. call-lts.spec (call-claims t)
+    (call-at t)
+    call.Post
+    (call-call-head-requires t)
+    (call-arguments-requires t)
+    (call-returns t)
+    (call-returns-2 t))
+    (λ t. calls-lts.spec (calls-claims t)
     (calls-at t)
     calls.Post
-    (calls-token-requires t)
-    (calls-call-head-requires t)
-    (calls-arguments-requires t)
+    calls-Inv-loop
+    calls-μ-loop
+    (calls-loop-holds t)
+    (calls-is-call-requires t)
+    (calls-call-requires t)
     (calls-returns t)
-    (calls-returns-2 t)
-    (calls-returns-3 t))
+    (calls-loop-less t)
+    (calls-loop-again t)
+    (calls-returns-2 t))
     (λ t. expression-lts.spec (
       token-reads.Asked,
       token-reads.Learnt,
@@ -1616,44 +1156,23 @@ pub +arguments+calls+expression+more+read-bracket+read-lambda+read-let-spec :
     (expression-returns-7 t)
     (expression-refused-requires t)
     (expression-returns-8 t))
-    (λ t. more-lts.spec (
-      token-reads.Asked,
-      token-reads.Learnt,
-      read-shut-reads.Asked,
-      read-shut-reads.Learnt,
-      calls-below t,
-      calls.Post,
-      at-comma-reads.Asked,
-      at-comma-reads.Learnt,
-      judged-reads.Asked,
-      judged-reads.Learnt,
-      expression-below t,
-      expression.Post,
-      next-given-reads.Asked,
-      next-given-reads.Learnt,
-      more-below t,
-      more.Post,
-      refused-reads.Asked,
-      refused-reads.Learnt,
-    )
+    (λ t. more-lts.spec (more-claims t)
     (more-at t)
     more.Post
     (more-token-requires t)
     (more-read-shut-requires t)
-    (more-calls-requires t)
     (more-returns t)
-    (more-returns-2 t)
     (more-at-comma-requires t)
     (more-judged-requires t)
     (more-add-expression t)
     (more-expression-requires t)
     (more-next-given-requires t)
     (more-more-requires t)
+    (more-returns-2 t)
     (more-returns-3 t)
     (more-returns-4 t)
-    (more-returns-5 t)
     (more-refused-requires t)
-    (more-returns-6 t))
+    (more-returns-5 t))
     (λ t. read-bracket-lts.spec (
       at-bracket-reads.Asked,
       at-bracket-reads.Learnt,
