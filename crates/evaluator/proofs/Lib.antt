@@ -1,6 +1,7 @@
 pub mod Waiting
 pub mod Framing
 pub mod Reaching
+pub mod Numbers
 pub mod Planning
 pub mod Running
 pub mod Choosing

@@ -1,12 +1,12 @@
 -- The steps of planning an entry, each over plain numbers, values and lists. Assumes nothing.
 use mathlib.Core.Path.{_≡_, refl, sym, ap, _∙_, subst}
-use mathlib.Core.Bool.{Bool, true, false}
+use mathlib.Core.Bool.{Bool, true, false, _&&_}
 use mathlib.Core.List.{List, [], _∷_}
 use Prim.Native.Nat.{ℕ, zero, suc, _+_, _*_, _-_, _≤_, _<_}
 use native.Mathlib.Omega.{arith}
 use borrow.Author.Needs.{needs}
 use borrow.Author.Tests.{lt-ltb, le-ltb, le-leb, lt-leb, eq-eqb, ne-eqb}
-use lib.Dec.{T}
+use lib.Dec.{T, ltb}
 use lib.IntN.{ℤ, pos}
 use lib.ListN.{length, getD, length-take, length-drop, List·getD-eq-default}
 use Rattle.language.specs.Members.{members, foundIn, memberAt}
@@ -22,12 +22,13 @@ use Rattle.values.specs.Windows.{readingsIn}
 use Rattle.values.specs.Apply.{apply0}
 use Rattle.values.specs.Applied.{applied1}
 use Rattle.values.specs.Tallies.{stepped, finished, Steps}
-use Rattle.values.specs.Packing.{packOf, unpackOf}
+use Rattle.values.specs.Packing.{packOf, unpackOf, windowCell}
 use Rattle.table.specs.Nodes.{memberOfKind}
 use Rattle.evaluator.specs.declared.working.Task.{Task}
 use Rattle.evaluator.specs.Links.{isBelow}
 use Rattle.evaluator.specs.Waits.{ownOf}
 use Rattle.evaluator.specs.Frames.{functionOf}
+use Rattle.evaluator.proofs.Numbers.{both-numbers}
 use Rattle.evaluator.specs.Working.{graph, wrongCell, boundedOf, askOf, callOf, doneOf, taskOf, judgeOf, runOf, followOf, planOf, Planned, concludeOf, Bounds, Tallied}
 
 -- ---- the member of a kind
@@ -181,6 +182,13 @@ module _ (links waits : List ℕ) (xs : List ℤ) (frame : List ℕ) (i kind : �
         unfolding planOf
         plan-call u t′ o d = rw (← e, le-ltb _ _ h, ← p, sym q ∙ t, ne-eqb _ _ k, ← p′, sym q′ ∙ t′, ← o) d
 
+        pub plan-numbers : (x y : ℕ) → x ≡ getD frame (first - 1) 0 → y ≡ getD frame (second - 1) 0 → (v : Value) (c : ℕ) → b′ ≡ true → (ltb x windowCell && ltb y windowCell) ≡ true
+            → ((ys : List ℤ) → x < windowCell → y < windowCell → Done v ≡ callOf (memberOfKind kind) ys x y) → c ≡ packOf v → r ≡ doneOf c → Plans
+        unfolding followOf
+        plan-numbers x y f g v c t′ s o w d =
+            let low = both-numbers x y s in
+            plan-call (Done v) t′ (o xs (low .0) (low .1) ∙ (λ j. callOf (memberOfKind kind) xs (f j) (g j))) (d ∙ ap doneOf w)
+
 -- ---- readings and results
 module _ (xs : List ℤ) (s l : ℕ) where
   pub count-none : length xs ≤ s → 0 ≡ length (readingsIn xs s l)
@@ -198,4 +206,4 @@ reading-past xs k c h e = e ∙ ap (λ (z : ℤ). packOf (Number z)) (sym (List�
 pub tally-is : (t : Tally) (c : ℕ) (v : Value) (r : Tally) → v ≡ unpackOf c → Steps t v r → Tallied t c r
 tally-is t c v r e s = record { same = s .same ∙ ap (stepped t) e; bound = s .bound }
 
-pub ruleset planning = (needs, member-low, member-high, member-is, bounds-window, bounds-far, bounds-number, bounds-function, bounds-delayed, bounds-missing, ask-none, ask-is, call-none, call-is, conclude-none, conclude-is, task-right, done-right, lower-right, judge-body, judge-far, judge-done, run-other, run-wild, run-far, run-body, follow-done, follow-run, plan-leaf, plan-wild, plan-function, plan-ask, plan-call, count-none, count-rest, count-all, reading-past, tally-is)
+pub ruleset planning = (needs, member-low, member-high, member-is, bounds-window, bounds-far, bounds-number, bounds-function, bounds-delayed, bounds-missing, ask-none, ask-is, call-none, call-is, conclude-none, conclude-is, task-right, done-right, lower-right, judge-body, judge-far, judge-done, run-other, run-wild, run-far, run-body, follow-done, follow-run, plan-leaf, plan-wild, plan-function, plan-ask, plan-call, plan-numbers, count-none, count-rest, count-all, reading-past, tally-is)

@@ -22,6 +22,9 @@ use Rattle.evaluator.specs.Reach.{Gathers}
 use Rattle.evaluator.specs.Frames.{bound, functionOf}
 use Rattle.evaluator.specs.Working.{Graph, planOf, Planned, fillOf, setOf, overOf, concludeOf, finishOf, applyAt, Applies, Fills, Tallied}
 
+pub same-applies : (g : Graph) (frame : List ℕ) (i v r : ℕ) → v ≡ r → Applies g frame i r → Applies g frame i v
+same-applies g frame i v r e a = rw e a
+
 module _ (g : Graph) (frame : List ℕ) (i : ℕ) (p : Task) (e : p ≡ planOf g frame i) where
   applied : {r : ℕ} → ((f : ℕ) → i ≤ f → finishOf g (applyAt g f) frame i p ≡ r) → Applies g frame i r
   unfolding applyAt
@@ -34,6 +37,9 @@ module _ (g : Graph) (frame : List ℕ) (i : ℕ) (p : Task) (e : p ≡ planOf g
   pub done-applies : p .done ≡ true → Applies g frame i (p .value)
   unfolding finishOf
   done-applies d = applied (λ f l. rw d)
+
+  pub value-applies : (v : ℕ) → p .done ≡ true → v ≡ p .value → Applies g frame i v
+  value-applies v d o = rw o (done-applies d)
 
   module _ (d : p .done ≡ false) (q : Planned i p) (list : List ℕ) (at : ℕ) (s : Gathers (g .links) (g .waits) (p .variable) (p .body) list at) where
     pub judge-applies : (after : List ℕ) (base r : ℕ) → p .kind ≡ 4 → Fills g (p .body) (drop at list) (p .variable) delayedCell frame after base

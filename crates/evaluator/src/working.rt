@@ -1,5 +1,6 @@
 // Working out one entry from a frame. Two functions call each other: apply works out an entry, and runs a function over a window; rerun
 // works out a body again with a variable set. The entry's number falls.
+use crate::frames::WINDOW;
 use crate::frames::bind;
 use crate::frames::function;
 use crate::links::is_below;
@@ -12,6 +13,8 @@ use values::Value;
 use values::apply::Applied;
 use values::apply::apply0;
 use values::apply::apply1;
+use values::numbers::on_numbers;
+use values::packing::number_in;
 use values::packing::pack;
 use values::packing::unpack;
 use values::runs::Tally;
@@ -20,11 +23,13 @@ use values::runs::start;
 use values::runs::step;
 ghost use mathlib.Core.Path.{_≡_};
 ghost use mathlib.Core.Bool.{true, false};
+ghost use mathlib.Core.List.{List};
 ghost use Prim.Native.Nat.{_+_, _<_, _≤_};
-ghost use lib.IntN.{pos};
+ghost use lib.IntN.{ℤ, pos};
 ghost use lib.ListN.{length, getD, drop};
 ghost use Rattle.values.specs.declared.Value.the-variants.{Number};
-ghost use Rattle.values.specs.Packing.{packOf, unpackOf};
+ghost use Rattle.values.specs.declared.apply.Applied.the-variants.{Done};
+ghost use Rattle.values.specs.Packing.{packOf, unpackOf, windowCell};
 ghost use Rattle.values.specs.Windows.{readingsIn};
 ghost use Rattle.values.specs.Tallies.{Within};
 ghost use Rattle.table.specs.Nodes.{memberOfKind};
@@ -123,6 +128,16 @@ fn call(kind: u16, readings: &[i32], a: u64, b: u64) -> Applied
     }
 }
 
+// The member on two numbers, as most members inside a run are: no kind is left to test.
+fn call_numbers(kind: u16, a: u64, b: u64) -> Value
+    ensures { λ r. ⌜ ((xs : List ℤ) → a < windowCell → b < windowCell → Done r ≡ callOf (memberOfKind kind) xs a b) ⌝ }
+{
+    match member_of(kind) {
+        Found::Is(m) => on_numbers(m, number_in(a), number_in(b)),
+        Found::Unknown => Value::Missing(2),
+    }
+}
+
 // A function: where its body awaits the function's own variable, that is judged with the variable delayed.
 fn judge(waits: &[u32; 512], frame: &[u64; 512], i: usize, body: usize, a: u64) -> Task
     requires { ⌜ (i < 512) × (body < i) ⌝ }
@@ -190,6 +205,9 @@ fn plan(readings: &[i32], links: &[u16], waits: &[u32; 512], frame: &[u64; 512],
         let second = link(links, 3 * i + 2) as usize;
         if is_below(second, i) {
             let b = frame[second - 1];
+            if (a < WINDOW) & (b < WINDOW) {
+                return done(pack(call_numbers(kind, a, b)));
+            }
             return follow(links, waits, second - 1, kind, call(kind, readings, a, b));
         }
         return done(ask(kind, readings, a));
@@ -245,7 +263,8 @@ fn conclude(kind: u16, t: Tally) -> u64
     }
 }
 
-// Sets the variable, works out each entry of the list again, in its order, and gives what the body comes to.
+// Sets the variable, works out each entry of the list again, in its order, and gives what the body comes to. Only an entry that needs runs
+// of its own goes to apply, whose list and frame take most of the stack.
 fn rerun(
     readings: &[i32],
     links: &[u16],
@@ -269,7 +288,12 @@ fn rerun(
             return frame[body];
         }
         let j = next as usize;
-        let v = apply(readings, links, waits, frame, j);
+        let p = plan(readings, links, waits, frame, j);
+        let v = if p.done {
+            p.value
+        } else {
+            apply(readings, links, waits, frame, j)
+        };
         frame[j] = v;
         k += 1;
     }

@@ -27,7 +27,7 @@ pub fn pack(v: Value) -> u64
 }
 
 // The number that a cell of the first range holds.
-fn number_in(cell: u64) -> i32
+pub fn number_in(cell: u64) -> i32
     ensures { λ r. ⌜ r ≡ numberIn cell ⌝ }
 {
     if cell == 0 {

@@ -4,10 +4,11 @@ use borrow.Author.Needs.{needs}
 use native.Mathlib.Omega.{arith}
 use Prim.Native.Nat.{_+_, _*_, _-_, _≤_, ℕ, _<_}
 use mathlib.Core.Path.{_≡_, refl}
+use mathlib.Core.Logic.{⊎-elim}
 use lib.ListN.{drop}
 use Rattle.values.specs.Windows.{readingsIn}
 use Rattle.evaluator.specs.Working.{graph}
-use Rattle.evaluator.proofs.Running.{done-applies, judge-applies, run-applies, Runs, runs-begin, runs-within, runs-end, runs-stop, runs-again, Works, works-stop, works-end, works-again}
+use Rattle.evaluator.proofs.Running.{done-applies, value-applies, same-applies, judge-applies, run-applies, Runs, runs-begin, runs-within, runs-end, runs-stop, runs-again, Works, works-stop, works-end, works-again}
 use borrow.Fn.Kinds.{In}
 use borrow.Fn.PlainCycle.{Measures, is, falls, and}
 use Rattle.evaluator.proofs.working.apply.Reads as apply
@@ -125,6 +126,9 @@ apply-conclude-requires-2 t c κs = search needs
 apply-returns-4 : (t : ℕ) → apply-lts.Need-returns-4 (apply-claims t) (apply-at t) apply.Post apply-Inv-loop apply-μ-loop
 apply-returns-4 t c = run-applies (graph (c .before .before .before .before .before .before .before .before .before .before .before .before .args .links .now) (c .before .before .before .before .before .before .before .before .before .before .before .before .args .waits .now) (c .before .before .before .before .before .before .before .before .before .before .before .before .args .readings .now)) (c .before .before .before .before .before .before .before .before .before .before .before .before .args .frame .now) (c .before .before .before .before .before .before .before .before .before .before .before .before .args .i) (c .before .before .before .before .before .before .before .before .before .before .plan .result) (c .before .before .before .before .before .before .before .before .before .before .plan .ensures .0) (c .before .before .before .before .before .before .before .before .before .if1 .left) (c .before .before .before .before .before .before .before .before .before .before .plan .ensures .1 (c .before .before .before .before .before .before .before .before .before .if1 .left)) _ _ (c .before .before .before .before .before .before .before .gather .ensures) (c .before .before .loop .t) (c .conclude2 .result) (c .before .before .before .before .before .if2 .left) (runs-end (graph (c .before .before .before .before .before .before .before .before .before .before .before .before .args .links .now) (c .before .before .before .before .before .before .before .before .before .before .before .before .args .waits .now) (c .before .before .before .before .before .before .before .before .before .before .before .before .args .readings .now)) (c .before .before .before .before .before .before .before .before .before .before .plan .result .body) (c .before .before .before .before .before .before .before .before .before .before .plan .result .variable) _ (c .before .before .before .before .before .before .before .before .before .before .before .before .args .frame .now) (c .before .before .before .before .before .before .before .before .before .before .plan .result .start) (c .before .before .before .before .before .before .before .before .before .before .plan .result .length) (c .before .before .loop .local) (c .before .before .loop .t) (c .before .before .loop .k) (c .before .before .loop .inv .1) (omega (arith, c .before .loop-test .left, c .before .before .before .before .count-in .ensures .same))) (c .conclude2 .ensures)
 
+abbrev rerun-claims : ℕ → rerun-lts.Claims
+rerun-claims t = (bind-reads.Asked, bind-reads.Learnt, plan-reads.Asked, plan-reads.Learnt, apply-below t, apply.Post)
+
 abbrev rerun-Inv-loop : rerun-lts.InvT-loop
 rerun-Inv-loop readings links waits list at body variable c frame₀ top k₀ frame k =
     (top ≡ body + 1) × Works (graph links waits readings) body list at frame₀ frame k
@@ -132,156 +136,64 @@ rerun-Inv-loop readings links waits list at body variable c frame₀ top k₀ fr
 abbrev rerun-μ-loop : rerun-lts.MeasureT-loop
 rerun-μ-loop readings links waits list at body variable c frame₀ top k₀ frame k = 512 - k
 
-rerun-bind-requires : (t : ℕ) → rerun-lts.Need-bind-requires (
-  bind-reads.Asked,
-  bind-reads.Learnt,
-  apply-below t,
-  apply.Post,
-) (rerun-at t) rerun.Post rerun-Inv-loop rerun-μ-loop
+rerun-bind-requires : (t : ℕ) → rerun-lts.Need-bind-requires (rerun-claims t) (rerun-at t) rerun.Post rerun-Inv-loop rerun-μ-loop
 rerun-bind-requires t c κs = c .before .before .pre .1 .few
 
-rerun-add-top : (t : ℕ) → rerun-lts.Need-add-top (
-  bind-reads.Asked,
-  bind-reads.Learnt,
-  apply-below t,
-  apply.Post,
-) (rerun-at t) rerun.Post rerun-Inv-loop rerun-μ-loop
+rerun-add-top : (t : ℕ) → rerun-lts.Need-add-top (rerun-claims t) (rerun-at t) rerun.Post rerun-Inv-loop rerun-μ-loop
 rerun-add-top t c = omega (arith, c .before .before .before .pre .1 .low)
 
-rerun-cast-top : (t : ℕ) → rerun-lts.Need-cast-top (
-  bind-reads.Asked,
-  bind-reads.Learnt,
-  apply-below t,
-  apply.Post,
-) (rerun-at t) rerun.Post rerun-Inv-loop rerun-μ-loop
+rerun-cast-top : (t : ℕ) → rerun-lts.Need-cast-top (rerun-claims t) (rerun-at t) rerun.Post rerun-Inv-loop rerun-μ-loop
 rerun-cast-top t c = omega (arith, c .before .before .before .pre .1 .low)
 
-rerun-loop-holds : (t : ℕ) → rerun-lts.Need-loop-holds (
-  bind-reads.Asked,
-  bind-reads.Learnt,
-  apply-below t,
-  apply.Post,
-) (rerun-at t) rerun.Post rerun-Inv-loop rerun-μ-loop
+rerun-loop-holds : (t : ℕ) → rerun-lts.Need-loop-holds (rerun-claims t) (rerun-at t) rerun.Post rerun-Inv-loop rerun-μ-loop
 rerun-loop-holds t c = (refl, record { past = search needs; within = c .before .before .before .pre .1 .within; same = λ f h. refl })
 
-rerun-mul-next : (t : ℕ) → rerun-lts.Need-mul-next (
-  bind-reads.Asked,
-  bind-reads.Learnt,
-  apply-below t,
-  apply.Post,
-) (rerun-at t) rerun.Post rerun-Inv-loop rerun-μ-loop
+rerun-mul-next : (t : ℕ) → rerun-lts.Need-mul-next (rerun-claims t) (rerun-at t) rerun.Post rerun-Inv-loop rerun-μ-loop
 rerun-mul-next t c = search needs
 
-rerun-element-copy-out-next : (t : ℕ) → rerun-lts.Need-element-copy-out-next (
-  bind-reads.Asked,
-  bind-reads.Learnt,
-  apply-below t,
-  apply.Post,
-) (rerun-at t) rerun.Post rerun-Inv-loop rerun-μ-loop
+rerun-element-copy-out-next : (t : ℕ) → rerun-lts.Need-element-copy-out-next (rerun-claims t) (rerun-at t) rerun.Post rerun-Inv-loop rerun-μ-loop
 rerun-element-copy-out-next t c = search needs
 
-rerun-mul-result : (t : ℕ) → rerun-lts.Need-mul-result (
-  bind-reads.Asked,
-  bind-reads.Learnt,
-  apply-below t,
-  apply.Post,
-) (rerun-at t) rerun.Post rerun-Inv-loop rerun-μ-loop
+rerun-mul-result : (t : ℕ) → rerun-lts.Need-mul-result (rerun-claims t) (rerun-at t) rerun.Post rerun-Inv-loop rerun-μ-loop
 rerun-mul-result t c = search needs
 
-rerun-element-copy-out-result : (t : ℕ) → rerun-lts.Need-element-copy-out-result (
-  bind-reads.Asked,
-  bind-reads.Learnt,
-  apply-below t,
-  apply.Post,
-) (rerun-at t) rerun.Post rerun-Inv-loop rerun-μ-loop
+rerun-element-copy-out-result : (t : ℕ) → rerun-lts.Need-element-copy-out-result (rerun-claims t) (rerun-at t) rerun.Post rerun-Inv-loop rerun-μ-loop
 rerun-element-copy-out-result t c = c .before .before .before .before .before .before .before .pre .1 .low
 
-rerun-returns : (t : ℕ) → rerun-lts.Need-returns (
-  bind-reads.Asked,
-  bind-reads.Learnt,
-  apply-below t,
-  apply.Post,
-) (rerun-at t) rerun.Post rerun-Inv-loop rerun-μ-loop
+rerun-returns : (t : ℕ) → rerun-lts.Need-returns (rerun-claims t) (rerun-at t) rerun.Post rerun-Inv-loop rerun-μ-loop
 rerun-returns t c = works-stop (graph (c .before .before .before .before .before .before .before .before .args .links .now) (c .before .before .before .before .before .before .before .before .args .waits .now) (c .before .before .before .before .before .before .before .before .args .readings .now)) (c .before .before .before .before .before .before .before .before .args .body) (c .before .before .before .before .before .before .before .before .args .list .now) (c .before .before .before .before .before .before .before .before .args .at) (c .before .before .before .before .before .before .before .before .args .variable) (c .before .before .before .before .before .before .before .before .args .c) (c .before .before .before .before .before .before .before .before .args .frame .now) _ (c .before .before .before .before .loop .frame) (c .before .before .before .before .loop .k) (c .before .before .before .before .before .before .before .before .pre .1 .size) (c .before .before .before .before .loop .inv .1) (c .before .before .before .before .before .bind .ensures) (c .before .before .before .loop-test .taken) (omega (arith, c .before .if1 .taken, c .before .before .before .before .loop .inv .0))
 
-rerun-cast-j : (t : ℕ) → rerun-lts.Need-cast-j (
-  bind-reads.Asked,
-  bind-reads.Learnt,
-  apply-below t,
-  apply.Post,
-) (rerun-at t) rerun.Post rerun-Inv-loop rerun-μ-loop
+rerun-cast-j : (t : ℕ) → rerun-lts.Need-cast-j (rerun-claims t) (rerun-at t) rerun.Post rerun-Inv-loop rerun-μ-loop
 rerun-cast-j t c = search needs
 
-rerun-apply-requires : (t : ℕ) → rerun-lts.Need-apply-requires (
-  bind-reads.Asked,
-  bind-reads.Learnt,
-  apply-below t,
-  apply.Post,
-) (rerun-at t) rerun.Post rerun-Inv-loop rerun-μ-loop
-rerun-apply-requires t c κs = (omega (arith, c .before .if1 .left, c .before .before .before .before .loop .inv .0, c .before .before .before .before .before .before .before .before .pre .0), omega (arith, c .before .if1 .left, c .before .before .before .before .loop .inv .0, c .before .before .before .before .before .before .before .before .pre .1 .low))
+rerun-plan-requires : (t : ℕ) → rerun-lts.Need-plan-requires (rerun-claims t) (rerun-at t) rerun.Post rerun-Inv-loop rerun-μ-loop
+rerun-plan-requires t c κs = omega (arith, c .before .if1 .left, c .before .before .before .before .loop .inv .0, c .before .before .before .before .before .before .before .before .pre .1 .low)
 
-rerun-mul-frame : (t : ℕ) → rerun-lts.Need-mul-frame (
-  bind-reads.Asked,
-  bind-reads.Learnt,
-  apply-below t,
-  apply.Post,
-) (rerun-at t) rerun.Post rerun-Inv-loop rerun-μ-loop
+rerun-apply-requires : (t : ℕ) → rerun-lts.Need-apply-requires (rerun-claims t) (rerun-at t) rerun.Post rerun-Inv-loop rerun-μ-loop
+rerun-apply-requires t c κs = (omega (arith, c .before .before .before .before .if1 .left, c .before .before .before .before .before .before .before .loop .inv .0, c .before .before .before .before .before .before .before .before .before .before .before .pre .0), omega (arith, c .before .before .before .before .if1 .left, c .before .before .before .before .before .before .before .loop .inv .0, c .before .before .before .before .before .before .before .before .before .before .before .pre .1 .low))
+
+rerun-mul-frame : (t : ℕ) → rerun-lts.Need-mul-frame (rerun-claims t) (rerun-at t) rerun.Post rerun-Inv-loop rerun-μ-loop
 rerun-mul-frame t c = search needs
 
-rerun-element-write-frame : (t : ℕ) → rerun-lts.Need-element-write-frame (
-  bind-reads.Asked,
-  bind-reads.Learnt,
-  apply-below t,
-  apply.Post,
-) (rerun-at t) rerun.Post rerun-Inv-loop rerun-μ-loop
-rerun-element-write-frame t c = omega (arith, c .before .before .if1 .left, c .before .before .before .before .before .loop .inv .0, c .before .before .before .before .before .before .before .before .before .pre .1 .low)
+rerun-element-write-frame : (t : ℕ) → rerun-lts.Need-element-write-frame (rerun-claims t) (rerun-at t) rerun.Post rerun-Inv-loop rerun-μ-loop
+rerun-element-write-frame t c = omega (arith, c .before .before .before .if1 .left, c .before .before .before .before .before .before .loop .inv .0, c .before .before .before .before .before .before .before .before .before .before .pre .1 .low)
 
-rerun-add-k : (t : ℕ) → rerun-lts.Need-add-k (
-  bind-reads.Asked,
-  bind-reads.Learnt,
-  apply-below t,
-  apply.Post,
-) (rerun-at t) rerun.Post rerun-Inv-loop rerun-μ-loop
+rerun-add-k : (t : ℕ) → rerun-lts.Need-add-k (rerun-claims t) (rerun-at t) rerun.Post rerun-Inv-loop rerun-μ-loop
 rerun-add-k t c = search needs
 
-rerun-loop-less : (t : ℕ) → rerun-lts.Need-loop-less (
-  bind-reads.Asked,
-  bind-reads.Learnt,
-  apply-below t,
-  apply.Post,
-) (rerun-at t) rerun.Post rerun-Inv-loop rerun-μ-loop
+rerun-loop-less : (t : ℕ) → rerun-lts.Need-loop-less (rerun-claims t) (rerun-at t) rerun.Post rerun-Inv-loop rerun-μ-loop
 rerun-loop-less t c = search needs
 
-rerun-loop-again : (t : ℕ) → rerun-lts.Need-loop-again (
-  bind-reads.Asked,
-  bind-reads.Learnt,
-  apply-below t,
-  apply.Post,
-) (rerun-at t) rerun.Post rerun-Inv-loop rerun-μ-loop
-rerun-loop-again t c = (c .before .before .before .before .before .loop .inv .0, works-again (graph (c .before .before .before .before .before .before .before .before .before .args .links .now) (c .before .before .before .before .before .before .before .before .before .args .waits .now) (c .before .before .before .before .before .before .before .before .before .args .readings .now)) (c .before .before .before .before .before .before .before .before .before .args .body) (c .before .before .before .before .before .before .before .before .before .args .list .now) (c .before .before .before .before .before .before .before .before .before .args .at) _ (c .before .before .before .before .before .loop .frame) (c .before .before .before .before .before .loop .k) (c .apply .result) (c .before .before .before .before .before .before .before .before .before .pre .1 .size) (c .before .before .before .before .before .loop .inv .1) (c .before .before .before .before .loop-test .taken) (omega (arith, c .before .before .if1 .left, c .before .before .before .before .before .loop .inv .0)) (c .apply .ensures))
+rerun-loop-again : (t : ℕ) → rerun-lts.Need-loop-again (rerun-claims t) (rerun-at t) rerun.Post rerun-Inv-loop rerun-μ-loop
+rerun-loop-again t c = (c .before .before .before .before .before .before .loop .inv .0, works-again (graph (c .before .before .before .before .before .before .before .before .before .before .args .links .now) (c .before .before .before .before .before .before .before .before .before .before .args .waits .now) (c .before .before .before .before .before .before .before .before .before .before .args .readings .now)) (c .before .before .before .before .before .before .before .before .before .before .args .body) (c .before .before .before .before .before .before .before .before .before .before .args .list .now) (c .before .before .before .before .before .before .before .before .before .before .args .at) _ (c .before .before .before .before .before .before .loop .frame) (c .before .before .before .before .before .before .loop .k) (c .if2 .v) (c .before .before .before .before .before .before .before .before .before .before .pre .1 .size) (c .before .before .before .before .before .before .loop .inv .1) (c .before .before .before .before .before .loop-test .taken) (omega (arith, c .before .before .before .if1 .left, c .before .before .before .before .before .before .loop .inv .0)) (⊎-elim (λ w. value-applies (graph (c .before .before .before .before .before .before .before .before .before .before .args .links .now) (c .before .before .before .before .before .before .before .before .before .before .args .waits .now) (c .before .before .before .before .before .before .before .before .before .before .args .readings .now)) (c .before .before .before .before .before .before .loop .frame) _ (c .before .plan .result) (c .before .plan .ensures .0) (c .if2 .v) (w .0 .taken) (w .1)) (λ w. same-applies (graph (c .before .before .before .before .before .before .before .before .before .before .args .links .now) (c .before .before .before .before .before .before .before .before .before .before .args .waits .now) (c .before .before .before .before .before .before .before .before .before .before .args .readings .now)) (c .before .before .before .before .before .before .loop .frame) _ (c .if2 .v) _ (w .3) (w .2 .ensures)) (c .if2 .came)))
 
-rerun-mul-result-2 : (t : ℕ) → rerun-lts.Need-mul-result-2 (
-  bind-reads.Asked,
-  bind-reads.Learnt,
-  apply-below t,
-  apply.Post,
-) (rerun-at t) rerun.Post rerun-Inv-loop rerun-μ-loop
+rerun-mul-result-2 : (t : ℕ) → rerun-lts.Need-mul-result-2 (rerun-claims t) (rerun-at t) rerun.Post rerun-Inv-loop rerun-μ-loop
 rerun-mul-result-2 t c = search needs
 
-rerun-element-copy-out-result-2 : (t : ℕ) → rerun-lts.Need-element-copy-out-result-2 (
-  bind-reads.Asked,
-  bind-reads.Learnt,
-  apply-below t,
-  apply.Post,
-) (rerun-at t) rerun.Post rerun-Inv-loop rerun-μ-loop
+rerun-element-copy-out-result-2 : (t : ℕ) → rerun-lts.Need-element-copy-out-result-2 (rerun-claims t) (rerun-at t) rerun.Post rerun-Inv-loop rerun-μ-loop
 rerun-element-copy-out-result-2 t c = c .before .before .before .before .before .pre .1 .low
 
-rerun-returns-2 : (t : ℕ) → rerun-lts.Need-returns-2 (
-  bind-reads.Asked,
-  bind-reads.Learnt,
-  apply-below t,
-  apply.Post,
-) (rerun-at t) rerun.Post rerun-Inv-loop rerun-μ-loop
+rerun-returns-2 : (t : ℕ) → rerun-lts.Need-returns-2 (rerun-claims t) (rerun-at t) rerun.Post rerun-Inv-loop rerun-μ-loop
 rerun-returns-2 t c = works-end (graph (c .before .before .before .before .before .before .args .links .now) (c .before .before .before .before .before .before .args .waits .now) (c .before .before .before .before .before .before .args .readings .now)) (c .before .before .before .before .before .before .args .body) (c .before .before .before .before .before .before .args .list .now) (c .before .before .before .before .before .before .args .at) (c .before .before .before .before .before .before .args .variable) (c .before .before .before .before .before .before .args .c) (c .before .before .before .before .before .before .args .frame .now) _ (c .before .before .loop .frame) (c .before .before .loop .k) (c .before .before .before .before .before .before .pre .1 .size) (c .before .before .loop .inv .1) (c .before .before .before .bind .ensures) (c .before .loop-test .left)
 
 pub +apply+rerun-spec : {M : Type 1} → statement M
@@ -314,7 +226,7 @@ pub +apply+rerun-spec : {M : Type 1} → statement M
     (apply-conclude-requires-2 t)
     (apply-returns-4 t))
     λ t. rerun-lts.spec
-    (bind-reads.Asked, bind-reads.Learnt, apply-below t, apply.Post)
+    (rerun-claims t)
     (rerun-at t)
     rerun.Post
     rerun-Inv-loop
@@ -329,6 +241,7 @@ pub +apply+rerun-spec : {M : Type 1} → statement M
     (rerun-element-copy-out-result t)
     (rerun-returns t)
     (rerun-cast-j t)
+    (rerun-plan-requires t)
     (rerun-apply-requires t)
     (rerun-mul-frame t)
     (rerun-element-write-frame t)

@@ -80,32 +80,44 @@ mul-b c = search planning
 element-copy-out-b : tie.Need-element-copy-out-b
 element-copy-out-b c = omega (arith, below-one (c .before .before .link3 .result) (c .before .before .before .before .before .before .before .before .before .before .before .args .i) (c .before .is-below2 .result) (c .before .is-below2 .ensures) (c .if4 .taken), below-most (c .before .before .link3 .result) (c .before .before .before .before .before .before .before .before .before .before .before .args .i) (c .before .is-below2 .result) (c .before .is-below2 .ensures) (c .if4 .taken))
 
+call-numbers-requires : tie.Need-call-numbers-requires
+call-numbers-requires c κs = search planning
+
+pack-requires : tie.Need-pack-requires
+pack-requires c κs = search planning
+
+done-requires-2 : tie.Need-done-requires-2
+done-requires-2 c κs = search planning
+
+returns-3 : tie.Need-returns-3
+returns-3 c = search planning
+
 sub-follow : tie.Need-sub-follow
-sub-follow c = omega (arith, below-one (c .before .before .before .link3 .result) (c .before .before .before .before .before .before .before .before .before .before .before .before .args .i) (c .before .before .is-below2 .result) (c .before .before .is-below2 .ensures) (c .before .if4 .taken), below-most (c .before .before .before .link3 .result) (c .before .before .before .before .before .before .before .before .before .before .before .before .args .i) (c .before .before .is-below2 .result) (c .before .before .is-below2 .ensures) (c .before .if4 .taken))
+sub-follow c = omega (arith, below-one (c .before .before .before .before .link3 .result) (c .before .before .before .before .before .before .before .before .before .before .before .before .before .args .i) (c .before .before .before .is-below2 .result) (c .before .before .before .is-below2 .ensures) (c .before .before .if4 .taken), below-most (c .before .before .before .before .link3 .result) (c .before .before .before .before .before .before .before .before .before .before .before .before .before .args .i) (c .before .before .before .is-below2 .result) (c .before .before .before .is-below2 .ensures) (c .before .before .if4 .taken))
 
 call-requires : tie.Need-call-requires
 call-requires c κs = search planning
 
 follow-requires : tie.Need-follow-requires
-follow-requires c κs = omega (arith, below-one (c .before .before .before .before .link3 .result) (c .before .before .before .before .before .before .before .before .before .before .before .before .before .args .i) (c .before .before .before .is-below2 .result) (c .before .before .before .is-below2 .ensures) (c .before .before .if4 .taken), below-most (c .before .before .before .before .link3 .result) (c .before .before .before .before .before .before .before .before .before .before .before .before .before .args .i) (c .before .before .before .is-below2 .result) (c .before .before .before .is-below2 .ensures) (c .before .before .if4 .taken))
+follow-requires c κs = omega (arith, below-one (c .before .before .before .before .before .link3 .result) (c .before .before .before .before .before .before .before .before .before .before .before .before .before .before .args .i) (c .before .before .before .before .is-below2 .result) (c .before .before .before .before .is-below2 .ensures) (c .before .before .before .if4 .taken), below-most (c .before .before .before .before .before .link3 .result) (c .before .before .before .before .before .before .before .before .before .before .before .before .before .before .args .i) (c .before .before .before .before .is-below2 .result) (c .before .before .before .before .is-below2 .ensures) (c .before .before .before .if4 .taken))
 
-returns-3 : tie.Need-returns-3
-returns-3 c = (plan-call (c .before .before .before .before .before .before .before .before .before .before .before .before .before .before .args .links .now) (c .before .before .before .before .before .before .before .before .before .before .before .before .before .before .args .waits .now) (c .before .before .before .before .before .before .before .before .before .before .before .before .before .before .args .readings .now) (c .before .before .before .before .before .before .before .before .before .before .before .before .before .before .args .frame .now) (c .before .before .before .before .before .before .before .before .before .before .before .before .before .before .args .i) (c .before .before .before .before .before .before .before .before .before .before .before .before .link .result) (c .before .before .before .before .before .before .before .before .before .before .before .before .link .ensures) (c .follow .result) (c .before .before .before .before .before .before .before .before .before .before .before .if1 .left) (c .before .before .before .before .before .before .before .before .before .before .link2 .result) (c .before .before .before .before .before .before .before .before .before .before .link2 .ensures) (c .before .before .before .before .before .before .before .before .before .is-below .result) (c .before .before .before .before .before .before .before .before .before .is-below .ensures) (c .before .before .before .before .before .before .before .before .if2 .taken) (c .before .before .before .before .before .before .if3 .left) (c .before .before .before .before .before .link3 .result) (c .before .before .before .before .before .link3 .ensures) (c .before .before .before .before .is-below2 .result) (c .before .before .before .before .is-below2 .ensures) (c .before .call .result) (c .before .before .before .if4 .taken) (c .before .call .ensures) (c .follow .ensures .0), lower-right (c .before .before .before .before .before .before .before .before .before .before .before .before .before .before .args .i) _ (c .follow .result) (omega (arith, below-one (c .before .before .before .before .before .link3 .result) (c .before .before .before .before .before .before .before .before .before .before .before .before .before .before .args .i) (c .before .before .before .before .is-below2 .result) (c .before .before .before .before .is-below2 .ensures) (c .before .before .before .if4 .taken), below-most (c .before .before .before .before .before .link3 .result) (c .before .before .before .before .before .before .before .before .before .before .before .before .before .before .args .i) (c .before .before .before .before .is-below2 .result) (c .before .before .before .before .is-below2 .ensures) (c .before .before .before .if4 .taken))) (c .follow .ensures .1))
+returns-4 : tie.Need-returns-4
+returns-4 c = (plan-call (c .before .before .before .before .before .before .before .before .before .before .before .before .before .before .before .args .links .now) (c .before .before .before .before .before .before .before .before .before .before .before .before .before .before .before .args .waits .now) (c .before .before .before .before .before .before .before .before .before .before .before .before .before .before .before .args .readings .now) (c .before .before .before .before .before .before .before .before .before .before .before .before .before .before .before .args .frame .now) (c .before .before .before .before .before .before .before .before .before .before .before .before .before .before .before .args .i) (c .before .before .before .before .before .before .before .before .before .before .before .before .before .link .result) (c .before .before .before .before .before .before .before .before .before .before .before .before .before .link .ensures) (c .follow .result) (c .before .before .before .before .before .before .before .before .before .before .before .before .if1 .left) (c .before .before .before .before .before .before .before .before .before .before .before .link2 .result) (c .before .before .before .before .before .before .before .before .before .before .before .link2 .ensures) (c .before .before .before .before .before .before .before .before .before .before .is-below .result) (c .before .before .before .before .before .before .before .before .before .before .is-below .ensures) (c .before .before .before .before .before .before .before .before .before .if2 .taken) (c .before .before .before .before .before .before .before .if3 .left) (c .before .before .before .before .before .before .link3 .result) (c .before .before .before .before .before .before .link3 .ensures) (c .before .before .before .before .before .is-below2 .result) (c .before .before .before .before .before .is-below2 .ensures) (c .before .call .result) (c .before .before .before .before .if4 .taken) (c .before .call .ensures) (c .follow .ensures .0), lower-right (c .before .before .before .before .before .before .before .before .before .before .before .before .before .before .before .args .i) _ (c .follow .result) (omega (arith, below-one (c .before .before .before .before .before .before .link3 .result) (c .before .before .before .before .before .before .before .before .before .before .before .before .before .before .before .args .i) (c .before .before .before .before .before .is-below2 .result) (c .before .before .before .before .before .is-below2 .ensures) (c .before .before .before .before .if4 .taken), below-most (c .before .before .before .before .before .before .link3 .result) (c .before .before .before .before .before .before .before .before .before .before .before .before .before .before .before .args .i) (c .before .before .before .before .before .is-below2 .result) (c .before .before .before .before .before .is-below2 .ensures) (c .before .before .before .before .if4 .taken))) (c .follow .ensures .1))
 
 ask-requires : tie.Need-ask-requires
 ask-requires c κs = search planning
-
-done-requires-2 : tie.Need-done-requires-2
-done-requires-2 c κs = search planning
-
-returns-4 : tie.Need-returns-4
-returns-4 c = search planning
 
 done-requires-3 : tie.Need-done-requires-3
 done-requires-3 c κs = search planning
 
 returns-5 : tie.Need-returns-5
 returns-5 c = search planning
+
+done-requires-4 : tie.Need-done-requires-4
+done-requires-4 c κs = search planning
+
+returns-6 : tie.Need-returns-6
+returns-6 c = search planning
 
 pub plan-spec : {M : Type 1} → statement M
 plan-spec =
@@ -136,12 +148,16 @@ plan-spec =
     sub-b
     mul-b
     element-copy-out-b
+    call-numbers-requires
+    pack-requires
+    done-requires-2
+    returns-3
     sub-follow
     call-requires
     follow-requires
-    returns-3
-    ask-requires
-    done-requires-2
     returns-4
+    ask-requires
     done-requires-3
-    returns-5)
+    returns-5
+    done-requires-4
+    returns-6)

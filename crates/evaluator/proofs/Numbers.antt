@@ -1,0 +1,65 @@
+-- A member on two numbers: whatever the member, it comes to onNumbers, which gives the wrong kind for a member that is used on windows. So
+-- a call on two cells that hold numbers tests no kinds. Assumes nothing.
+use mathlib.Core.Path.{_≡_, refl, sym, ap, _∙_}
+use mathlib.Core.Bool.{true, _&&_}
+use mathlib.Core.List.{List}
+use Prim.Native.Nat.{ℕ, _<_}
+use borrow.Author.Needs.{needs}
+use borrow.Author.Tests.{ltb-true}
+use lib.Dec.{ltb}
+use lib.IntN.{ℤ}
+use mir.Syntax.{w32}
+use mir.Val.{SFits, toZ, ofZ}
+use mir.Facts.{toZ-ofZ}
+use Rattle.language.specs.Members.{row}
+use Rattle.language.specs.declared.members.Member.{Member}
+use Rattle.language.specs.declared.members.Member.the-variants.{Add, Sub, Mul, Div, Gt, Eq, Skip, Take, Count, Sum, Min, Max, At, CountWhere, LongestRun, SumBy}
+use Rattle.language.specs.declared.members.Found.{Found}
+use Rattle.language.specs.declared.members.Found.the-variants.{Is, Unknown}
+use Rattle.values.specs.declared.Value.{Value}
+use Rattle.values.specs.declared.Value.the-variants.{Number, Missing}
+use Rattle.values.specs.declared.apply.Applied.the-variants.{Done}
+use Rattle.values.specs.Numbers.{onNumbers}
+use Rattle.values.specs.Applied.{ruled1, applied1}
+use Rattle.values.specs.Packing.{windowCell}
+use Rattle.values.specs.PackingLaws.{numberIn, unpack-number}
+use Rattle.meaning.specs.FormsLaws.{and-left, and-right}
+use Rattle.evaluator.specs.Working.{boundedOf, callOf}
+
+pub both-numbers : (a b : ℕ) → (ltb a windowCell && ltb b windowCell) ≡ true → (a < windowCell) × (b < windowCell)
+both-numbers a b e = (ltb-true a windowCell (and-left _ (ltb b windowCell) e), ltb-true b windowCell (and-right (ltb a windowCell) _ e))
+
+pub two-numbers : (m : Member) (xs : List ℤ) (x y : ℤ) → applied1 m xs (Number x) (Number y) ≡ Done (onNumbers m x y)
+unfolding applied1 ruled1 onNumbers row
+two-numbers Add xs x y = refl
+two-numbers Sub xs x y = refl
+two-numbers Mul xs x y = refl
+two-numbers Div xs x y = refl
+two-numbers Gt xs x y = refl
+two-numbers Eq xs x y = refl
+two-numbers Skip xs x y = refl
+two-numbers Take xs x y = refl
+two-numbers Count xs x y = refl
+two-numbers Sum xs x y = refl
+two-numbers Min xs x y = refl
+two-numbers Max xs x y = refl
+two-numbers At xs x y = refl
+two-numbers CountWhere xs x y = refl
+two-numbers LongestRun xs x y = refl
+two-numbers SumBy xs x y = refl
+
+pub call-two : (m : Member) (xs : List ℤ) (a b : ℕ) → a < windowCell → b < windowCell → callOf (Is m) xs a b ≡ Done (onNumbers m (numberIn a) (numberIn b))
+unfolding callOf boundedOf
+call-two m xs a b h k = rw (unpack-number a h, unpack-number b k) (two-numbers m xs (numberIn a) (numberIn b))
+
+module _ (k r : Found) (f : r ≡ k) (a b : ℕ) where
+  pub numbers-none : r ≡ Unknown → (xs : List ℤ) → a < windowCell → b < windowCell → Done (Missing 2) ≡ callOf k xs a b
+  unfolding callOf
+  numbers-none e xs h l = rw (sym f ∙ e)
+
+  pub numbers-is : (m : Member) (x y : ℤ) (v : Value) → r ≡ Is m → SFits w32 x → SFits w32 y → x ≡ numberIn a → y ≡ numberIn b
+      → v ≡ onNumbers m (toZ w32 (ofZ w32 x)) (toZ w32 (ofZ w32 y)) → (xs : List ℤ) → a < windowCell → b < windowCell → Done v ≡ callOf k xs a b
+  numbers-is m x y v e fx fy p q o xs h l =
+      rw (sym f ∙ e) (ap Done (o ∙ (λ i. onNumbers m ((toZ-ofZ fx ∙ p) i) ((toZ-ofZ fy ∙ q) i))) ∙ sym (call-two m xs a b h l))
+
+pub ruleset on-numbers = (needs, numbers-none, numbers-is)
