@@ -36,7 +36,8 @@ check-shell: $(BUILT)/formula
 	$(BUILT)/formula shell/interval.txt < shell/example.in > $(BUILT)/example.out
 	diff -u shell/example.out $(BUILT)/example.out
 
-# The stored example, lines that are no formulas, and a file that is no recording. Valgrind, where it is there, watches the engine too.
+# The stored example, lines that are no formulas, and a file that is no recording. Valgrind, where it is there, watches the engine too, also
+# under the host tests that are quick enough.
 sanitize: $(BUILT)/formula
 	$(CC) $(STRICT) -g -O1 $(SANITIZERS) -Iinclude shell/formula.c $(LIBRARY) -o $(BUILT)/sanitized
 	$(BUILT)/sanitized shell/interval.txt < shell/example.in > $(BUILT)/sanitized.out
@@ -45,5 +46,7 @@ sanitize: $(BUILT)/formula
 	$(BUILT)/sanitized shell/formula.c < /dev/null; test $$? -eq 1
 	if command -v valgrind > /dev/null; then \
 	    valgrind --quiet --error-exitcode=9 $(BUILT)/formula shell/interval.txt < shell/example.in > $(BUILT)/sanitized.out && \
-	    diff -u shell/example.out $(BUILT)/sanitized.out; \
+	    diff -u shell/example.out $(BUILT)/sanitized.out && \
+	    CARGO_TARGET_X86_64_UNKNOWN_LINUX_GNU_RUNNER='valgrind --quiet --error-exitcode=9' cargo test --quiet --release --offline \
+	        --manifest-path host/Cargo.toml -p engine --test samples --test limits --test sizes; \
 	fi

@@ -48,7 +48,7 @@ use Rattle.engine.specs.Calls.{workOn, workedMemory, previewedAs, previewed, pr
 use Rattle.demand.specs.Holds.{joined, holds, markOf, keptFor, Ok, Written}
 use Rattle.demand.specs.Bound.{among-by}
 use Rattle.demand.specs.Appended.{lengths, long-enough, entries-length}
-use Rattle.demand.specs.Standing.{forms-joined, size-held}
+use Rattle.demand.specs.Standing.{beyond, forms-joined, size-held}
 use Rattle.demand.specs.Fitting.{Deep}
 use Rattle.demand.specs.Cells.{keeps}
 use Rattle.demand.specs.Editing.{Done}
@@ -107,11 +107,6 @@ nodes-same links cells now c h =
     nodes-are links now 0 c
     ∙ (λ t. numbered (λ j. record { kind = getD links (3 * j) 0; key = h j t; first = getD links (3 * j + 1) 0; second = getD links (3 * j + 2) 0 }) 0 c)
     ∙ sym (nodes-are links cells 0 c)
-
-nth-none : {A : Type 0} (xs : List A) (i : ℕ) → length xs ≤ i → getElem? xs i ≡ none
-nth-none [] i h = refl
-nth-none (x ∷ xs) zero h = absurd (omega arith)
-nth-none (x ∷ xs) (suc i) h = nth-none xs i (omega arith)
 
 count-zero : {A : Type 0} (p : A → Bool) (xs : List A) (i : ℕ) (x : A) → countIf p xs ≡ 0 → getElem? xs i ≡ some x → p x ≡ false
 unfolding countIf
@@ -388,4 +383,4 @@ previewing m n a o i w =
     rw (f, w)
     (split (ltb n (entryCount m))
     (λ q. let h = ltb-true n (entryCount m) q in rw (q, form-held m o i w n h) (done m o i w n h a))
-    (λ q. let h = nth-none (Model.forms formulas (holds m .entries)) n (omega (arith, ltb-false n (entryCount m) q, entries-held m)) in rw (q, h) (record { answer = refl; ok = o; holds = refl })))
+    (λ q. let h = beyond (Model.forms formulas (holds m .entries)) n (omega (arith, ltb-false n (entryCount m) q, entries-held m)) in rw (q, h) (record { answer = refl; ok = o; holds = refl })))

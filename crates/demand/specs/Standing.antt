@@ -31,7 +31,7 @@ same-nth [] (y ∷ ys) h = impossible (let e = h 0 in cc)
 same-nth (x ∷ xs) [] h = impossible (let e = h 0 in cc)
 same-nth (x ∷ xs) (y ∷ ys) h = let e = h 0 in let q : x ≡ y = cc in λ i. q i ∷ same-nth xs ys (λ j. h (suc j)) i
 
-beyond : {A : Type 0} (xs : List A) (i : ℕ) → length xs ≤ i → getElem? xs i ≡ none
+pub beyond : {A : Type 0} (xs : List A) (i : ℕ) → length xs ≤ i → getElem? xs i ≡ none
 beyond [] i h = refl
 beyond (x ∷ xs) zero h = absurd (omega arith)
 beyond (x ∷ xs) (suc i) h = beyond xs i (omega arith)

@@ -1,12 +1,9 @@
 -- The engine, as the contracts of its calls state it, implements the reference model. Assumes nothing.
 use mathlib.Core.Path.{_≡_, refl}
-use mathlib.Core.Bool.{Bool, true, false, cond, not, _&&_, _||_}
-use mathlib.Core.List.{List}
-use Prim.Native.Nat.{ℕ, _≤_}
-use lib.Dec.{leb, ltb}
-use lib.IntN.{ℤ}
+use mathlib.Core.Bool.{false}
+use lib.Dec.{ltb}
 use lib.ListN.{length}
-use Rattle.language.specs.Limits.{textBytes, textParts, tableReadings}
+use Rattle.language.specs.Limits.{textBytes, tableReadings}
 use Rattle.model.specs.Cases.{split}
 use Rattle.model.specs.Model as Model
 use Rattle.model.specs.Model.{State, Request, Open, Edit, Preview, Outcome, Answer, answer}
