@@ -1,27 +1,24 @@
 -- The language of formulas has the laws that the reference model's theory asks of a language. Assumes nothing.
-use mathlib.Core.Path.{_≡_, refl, sym, ap, _∙_, subst}
-use mathlib.Core.List.{List, [], _∷_, map}
-use Prim.Native.Nat.{ℕ, zero, suc, _+_, _-_, _<_, _≤_}
+use mathlib.Core.Path.{_≡_, refl, sym}
+use mathlib.Core.List.{List, [], _∷_}
+use Prim.Native.Nat.{ℕ, suc, _+_, _-_, _≤_}
 use native.Mathlib.Omega.{arith}
 use lib.ListN.{length}
-use Rattle.language.specs.Limits.{textParts}
-use Rattle.grammar.specs.Tokens.{Located, tokens, scan}
-use Rattle.grammar.specs.Grammar.{Expression, Calls, Arguments, More, letIn, lambda, name, literal, bracket, done, call, none, first, last, next, spellE}
-use Rattle.grammar.specs.KeptLimits.{partsE, partsC, partsA, partsM, KeepsLimits}
-use Rattle.grammar.specs.Reading.{Reading, tree, refused, RefusedBy, placeIn, placeOf, tokensOf}
+use Rattle.grammar.specs.Grammar.{Expression, Calls, Arguments, More, letIn, lambda, name, literal, bracket, done, call, none, first, last, next}
+use Rattle.grammar.specs.KeptLimits.{partsE, partsC, partsA, partsM}
+use Rattle.grammar.specs.Reading.{Reading, tree, refused, tokensOf}
 use Rattle.grammar.specs.Places.{place-inside}
 use Rattle.grammar.specs.ReadingLaws.{refusal-range}
 use Rattle.grammar.specs.Machine.{readText}
 use Rattle.grammar.specs.Theorems.{text-read-plainly, text-refused}
-use Rattle.meaning.specs.Forms.{Form, number, same, dependency, within}
+use Rattle.meaning.specs.Forms.{Form, number}
 use Rattle.meaning.specs.FormsLaws.{same-eq, same-self, within-self, within-only, within-trans, dependency-within}
-use Rattle.meaning.specs.Binding.{Meaning, means, asLambda, named, formE, formC, called, placesE, placesC, placesA, placesM, orderE, orderC, orderA, orderM, formOf, formsByPlace, formsInOrder}
-use Rattle.model.specs.Lists.{All}
-use Rattle.model.specs.Language.{Language, Parsed, rejected, parts}
+use Rattle.meaning.specs.Binding.{Meaning, means, asLambda, named, formE, called, placesE, placesC, placesA, placesM, orderE, orderC, orderA, orderM, formOf, formsByPlace, formsInOrder}
+use Rattle.model.specs.Language.{rejected, parts}
 use Rattle.model.specs.Laws.{Tests, Readable, Rejected, Laws}
 use Rattle.formulas.specs.Formulas.{formulas, parsed}
 use Rattle.formulas.specs.BindingLaws.{ordered, bound}
-use Rattle.bridge.specs.Words.{WordToken, text-words}
+use Rattle.bridge.specs.Words.{text-words}
 use Rattle.bridge.specs.Proper.{Proper}
 use Rattle.bridge.specs.ProperLaws.{all-proper}
 

@@ -1,14 +1,13 @@
 -- The table's nodes as the model's graph: a node with its dependencies' forms builds its form, and equal forms have equal nodes.
 -- Assumes nothing.
 use mathlib.Core.Path.{_≡_, refl, sym, ap, _∙_, subst}
-use mathlib.Core.Logic.{_⊎_, inl, inr, ⊎-elim}
-use mathlib.Core.Bool.{Bool, true, false, cond, not, _&&_, _||_}
+use mathlib.Core.Bool.{Bool, true, false}
 use mathlib.Core.List.{List, [], _∷_}
-use Prim.Native.Nat.{ℕ, zero, suc, _+_, _-_, _<_, _≤_, _^_}
+use Prim.Native.Nat.{ℕ, zero, suc, _+_, _-_, _<_}
 use native.Mathlib.Omega.{arith}
 use borrow.Author.Tests.{eqb-true, eq-eqb, ne-eqb, le-ltb}
-use lib.Dec.{eqb, ltb, leb}
-use lib.IntN.{ℤ, pos, natAbs, _+ℤ_, _-ℤ_, -ℤ-+ℤ-cancel}
+use lib.Dec.{eqb}
+use lib.IntN.{pos, natAbs, _+ℤ_, _-ℤ_, -ℤ-+ℤ-cancel}
 use Rattle.language.specs.Members.{row, memberAt, memberNumber}
 use Rattle.language.specs.declared.members.Member.{Member}
 use Rattle.language.specs.declared.members.Found.{Found}
@@ -17,7 +16,6 @@ use Rattle.meaning.specs.Forms.{Form, number, variable, unbound, readings, ask,
 use Rattle.meaning.specs.FormsLaws.{no-way, either, and-left, and-right, or-right, same-eq, same-self, found}
 use Rattle.model.specs.Lists.{member}
 use Rattle.model.specs.Cases.{split}
-use Rattle.model.specs.Language.{Language}
 use Rattle.model.specs.ListLaws.{Equality}
 use Rattle.model.specs.Graph.{among, Graph, GraphLaws}
 use Rattle.table.specs.Memory.{Node}

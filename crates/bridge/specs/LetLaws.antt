@@ -1,9 +1,8 @@
 -- In a text that is read, every let is replaced by capture-avoiding substitution. Assumes nothing.
-use mathlib.Core.Path.{_≡_, ap}
+use mathlib.Core.Path.{_≡_}
 use mathlib.Core.List.{List, []}
 use Prim.Native.Nat.{ℕ}
 use Rattle.language.specs.Names.{packed}
-use Rattle.language.specs.NamesLaws.{Each, NameByte}
 use Rattle.grammar.specs.Grammar.{Expression}
 use Rattle.grammar.specs.Faults.{Around, outermost}
 use Rattle.grammar.specs.KeptLimits.{Site, aLet, aLambda, aBracket, aName, aNumber, aCall}

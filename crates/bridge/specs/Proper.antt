@@ -1,10 +1,9 @@
 -- What holds of every form of a text that is read: its names are names, its number is within signed 32 bits, its member has the arguments that
 -- it takes, and it awaits at most two names. Assumes nothing.
-use mathlib.Core.Path.{_≡_, refl, sym, ap, _∙_, subst}
-use mathlib.Core.Bool.{Bool, true, false, cond, not, _&&_, _||_}
+use mathlib.Core.Path.{_≡_, refl, sym, _∙_}
+use mathlib.Core.Bool.{true, false}
 use mathlib.Core.List.{List, [], _∷_, _++_}
-use mathlib.Core.Logic.{_⊎_, inl, inr, ⊎-elim}
-use Prim.Native.Nat.{ℕ, zero, suc, _+_, _<_, _≤_}
+use Prim.Native.Nat.{ℕ, _+_, _<_, _≤_}
 use native.Mathlib.Omega.{arith}
 use borrow.Author.Tests.{eqb-true, eq-eqb}
 use lib.Dec.{eqb}
@@ -12,7 +11,7 @@ use lib.ListN.{length}
 use Rattle.language.specs.Members.{row}
 use Rattle.grammar.specs.KeptLimits.{InRange}
 use Rattle.meaning.specs.Forms.{Form, number, variable, unbound, readings, ask, call, function}
-use Rattle.meaning.specs.FormsLaws.{no-way, either, or-right}
+use Rattle.meaning.specs.FormsLaws.{no-way, or-right}
 use Rattle.meaning.specs.Evaluation.{hasName, joined, without, awaited}
 use Rattle.model.specs.Cases.{split}
 use Rattle.table.specs.Nodes.{isName}

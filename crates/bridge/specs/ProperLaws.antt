@@ -1,24 +1,24 @@
 -- Every form of a text that is read is proper. Assumes nothing.
-use mathlib.Core.Path.{_≡_, refl, sym, ap, _∙_, subst}
-use mathlib.Core.Bool.{Bool, true, false, cond, not, _&&_, _||_}
-use mathlib.Core.List.{List, [], _∷_, _++_}
-use Prim.Native.Nat.{ℕ, zero, suc, _+_, _<_, _≤_}
+use mathlib.Core.Path.{_≡_, refl, sym, ap, _∙_}
+use mathlib.Core.Bool.{Bool, true, false}
+use mathlib.Core.List.{List, [], _∷_}
+use Prim.Native.Nat.{ℕ, suc, _<_, _≤_}
 use native.Mathlib.Omega.{arith}
 use borrow.Author.Tests.{eqb-true, eq-eqb, ne-eqb}
 use lib.Dec.{eqb}
 use lib.IntN.{ℤ}
 use lib.ListN.{length}
-use Rattle.language.specs.Limits.{openLambdas, nameBytes}
+use Rattle.language.specs.Limits.{openLambdas}
 use Rattle.language.specs.Names.{packed, sameName, isData, dataWord}
-use Rattle.language.specs.Members.{row, memberOf, isUnknown, takes}
-use Rattle.grammar.specs.Tokens.{Token, kLet, kIn, kEquals, kLambda, kArrow, kDot, kOpen, kShut, kComma, word, number as numberT, other}
+use Rattle.language.specs.Members.{row}
+use Rattle.grammar.specs.Tokens.{Token, kIn, kShut}
 use Rattle.grammar.specs.Grammar.{Expression, Calls, Arguments, More, letIn, lambda, name, literal, bracket, done, call, none, first, last, next, spellE, spellC, spellA, spellM}
 use Rattle.grammar.specs.Faults.{Binder, byLet, byLambda, Around, outermost, opened, inLet, inLambda, lambdasOf}
 use Rattle.grammar.specs.KeptLimits.{Site, aLet, aLambda, aBracket, aName, aNumber, aCall, givenA, givenM, EverywhereE, EverywhereC, EverywhereA, EverywhereM, FewLambdas, ShortNames, DataUnbound, SmallNumbers, RightCalls, KeepsLimits, InRange, NotData}
 use Rattle.meaning.specs.Forms.{Form, number, variable, unbound, readings, ask, function}
 use Rattle.meaning.specs.FormsLaws.{no-way}
 use Rattle.meaning.specs.Binding.{Meaning, means, pickForm, lookUp, named, asLambda, member, formE, formC, formA, formM, called, orderE, orderC, orderA, orderM, formsInOrder}
-use Rattle.meaning.specs.Evaluation.{hasName, joined, without, awaited}
+use Rattle.meaning.specs.Evaluation.{hasName, awaited}
 use Rattle.model.specs.Lists.{All}
 use Rattle.model.specs.Cases.{split}
 use Rattle.table.specs.Nodes.{isName}

@@ -1,7 +1,7 @@
 -- The records of a tree unfold to its let-free forms: the root to the whole's, each place to its part's, and bound in their order they add
 -- what the forms in the order of binding add. Assumes nothing.
 use mathlib.Core.Path.{_≡_, refl, sym, ap, _∙_, subst}
-use mathlib.Core.Bool.{Bool, true, false, cond, not, _&&_, _||_}
+use mathlib.Core.Bool.{Bool, true, false}
 use mathlib.Core.List.{List, [], _∷_, _++_, map, append-nil, append-assoc}
 use Prim.Native.Nat.{ℕ, zero, suc, _+_, _-_, _<_, _≤_}
 use native.Mathlib.Omega.{arith}
@@ -28,7 +28,7 @@ use Rattle.model.specs.Cases.{split}
 use Rattle.model.specs.ListLaws.{Equality, getD-last, map-append, all-append, insert-old, insertAll-has}
 use Rattle.model.specs.Graph.{among, formAt, Placed, AllPlaced, decode, decode-snoc}
 use Rattle.table.specs.Memory.{Node}
-use Rattle.table.specs.Nodes.{numberKind, variableKind, unboundKind, readingsKind, functionKind, memberKind, numberOfKey, build, kids, arity, memberOfKind}
+use Rattle.table.specs.Nodes.{numberKind, variableKind, unboundKind, readingsKind, functionKind, memberKind, build, kids, arity, memberOfKind}
 use Rattle.records.specs.Records.{Named, stands, Recorded, node, newRecord, numberKey, pickRecorded, linked, recordScoped, recordName, behind, recordE, recordC, recordA, recordM, recordsOf}
 use Rattle.formulas.specs.Formulas.{formulas}
 use Rattle.bridge.specs.Graphs.{Fine, aNumber, aVariable, anUnbound, theReadings, aFunction, anAsk, aCall, nodes, build-ask, build-call, kids-function, kids-ask, kids-call, among-one, among-two, less-one}

@@ -1,18 +1,18 @@
 -- The words of a text's tokens are words, and packed names of at most 8 bytes pass the table's test of names. Assumes nothing.
 use mathlib.Core.Path.{_≡_, refl, sym, ap, _∙_, subst}
-use mathlib.Core.Bool.{Bool, true, false, cond, not, _&&_, _||_}
+use mathlib.Core.Bool.{Bool, true, false}
 use mathlib.Core.List.{List, [], _∷_, map}
 use Prim.Native.Nat.{ℕ, zero, suc, _+_, _-_, _*_, _/_, _%_, _<_, _≤_}
 use native.Mathlib.Omega.{arith}
-use borrow.Author.Tests.{eqb-true, ne-eqb, lt-ltb, le-ltb, leb-true}
+use borrow.Author.Tests.{ne-eqb, lt-ltb, le-ltb, leb-true}
 use lib.Dec.{ltb, leb, eqb}
 use lib.ListN.{length, take}
 use Rattle.language.specs.Limits.{nameBytes}
-use Rattle.language.specs.Names.{bytes, between, isLetter, isDigit, inWord, isBlank, packOnto, packed, letWord, inWord!, dataWord, isData}
+use Rattle.language.specs.Names.{bytes, between, isLetter, isDigit, inWord, isBlank, packOnto, packed, letWord, inWord!, isData}
 use Rattle.language.specs.NamesLaws.{Each, NameByte, each-map, word-byte, packed-injective}
 use Rattle.language.specs.Members.{sameBytes}
 use Rattle.language.specs.MembersLaws.{same-bytes}
-use Rattle.grammar.specs.Tokens.{Token, kLet, kIn, kEquals, kLambda, kArrow, kDot, kOpen, kShut, kComma, word, number, other, when, leading, Lexeme, wordToken, wordAt, digitsAt, minusAt, markToken, tokenAt, Located, scan, tokens}
+use Rattle.grammar.specs.Tokens.{Token, kLet, kIn, kEquals, kLambda, kArrow, kDot, kOpen, kShut, kComma, word, number, other, when, leading, wordToken, wordAt, digitsAt, minusAt, markToken, tokenAt, Located, scan}
 use Rattle.grammar.specs.Reading.{tokensOf}
 use Rattle.meaning.specs.FormsLaws.{no-way, and-left, and-right, either}
 use Rattle.model.specs.Lists.{All}

@@ -1,24 +1,24 @@
 -- A cache that was opened and kept passes every test of refusal 4. Assumes nothing.
 use mathlib.Core.Path.{_≡_, refl, sym, ap, _∙_, subst}
-use mathlib.Core.Bool.{Bool, true, false, cond, not, _&&_, _||_}
+use mathlib.Core.Bool.{Bool, true, false, not, _||_}
 use mathlib.Core.List.{List, [], _∷_, _++_, map}
-use mathlib.Core.Logic.{_⊎_, inl, inr, ⊎-elim}
-use mathlib.Core.Option.{Option, none, some}
+use mathlib.Core.Logic.{inl, inr}
+use mathlib.Core.Option.{none, some}
 use Prim.Native.Nat.{ℕ, zero, suc, _+_, _-_, _<_, _≤_, _^_}
 use native.Mathlib.Omega.{arith}
-use borrow.Author.Tests.{eqb-true, eq-eqb, ne-eqb, le-leb, lt-ltb, le-ltb, leb-true, ltb-true, ltb-false}
+use borrow.Author.Tests.{eq-eqb, le-leb, lt-ltb, ltb-true, ltb-false}
 use lib.Dec.{eqb, leb, ltb, leb→le}
-use lib.IntN.{ℤ, pos, negsuc, _-ℤ_}
-use lib.ListN.{length, getD, getElem?, take, length-take, length-map, length-append}
-use lib.Signed.{mag, _≤ℤ_}
+use lib.IntN.{ℤ, pos}
+use lib.ListN.{length, getD, getElem?, length-take, length-map, length-append}
+use lib.Signed.{mag}
 use Rattle.language.specs.Limits.{tableEntries, tableReadings}
-use Rattle.language.specs.Members.{row, memberNumber}
+use Rattle.language.specs.Members.{row}
 use Rattle.language.specs.MembersLaws.{number-below}
 use Rattle.language.specs.declared.members.Member.{Member}
-use Rattle.values.specs.Packing.{isPacked, isFunctionCell, isDelayedCell}
-use Rattle.meaning.specs.Forms.{Form, number, variable, unbound, readings, ask, call, function, same, within, works}
+use Rattle.values.specs.Packing.{isPacked}
+use Rattle.meaning.specs.Forms.{Form, readings, same, works}
 use Rattle.meaning.specs.FormsLaws.{same-eq, same-self}
-use Rattle.meaning.specs.Evaluation.{joined as join, without, awaited, Shown, shows}
+use Rattle.meaning.specs.Evaluation.{joined as join, awaited, Shown, shows}
 use Rattle.grammar.specs.KeptLimits.{InRange}
 use Rattle.model.specs.Lists.{All, member as isIn}
 use Rattle.model.specs.Cases.{impossible, split}
@@ -29,18 +29,18 @@ use Rattle.model.specs.Invariant as Inv
 use Rattle.model.specs.Invariant.{Invariant}
 use Rattle.model.specs.Graph.{among, formAt, Placed, AllPlaced, Stands, decodes, decode}
 use Rattle.model.specs.Checks as Checks
-use Rattle.table.specs.Memory.{Memory, Node, Kept, Entry, fits, entryCount, readingCount, recordingOf, entriesOf, nodesOf, nothingKept}
-use Rattle.table.specs.Nodes.{numberKind, variableKind, unboundKind, readingsKind, functionKind, memberKind, worksKind, arity, memberOfKind, kids, sameNode, build, isName, numberOfKey}
-use Rattle.table.specs.WellFormed.{every, kindKnown, keyRight, given, arityRight, lower, hasNode, distinct, awaitedBy, awaitedAfter, awaitsFew, isDone, doneAt, allDone, settled, namesRight, keptRight, wellFormed}
+use Rattle.table.specs.Memory.{Memory, Node, Kept, Entry, entryCount, readingCount, recordingOf, entriesOf, nodesOf}
+use Rattle.table.specs.Nodes.{memberKind, worksKind, arity, memberOfKind, kids, sameNode, build, numberOfKey}
+use Rattle.table.specs.WellFormed.{every, kindKnown, keyRight, given, arityRight, lower, hasNode, distinct, awaitedBy, awaitedAfter, isDone, doneAt, allDone, settled, namesRight, keptRight, wellFormed}
 use Rattle.records.specs.Records.{node}
 use Rattle.formulas.specs.Formulas.{formulas, IsReading}
-use Rattle.bridge.specs.Graphs.{Fine, aNumber, aVariable, anUnbound, theReadings, aFunction, anAsk, aCall, nodes, graph-laws, equality, not-member, member-found, member-arity, build-ask, build-call, kids-function, kids-ask, kids-call, less-one, among-first, among-second}
-use Rattle.bridge.specs.Recorded.{formsOf, length-forms, build-function}
+use Rattle.bridge.specs.Graphs.{Fine, aNumber, aVariable, anUnbound, theReadings, aFunction, anAsk, aCall, nodes, graph-laws, equality, not-member, member-arity, build-ask, build-call, kids-function, kids-ask, kids-call, less-one, among-first, among-second}
+use Rattle.bridge.specs.Recorded.{formsOf}
 use Rattle.bridge.specs.Proper.{Shape, Proper}
 use Rattle.bridge.specs.FormulaLaws.{formula-laws}
 use Rattle.demand.specs.Holds.{joined, holds, markOf, keptFor, Ok, Written}
 use Rattle.demand.specs.Bound.{among-by}
-use Rattle.demand.specs.Appended.{Lengths, lengths, entries-length}
+use Rattle.demand.specs.Appended.{lengths, entries-length}
 use Rattle.demand.specs.Standing.{forms-joined, size-held}
 use Rattle.demand.specs.Fitting.{Deep}
 use Rattle.demand.specs.Cells.{Keeps, keeps}

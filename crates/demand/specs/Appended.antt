@@ -1,18 +1,17 @@
 -- Entries appended to the memory: the entries held are the old ones and then the new, with nothing kept; everything else stays.
 -- Assumes nothing.
-use mathlib.Core.Path.{_≡_, refl, sym, ap, _∙_, subst}
-use mathlib.Core.Bool.{Bool, true, false, _&&_}
+use mathlib.Core.Path.{_≡_, refl, sym, ap, _∙_}
+use mathlib.Core.Bool.{true}
 use mathlib.Core.List.{List, [], _∷_, _++_, map, append-nil, append-assoc}
 use Prim.Native.Nat.{ℕ, zero, suc, _+_, _*_, _<_, _≤_}
 use native.Mathlib.Omega.{arith}
 use borrow.Author.Tests.{leb-true, le-leb}
 use lib.Dec.{leb}
-use lib.IntN.{ℤ}
-use lib.ListN.{length, getD, set, take, length-set}
+use lib.ListN.{length, getD, set, length-set}
 use lib.Seq.{getD-set-same, getD-set-other}
 use Rattle.language.specs.Limits.{tableEntries, tableReadings}
 use Rattle.meaning.specs.FormsLaws.{and-left, and-right}
-use Rattle.table.specs.Memory.{Memory, Node, Kept, Entry, fits, entryCount, readingCount, recordingOf, nodeAt, keptAt, entryAt, entriesFrom, entriesOf, nodesOf, nothingKept}
+use Rattle.table.specs.Memory.{Memory, Node, Entry, fits, entryCount, readingCount, nodeAt, keptAt, entryAt, entriesFrom, entriesOf, nothingKept}
 use Rattle.table.specs.Bind.{append, appendAll}
 
 -- the lengths of memory that is lent whole

@@ -1,25 +1,23 @@
 -- Binding over the table's nodes is the model's binding of records: the laws that it asks for, and that the two are one. Assumes nothing.
 use mathlib.Core.Path.{_≡_, refl, sym, ap, _∙_, subst}
-use mathlib.Core.Bool.{Bool, true, false, cond}
+use mathlib.Core.Bool.{true, false, cond}
 use mathlib.Core.List.{List, [], _∷_, _++_, map, append-nil, append-assoc}
 use Prim.Native.Nat.{ℕ, zero, suc, _+_, _-_, _<_}
 use native.Mathlib.Omega.{arith}
 use borrow.Author.Tests.{lt-ltb, le-ltb}
 use lib.Dec.{ltb}
 use lib.ListN.{length, getD}
-use Rattle.language.specs.declared.members.Member.{Member}
-use Rattle.meaning.specs.Forms.{Form, ask, call, function}
+use Rattle.meaning.specs.Forms.{Form}
 use Rattle.model.specs.Lists.{member, index}
 use Rattle.model.specs.Cases.{impossible, split}
-use Rattle.model.specs.Graph.{among, formAt, Placed, AllPlaced, decode}
+use Rattle.model.specs.Graph.{among, formAt, AllPlaced, decode}
 use Rattle.model.specs.Binder as Binder
 use Rattle.table.specs.Memory.{Node}
-use Rattle.table.specs.Nodes.{sameNode, build, kids, numberKind, variableKind, unboundKind, readingsKind, functionKind, memberKind, arity, memberOfKind}
+use Rattle.table.specs.Nodes.{sameNode, build, kids, arity, memberOfKind}
 use Rattle.table.specs.Bind.{find, relinked, relink, Bound, bindOne, bindAll}
-use Rattle.records.specs.Records.{node}
 use Rattle.formulas.specs.Formulas.{formulas}
-use Rattle.bridge.specs.Graphs.{Fine, aNumber, aVariable, anUnbound, theReadings, aFunction, anAsk, aCall, nodes, build-ask, build-call, kids-function, kids-ask, kids-call, among-one, among-two, among-first, among-second, less-one}
-use Rattle.bridge.specs.Recorded.{formsOf, build-function}
+use Rattle.bridge.specs.Graphs.{Fine, aNumber, aVariable, anUnbound, theReadings, aFunction, anAsk, aCall, nodes, build-ask, build-call, kids-function, kids-ask, kids-call, among-one, among-two, among-first, among-second}
+use Rattle.bridge.specs.Recorded.{build-function}
 
 -- links changed by a function of numbers
 abbrev linkBy : (ℕ → ℕ) → ℕ → ℕ

@@ -1,13 +1,13 @@
 -- The cells of what a form shows pass the tests of refusal 4, and show it again. Assumes nothing.
 use mathlib.Core.Path.{_≡_, refl, sym, ap, _∙_, subst}
-use mathlib.Core.Bool.{Bool, true, false, cond, not, _&&_, _||_}
+use mathlib.Core.Bool.{Bool, true, false, _&&_, _||_}
 use mathlib.Core.List.{List, [], _∷_}
-use mathlib.Core.Option.{Option, none, some}
-use Prim.Native.Nat.{ℕ, zero, suc, _+_, _<_, _≤_}
+use mathlib.Core.Option.{some}
+use Prim.Native.Nat.{ℕ, _<_, _≤_}
 use native.Mathlib.Omega.{arith}
-use borrow.Author.Tests.{eqb-true, eq-eqb, ne-eqb}
+use borrow.Author.Tests.{eq-eqb, ne-eqb}
 use lib.Dec.{eqb}
-use lib.IntN.{ℤ, pos, natAbs}
+use lib.IntN.{ℤ, pos}
 use lib.ListN.{length, getD}
 use lib.Signed.{mag}
 use Rattle.language.specs.Members.{row}
@@ -19,15 +19,15 @@ use Rattle.values.specs.Apply.{isKind, isMissing, isDelayed, rule0, rule1, appl
 use Rattle.values.specs.Kept.{Held, Kept}
 use Rattle.values.specs.Packing.{packOf, unpackOf, isPacked, functionCell, delayedCell, isFunctionCell, isDelayedCell}
 use Rattle.values.specs.PackingLaws.{round, packed-above, kept-passes}
-use Rattle.meaning.specs.Forms.{Form, number, variable, unbound, readings, ask, call, function, works, nameOf}
+use Rattle.meaning.specs.Forms.{Form, number, variable, unbound, readings, ask, call, function, nameOf}
 use Rattle.meaning.specs.FormsLaws.{within-self, no-way}
-use Rattle.meaning.specs.Evaluation.{Result, plain, runs, valueOf, nowhere, lookup, evaluate, hasName, awaited, Shown, aNumber, aWindow, aFunction, aDelay, aReason, shownAs, shows}
+use Rattle.meaning.specs.Evaluation.{valueOf, nowhere, lookup, evaluate, hasName, awaited, Shown, aNumber, aWindow, aFunction, aDelay, aReason, shownAs, shows}
 use Rattle.model.specs.Cases.{impossible, split}
 use Rattle.table.specs.Memory.{Kept as Cells}
 use Rattle.table.specs.Nodes.{isName, wordNumber}
 use Rattle.table.specs.WellFormed.{namesRight}
-use Rattle.bridge.specs.Proper.{Proper, Has}
-use Rattle.demand.specs.Holds.{keptFor, markOf, namesIn, shownIn, shownBy}
+use Rattle.bridge.specs.Proper.{Has}
+use Rattle.demand.specs.Holds.{keptFor, markOf, shownBy}
 use Rattle.demand.specs.Delays.{isPlain, plain-pick, plain-rule0, plain-rule1}
 use Rattle.demand.specs.Fitting.{Deep, shown-fits, name-of, delayed-awaits}
 

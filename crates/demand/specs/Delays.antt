@@ -1,12 +1,11 @@
 -- When a member is delayed: exactly where a dependency is and none is missing. So a form that is delayed awaits a name. Assumes nothing.
-use mathlib.Core.Path.{_≡_, refl, sym, ap, _∙_, subst}
-use mathlib.Core.Bool.{Bool, true, false, cond, not, _&&_, _||_}
+use mathlib.Core.Path.{_≡_, refl, sym, _∙_}
+use mathlib.Core.Bool.{Bool, true, false, _&&_, _||_}
 use mathlib.Core.List.{List, [], _∷_, map}
 use Prim.Native.Nat.{ℕ}
-use borrow.Author.Tests.{eqb-true, eq-eqb}
-use lib.Dec.{ltb, eqb}
+use lib.Dec.{ltb}
 use lib.IntN.{ℤ, pos, negsuc, _+ℤ_, _-ℤ_, _*ℤ_}
-use lib.ListN.{length, getD}
+use lib.ListN.{length}
 use lib.Signed.{ltZ}
 use Rattle.language.specs.Limits.{leastNumber, mostNumber}
 use Rattle.language.specs.Members.{row}
@@ -18,7 +17,7 @@ use Rattle.values.specs.Values.{pick, ranged, flag, sameℤ, beyondNumber, divi
 use Rattle.values.specs.Numbers.{quotient, divided, onNumbers}
 use Rattle.values.specs.Windows.{readingsIn, unlessNegative, skipped, taken, reading, extreme, lesser, greater, ofWindow, onWindow}
 use Rattle.values.specs.Runs.{Results, numbers, because, results, ofNumbers, concluded, ofRuns}
-use Rattle.values.specs.Apply.{isKind, isMissing, isDelayed, rule0, rule1, ruleNumber, ruleWindow, apply0, apply1}
+use Rattle.values.specs.Apply.{isKind, isMissing, isDelayed, rule0, rule1, apply0, apply1}
 use Rattle.model.specs.Cases.{impossible, split}
 
 -- results of rules: neither delayed nor a function

@@ -1,16 +1,16 @@
 -- An edit of a cache that was opened and kept answers as the model does and leaves what the model holds. Assumes nothing.
 use mathlib.Core.Path.{_≡_, refl, sym, ap, _∙_, subst}
-use mathlib.Core.Bool.{Bool, true, false, cond, not, _&&_, _||_}
-use mathlib.Core.List.{List, [], _∷_, _++_, map, append-nil}
+use mathlib.Core.Bool.{true, false, not}
+use mathlib.Core.List.{List, [], _∷_, _++_, map}
 use mathlib.Core.Logic.{inl}
-use mathlib.Core.Option.{Option, none, some}
-use Prim.Native.Nat.{ℕ, zero, suc, _+_, _-_, _<_, _≤_}
+use mathlib.Core.Option.{some}
+use Prim.Native.Nat.{ℕ, _+_, _-_, _<_}
 use native.Mathlib.Omega.{arith}
-use borrow.Author.Tests.{ltb-true, ltb-false, leb-true, leb-false, lt-ltb, le-ltb, le-leb, lt-leb}
+use borrow.Author.Tests.{ltb-false, leb-true, leb-false, lt-ltb, le-ltb}
 use lib.Dec.{leb, ltb}
-use lib.ListN.{length, getD, getElem?, drop, take, length-map, length-append}
+use lib.ListN.{length, getD, drop, take, length-map, length-append}
 use lib.Seq.{drop-at}
-use Rattle.language.specs.Limits.{textBytes, textParts, tableEntries, tableReadings}
+use Rattle.language.specs.Limits.{textBytes, textParts, tableEntries}
 use Rattle.grammar.specs.Grammar.{Expression}
 use Rattle.grammar.specs.KeptLimits.{KeepsLimits}
 use Rattle.grammar.specs.Reading.{Reading, tree, refused as refusedAt}
@@ -18,28 +18,28 @@ use Rattle.grammar.specs.Machine.{readText}
 use Rattle.grammar.specs.Theorems.{text-read-plainly}
 use Rattle.meaning.specs.Forms.{Form, readings, same}
 use Rattle.meaning.specs.Binding.{formOf, formsByPlace, formsInOrder}
-use Rattle.model.specs.Lists.{All, index, insertAll, Distinct}
+use Rattle.model.specs.Lists.{All, index, insertAll}
 use Rattle.model.specs.Cases.{impossible, split}
 use Rattle.model.specs.ListLaws.{nth-has, nth-below, getD-nth, map-append, all-append}
 use Rattle.model.specs.Model as Model
-use Rattle.model.specs.Model.{Answer, refused, opened, edited, notYet, finished}
+use Rattle.model.specs.Model.{Answer, refused, edited}
 use Rattle.model.specs.Entries.{forms-holdAll, holdAll-as}
 use Rattle.model.specs.Invariant.{Invariant}
-use Rattle.model.specs.Graph.{Stands, decodes}
+use Rattle.model.specs.Graph.{decodes}
 use Rattle.model.specs.Binder as Binder
-use Rattle.table.specs.Memory.{Memory, Node, Entry, fits, entryCount, readingCount, recordingOf, entriesFrom, entriesOf, nodesOf}
+use Rattle.table.specs.Memory.{Memory, Node, Entry, entryCount, entriesOf, nodesOf}
 use Rattle.table.specs.WellFormed.{wellFormed}
-use Rattle.table.specs.Bind.{Bound, bindAll, appendAll}
+use Rattle.table.specs.Bind.{Bound, appendAll}
 use Rattle.records.specs.Records.{Recorded, recordsOf}
 use Rattle.formulas.specs.Formulas.{formulas, parsed}
 use Rattle.bridge.specs.Graphs.{nodes, graph-laws}
 use Rattle.bridge.specs.Recorded.{formsOf, formIn, length-forms, decode-append, Unfolds, unfolds}
 use Rattle.bridge.specs.FormulaLaws.{formula-laws}
-use Rattle.engine.specs.Calls.{pickMemory, held, boundTo, tooMany, editedAs, editedMemory, readAnswer, readMemory, declines, editAnswer, editMemory}
+use Rattle.engine.specs.Calls.{held, boundTo, editedAs, editedMemory, readAnswer, readMemory, editAnswer, editMemory}
 use Rattle.demand.specs.Holds.{joined, holds, Ok, Written}
 use Rattle.demand.specs.Bound.{relinkBy, relinks, asBound, all-same, forms-same, valid-same}
-use Rattle.demand.specs.Appended.{Lengths, lengths, long-enough, entries-length, unworked, Grown, grown}
-use Rattle.demand.specs.Standing.{stands-placed, decoded, More, more, forms-joined, joined-append, size-held}
+use Rattle.demand.specs.Appended.{lengths, long-enough, entries-length, unworked, grown}
+use Rattle.demand.specs.Standing.{stands-placed, decoded, more, forms-joined, joined-append, size-held}
 
 pub record Done (m : Memory) (o : Model.Outcome formulas) (x : Answer formulas) : Type 0 where
   pub answer : x ≡ o .answer

@@ -1,36 +1,28 @@
 -- What a form of a text shows can be kept: its number, window or reason is in range, and it awaits one or two names where it is delayed.
 -- Assumes nothing.
-use mathlib.Core.Path.{_≡_, refl, sym, ap, _∙_, subst}
-use mathlib.Core.Bool.{Bool, true, false, cond, not, _&&_, _||_}
-use mathlib.Core.List.{List, [], _∷_, map}
-use mathlib.Core.Option.{Option, none, some}
-use Prim.Native.Nat.{ℕ, zero, suc, _+_, _<_, _≤_, _^_}
+use mathlib.Core.Path.{_≡_, refl, sym}
+use mathlib.Core.Bool.{Bool, true, false, cond, not, _&&_}
+use mathlib.Core.List.{List}
+use Prim.Native.Nat.{ℕ, _<_, _≤_}
 use native.Mathlib.Omega.{arith}
-use borrow.Author.Tests.{eqb-true, eq-eqb, ne-eqb}
+use borrow.Author.Tests.{eqb-true, eq-eqb}
 use lib.Dec.{eqb, leb→le}
 use lib.IntN.{ℤ, pos, negsuc}
 use lib.ListN.{length, getD}
-use lib.Signed.{mag, _≤ℤ_}
+use lib.Signed.{mag}
 use Rattle.language.specs.declared.members.Member.{Member}
 use Rattle.grammar.specs.KeptLimits.{InRange}
 use Rattle.values.specs.declared.Value.{Value}
 use Rattle.values.specs.declared.Value.the-variants.{Number, Window, Function, Delayed, Missing}
 use Rattle.values.specs.Apply.{isDelayed, apply0, apply1}
-use Rattle.values.specs.Kept.{Held, Inside, Reasoned, Kept}
+use Rattle.values.specs.Kept.{Kept}
 use Rattle.values.specs.KeptApply.{kept-apply0, kept-apply1}
-use Rattle.values.specs.Packing.{packOf, unpackOf, isPacked, isFunctionCell, isDelayedCell}
-use Rattle.values.specs.PackingLaws.{round, packed-above, kept-passes}
-use Rattle.meaning.specs.Forms.{Form, number, variable, unbound, readings, ask, call, function, same, within, works, nameOf}
+use Rattle.meaning.specs.Forms.{Form, number, variable, unbound, readings, ask, call, function, same, within}
 use Rattle.meaning.specs.FormsLaws.{no-way, either, or-right, same-self, within-self}
-use Rattle.meaning.specs.Evaluation.{Result, plain, runs, valueOf, runOf, Environment, nowhere, bind, pickValue, lookup, settled, functionOf, evaluate, hasName, joined, without, awaited, Shown, aNumber, aWindow, aFunction, aDelay, aReason, shownAs, shows}
-use Rattle.model.specs.Lists.{All}
+use Rattle.meaning.specs.Evaluation.{Result, plain, runs, valueOf, runOf, Environment, nowhere, bind, lookup, settled, functionOf, evaluate, hasName, awaited}
 use Rattle.model.specs.Cases.{impossible, split}
-use Rattle.table.specs.Memory.{Kept as Cells}
 use Rattle.table.specs.Nodes.{isName}
-use Rattle.table.specs.WellFormed.{namesRight}
-use Rattle.formulas.specs.Formulas.{IsReading}
 use Rattle.bridge.specs.Proper.{Proper, Has, joined-cases, joined-left, joined-right, has-without, has-kept}
-use Rattle.demand.specs.Holds.{keptFor, markOf, namesIn, shownIn}
 use Rattle.demand.specs.Delays.{delayed0, delayed1}
 
 -- every form at or below f is proper

@@ -1,15 +1,13 @@
 -- What a cache that was opened and kept holds, as a state of the reference model: its recording, the forms of its entries, and the kept
 -- results as marks; and how such a cache is arranged. Assumes nothing: these are definitions.
 use mathlib.Core.Path.{_≡_}
-use mathlib.Core.Bool.{Bool, true, false, cond}
-use mathlib.Core.List.{List, [], _∷_, map}
+use mathlib.Core.Bool.{true, cond}
+use mathlib.Core.List.{List, [], _∷_}
 use mathlib.Core.Option.{Option, none, some}
 use mathlib.Core.Logic.{_⊎_}
-use Prim.Native.Nat.{ℕ, zero, suc, _+_, _≤_, _<_, _^_}
+use Prim.Native.Nat.{ℕ, _≤_}
 use lib.Dec.{eqb}
-use lib.IntN.{ℤ}
-use lib.Signed.{mag}
-use lib.ListN.{length, getD}
+use lib.ListN.{getD}
 use Rattle.language.specs.Limits.{tableReadings}
 use Rattle.values.specs.declared.Value.{Value}
 use Rattle.values.specs.declared.Value.the-variants.{Number, Window, Function, Delayed, Missing}
@@ -19,7 +17,7 @@ use Rattle.meaning.specs.Evaluation.{Shown, aNumber, aWindow, aFunction, aDelay
 use Rattle.model.specs.Lists.{All}
 use Rattle.model.specs.Model as Model
 use Rattle.model.specs.Graph.{AllPlaced}
-use Rattle.table.specs.Memory.{Memory, Node, Kept, Entry, fits, entryCount, readingCount, recordingOf, entriesOf, nodesOf, nothingKept}
+use Rattle.table.specs.Memory.{Memory, Kept, Entry, fits, readingCount, recordingOf, entriesOf, nodesOf, nothingKept}
 use Rattle.formulas.specs.Formulas.{formulas}
 use Rattle.bridge.specs.Graphs.{nodes}
 use Rattle.bridge.specs.Recorded.{formsOf}

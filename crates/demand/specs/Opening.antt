@@ -1,13 +1,12 @@
 -- An open over memory of any contents answers as the model does and leaves an empty cache with the recording. Assumes nothing.
-use mathlib.Core.Path.{_≡_, refl, sym, ap, _∙_, subst}
-use mathlib.Core.Bool.{Bool, true, false, cond, not, _&&_}
-use mathlib.Core.List.{List, [], _∷_, _++_}
-use Prim.Native.Nat.{ℕ, zero, suc, _+_, _-_, _<_, _≤_}
+use mathlib.Core.Path.{_≡_, refl, sym, ap, _∙_}
+use mathlib.Core.Bool.{true}
+use mathlib.Core.List.{List, []}
+use Prim.Native.Nat.{ℕ, _-_, _<_, _≤_}
 use native.Mathlib.Omega.{arith}
 use borrow.Author.Tests.{lt-ltb, le-ltb}
-use lib.Dec.{ltb}
 use lib.IntN.{ℤ}
-use lib.ListN.{length, getD, set, drop, take, length-set, length-append, length-drop}
+use lib.ListN.{length, set, drop, length-set, length-append, length-drop}
 use lib.Seq.{getD-set-same, getD-set-other, take-at}
 use Rattle.language.specs.Limits.{tableReadings}
 use Rattle.model.specs.Graph.{decode}
@@ -16,7 +15,7 @@ use Rattle.model.specs.Model.{refused, opened}
 use Rattle.table.specs.Memory.{Memory, fits, entryCount, readingCount, recordingOf, entriesFrom, entriesOf}
 use Rattle.formulas.specs.Formulas.{formulas}
 use Rattle.engine.specs.Calls.{openedMemory, openAnswer, openMemory}
-use Rattle.demand.specs.Holds.{joined, holds, Ok}
+use Rattle.demand.specs.Holds.{joined, holds}
 use Rattle.demand.specs.Appended.{Lengths, lengths, long-enough}
 use Rattle.demand.specs.Editing.{Done}
 

@@ -1,27 +1,25 @@
 -- A table stands for one list of forms, the one that it decodes to; binding only appends; and what a cache holds has its forms.
 -- Assumes nothing.
-use mathlib.Core.Path.{_≡_, refl, sym, ap, _∙_, subst}
+use mathlib.Core.Path.{_≡_, refl, sym, ap, _∙_}
 use mathlib.Core.Bool.{Bool, true, false, cond}
 use mathlib.Core.List.{List, [], _∷_, _++_, map, append-nil, append-assoc}
-use mathlib.Core.Option.{Option, none, some}
+use mathlib.Core.Option.{none, some}
 use Prim.Native.Nat.{ℕ, zero, suc, _+_, _<_, _≤_}
 use native.Mathlib.Omega.{arith}
 use borrow.Author.Tests.{ltb-true, ltb-false}
 use lib.Dec.{ltb}
-use lib.ListN.{length, getD, getElem?, length-map}
+use lib.ListN.{length, getElem?, length-map}
 use Rattle.meaning.specs.Forms.{Form, readings}
-use Rattle.model.specs.Lists.{All}
 use Rattle.model.specs.Cases.{impossible, split}
-use Rattle.model.specs.ListLaws.{nth-below, nth-has, getD-nth}
-use Rattle.model.specs.Graph.{among, formAt, Placed, AllPlaced, Stands, decodes}
+use Rattle.model.specs.ListLaws.{nth-has, getD-nth}
+use Rattle.model.specs.Graph.{formAt, Placed, AllPlaced, Stands, decodes}
 use Rattle.model.specs.Model as Model
-use Rattle.table.specs.Memory.{Memory, Node, Entry, entryCount, entriesOf, nodesOf}
-use Rattle.table.specs.Nodes.{build, kids}
+use Rattle.table.specs.Memory.{Memory, Node, Entry, entriesOf, nodesOf}
 use Rattle.table.specs.Bind.{find, relink, Bound, bindOne, bindAll}
 use Rattle.formulas.specs.Formulas.{formulas}
 use Rattle.bridge.specs.Graphs.{nodes, graph-laws}
 use Rattle.bridge.specs.Recorded.{formsOf, length-forms}
-use Rattle.demand.specs.Holds.{joined, markOf, holds}
+use Rattle.demand.specs.Holds.{joined, markOf}
 use Rattle.demand.specs.Appended.{unworked}
 
 -- lists that are equal number by number

@@ -1,7 +1,7 @@
 -- What the proofs of the calls for C cite: the numbers of each case of an answer, and that a call's promise for C is its promise in numbers.
 -- Assumes nothing.
 use mathlib.Core.Path.{_≡_, refl, sym, ap, _∙_, subst}
-use mathlib.Core.Bool.{false, not, _&&_}
+use mathlib.Core.Bool.{_&&_}
 use mathlib.Core.List.{List}
 use Prim.Native.Nat.{ℕ, _≤_, _<_}
 use native.Mathlib.Omega.{arith}
@@ -15,7 +15,6 @@ use Rattle.grammar.specs.Reading.{Reading, tree, refused as refusedAt}
 use Rattle.grammar.specs.Machine.{readText}
 use Rattle.model.specs.Cases.{split}
 use Rattle.model.specs.Language.{rejected}
-use Rattle.model.specs.Model.{refused}
 use Rattle.table.specs.Memory.{Memory, fits}
 use Rattle.table.specs.WellFormed.{wellFormed}
 use Rattle.evaluator.specs.declared.works.View.{View}

@@ -1,22 +1,21 @@
 -- 01, "Four calls" and "When a call is declined": what open, edit and preview answer and what they leave in the lent memory, and what fetch
 -- hands out, for every text, recording, number and memory. Assumes nothing: these are definitions.
 use mathlib.Core.Bool.{Bool, true, false, cond, not, _&&_, _||_}
-use mathlib.Core.List.{List, [], _∷_, _++_, map}
-use Prim.Native.Nat.{ℕ, zero, suc, _-_}
+use mathlib.Core.List.{List, [], _++_, map}
+use Prim.Native.Nat.{ℕ, _-_}
 use lib.Dec.{leb, ltb}
 use lib.IntN.{ℤ}
 use lib.ListN.{length, getD, set, take, drop}
 use Rattle.language.specs.Limits.{textBytes, textParts, tableEntries, tableReadings}
-use Rattle.grammar.specs.Grammar.{Expression}
 use Rattle.grammar.specs.Reading.{Reading, tree, refused as refusedAt}
 use Rattle.grammar.specs.Machine.{readText}
 use Rattle.records.specs.Records.{Recorded, recordsOf}
-use Rattle.model.specs.Model.{Answer, refused, opened, edited, notYet, finished, written}
+use Rattle.model.specs.Model.{refused, opened, edited, written}
 use Rattle.formulas.specs.Formulas.{formulas}
 use Rattle.values.specs.declared.Value.{Value}
 use Rattle.values.specs.declared.Value.the-variants.{Number, Window, Function, Delayed, Missing}
 use Rattle.values.specs.Packing.{unpackOf}
-use Rattle.table.specs.Memory.{Memory, Node, fits, entryCount, readingCount, recordingOf, entriesOf, nodesOf}
+use Rattle.table.specs.Memory.{Memory, fits, entryCount, readingCount, recordingOf, entriesOf, nodesOf}
 use Rattle.table.specs.WellFormed.{wellFormed}
 use Rattle.table.specs.Bind.{Bound, bindAll, appendAll}
 use Rattle.evaluator.specs.Frames.{startAt}

@@ -1,12 +1,12 @@
 -- 01's small example of refusal 4, and others like it, computed: caches that no call leaves are declined, and an empty one is not.
 -- Assumes nothing.
 use mathlib.Core.Path.{_≡_, refl}
-use mathlib.Core.Bool.{Bool, true, false}
+use mathlib.Core.Bool.{true, false}
 use mathlib.Core.List.{List, [], _∷_, _++_, map}
-use Prim.Native.Nat.{ℕ, _^_}
-use lib.IntN.{ℤ, pos}
+use Prim.Native.Nat.{ℕ}
+use lib.IntN.{pos}
 use lib.ListN.{replicate, drop, length}
-use Rattle.language.specs.Names.{bytes, packOnto, packed, letWord, inWord!, dataWord}
+use Rattle.language.specs.Names.{bytes, packOnto, letWord, inWord!, dataWord}
 use Rattle.language.specs.Members.{row, memberAt}
 use Rattle.values.specs.Packing.{isPacked}
 use Rattle.meaning.specs.Evaluation.{hasName, joined, without}

@@ -1,6 +1,6 @@
 -- Laws of open, each with a premise for every call and test on the code's way: the test of the lent memory, the copy of the recording, and
 -- the answers. Assumes nothing.
-use mathlib.Core.Path.{_≡_, refl, sym, _∙_}
+use mathlib.Core.Path.{_≡_, sym, _∙_}
 use mathlib.Core.Bool.{Bool, true, false}
 use mathlib.Core.List.{List, _++_, append-assoc}
 use Prim.Native.Nat.{ℕ, suc, _+_, _≤_, _<_}

@@ -1,6 +1,6 @@
 -- The variables that an entry awaits, by the numbers of their entries: at most two, each one more than the entry's number, 0 for none,
 -- put together as the first times 65,536 plus the second, in the order of first occurrence. Assumes nothing: these are definitions.
-use mathlib.Core.Bool.{Bool, cond, not, _&&_, _||_}
+use mathlib.Core.Bool.{Bool, cond, _&&_, _||_}
 use mathlib.Core.List.{List}
 use Prim.Native.Nat.{ℕ, zero, suc, _+_, _*_, _-_, _/_, _%_}
 use lib.Dec.{leb, ltb, eqb}

@@ -1,6 +1,5 @@
 -- The language of formulas, as the reference model takes it: forms, what they show, and the reader. Assumes nothing: these are definitions.
-use mathlib.Core.List.{List}
-use Prim.Native.Nat.{ℕ, _<_, _^_}
+use Prim.Native.Nat.{_<_, _^_}
 use lib.IntN.{ℤ}
 use lib.Signed.{mag}
 use Rattle.grammar.specs.Reading.{Reading, tree, refused}

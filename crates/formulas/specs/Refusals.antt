@@ -5,13 +5,13 @@ use mathlib.Core.Path.{_≡_, refl}
 use mathlib.Core.Bool.{Bool, true, false}
 use mathlib.Core.List.{List, [], _∷_, map, _++_}
 use Prim.Native.Nat.{ℕ, zero, suc}
-use lib.IntN.{ℤ, pos}
-use lib.ListN.{length, replicate}
+use lib.IntN.{pos}
+use lib.ListN.{replicate}
 use Rattle.language.specs.Names.{bytes}
-use Rattle.meaning.specs.Forms.{Form, number}
+use Rattle.meaning.specs.Forms.{number}
 use Rattle.grammar.specs.Reading.{Reading, tree, refused as refusedAt}
 use Rattle.grammar.specs.Machine.{readText}
-use Rattle.model.specs.Model.{State, Entry, unmarked, Request, Open, Edit, Preview, Call, Answer, refused, opened, edited, notYet, finished, Outcome, start}
+use Rattle.model.specs.Model.{State, Entry, unmarked, Request, Open, Edit, Preview, Call, Answer, refused, edited, start}
 use Rattle.formulas.specs.Formulas.{formulas}
 use Rattle.formulas.specs.Computed.{run}
 use Rattle.formulas.specs.Samples.{recording, lent, editOf}

@@ -1,16 +1,15 @@
 -- 01, "Sample previews": the starred samples, as sessions of the reference model, and one computed check over the list.
 -- Assumes nothing.
 use mathlib.Core.Path.{_≡_, refl}
-use mathlib.Core.Bool.{Bool, true, false, cond, not, _&&_, _||_}
+use mathlib.Core.Bool.{true}
 use mathlib.Core.List.{List, [], _∷_, map}
 use Prim.Native.Nat.{ℕ}
-use Prim.Native.String.{String}
 use lib.IntN.{ℤ, pos, negsuc}
 use lib.ListN.{replicate}
 use Rattle.language.specs.Limits.{textParts}
 use Rattle.language.specs.Names.{bytes}
-use Rattle.meaning.specs.Evaluation.{Shown, aNumber, aWindow, aFunction, aDelay, aReason}
-use Rattle.model.specs.Model.{State, Request, Open, Edit, Preview, Call, Answer, refused, opened, edited, notYet, finished, Outcome, start}
+use Rattle.meaning.specs.Evaluation.{Shown, aNumber, aWindow, aReason}
+use Rattle.model.specs.Model.{State, Request, Edit, Preview, Call, Answer, edited, finished, Outcome, start}
 use Rattle.formulas.specs.Formulas.{formulas}
 use Rattle.formulas.specs.Computed.{run}
 

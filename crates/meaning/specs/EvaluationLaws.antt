@@ -1,17 +1,17 @@
 -- A run of a function puts the number for the variable in the body: evaluating the body where the variable stands for the number is
 -- evaluating the body with the number put for the variable (01, "Members"). Assumes nothing.
 use mathlib.Core.Path.{_≡_, refl, sym, ap, _∙_}
-use mathlib.Core.Bool.{Bool, true, false, cond, not, _&&_, _||_}
-use mathlib.Core.List.{List, [], _∷_}
+use mathlib.Core.Bool.{Bool, true, false, not}
+use mathlib.Core.List.{List}
 use Prim.Native.Nat.{ℕ}
 use borrow.Author.Tests.{eqb-true, eqb-false}
 use lib.Dec.{eqb}
 use lib.IntN.{ℤ, pos}
 use Rattle.values.specs.declared.Value.{Value}
-use Rattle.values.specs.declared.Value.the-variants.{Number, Window, Function, Delayed, Missing}
-use Rattle.values.specs.Apply.{apply0, apply1, isMissing, isDelayed}
+use Rattle.values.specs.declared.Value.the-variants.{Number, Delayed}
+use Rattle.values.specs.Apply.{isDelayed}
 use Rattle.meaning.specs.Forms.{Form, number, variable, unbound, readings, ask, call, function}
-use Rattle.meaning.specs.Evaluation.{Result, plain, runs, valueOf, runOf, Environment, nowhere, bind, pickValue, lookup, settled, functionOf, evaluate, putFor}
+use Rattle.meaning.specs.Evaluation.{Result, plain, valueOf, Environment, bind, pickValue, lookup, settled, functionOf, evaluate, putFor}
 
 -- by a test, with its value
 pub split : {A : Type 0} (b : Bool) → (b ≡ true → A) → (b ≡ false → A) → A

@@ -1,6 +1,6 @@
 -- 01, "Binding": let-free forms, when two are equal, and what lies below one. Names are packed numbers.
 -- Assumes nothing: these are definitions. That the test is equality is in FormsLaws.
-use mathlib.Core.Bool.{Bool, true, false, not, _&&_, _||_}
+use mathlib.Core.Bool.{Bool, true, false, _&&_, _||_}
 use Prim.Native.Nat.{ℕ}
 use lib.Dec.{eqb}
 use lib.IntN.{ℤ, pos}

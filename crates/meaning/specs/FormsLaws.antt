@@ -1,5 +1,5 @@
 -- The test `same` is equality of forms, and what lies within a form is the form itself or lies within a dependency. Assumes nothing.
-use mathlib.Core.Path.{_≡_, refl, sym, ap, _∙_, subst}
+use mathlib.Core.Path.{_≡_, refl, sym, ap, _∙_}
 use mathlib.Core.Logic.{_⊎_, inl, inr}
 use mathlib.Core.Bool.{Bool, true, false, _&&_, _||_}
 use Prim.Native.Nat.{ℕ, zero, suc}
@@ -8,12 +8,11 @@ use borrow.Author.Tests.{eqb-true, eq-eqb}
 use lib.Dec.{eqb}
 use lib.IntN.{ℤ, pos, negsuc}
 use Rattle.language.specs.Members.{memberNumber, members, foundIn}
-use Rattle.language.specs.declared.members.Found.{Found}
-use Rattle.language.specs.declared.members.Found.the-variants.{Is, Unknown}
+use Rattle.language.specs.declared.members.Found.the-variants.{Is}
 use Rattle.language.specs.declared.members.Member.{Member}
 use Rattle.language.specs.declared.members.Member.the-variants.{Add, Sub, Mul, Div, Gt, Eq, Skip, Take, Count, Sum, Min, Max, At, CountWhere, LongestRun, SumBy}
 use Rattle.values.specs.Values.{sameℤ}
-use Rattle.meaning.specs.Forms.{Form, number, variable, unbound, readings, ask, call, function, sameMember, shapeOf, integerOf, nameOf, memberOf, firstOf, secondOf, same, dependency, within, works}
+use Rattle.meaning.specs.Forms.{Form, number, variable, unbound, readings, ask, call, function, sameMember, shapeOf, integerOf, nameOf, memberOf, firstOf, secondOf, same, dependency, within}
 
 -- tests on Bool
 pub no-way : {A : Type 0} → false ≡ true → A

@@ -14,7 +14,7 @@ use Rattle.grammar.specs.Grammar.{Expression, Calls, Arguments, More, letIn, la
 use Rattle.grammar.specs.Faults.{Around}
 use Rattle.grammar.specs.KeptLimits.{Site, aLet, aLambda, aBracket, aName, aNumber, aCall}
 use Rattle.meaning.specs.Forms.{Form, number, variable, unbound, readings, ask, function}
-use Rattle.meaning.specs.Binding.{Meaning, means, pickForm, named, asLambda, formE}
+use Rattle.meaning.specs.Binding.{Meaning, means, pickForm, asLambda, formE}
 use Rattle.meaning.specs.Evaluation.{hasName, awaited}
 
 abbrev pub hole : Form

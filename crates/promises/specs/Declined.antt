@@ -1,6 +1,6 @@
 -- Demand 1: a declined call changes no lent memory. Assumes nothing.
-use mathlib.Core.Path.{_≡_, refl, sym, ap, _∙_}
-use mathlib.Core.Bool.{Bool, true, false, cond, not, _&&_, _||_}
+use mathlib.Core.Path.{_≡_, refl, ap}
+use mathlib.Core.Bool.{true, false, _&&_}
 use mathlib.Core.List.{List}
 use Prim.Native.Nat.{ℕ}
 use lib.Dec.{leb, ltb}
@@ -10,14 +10,13 @@ use Rattle.language.specs.Limits.{textBytes, textParts, tableReadings}
 use Rattle.grammar.specs.Reading.{Reading, tree, refused as refusedAt}
 use Rattle.grammar.specs.Machine.{readText}
 use Rattle.model.specs.Cases.{impossible, split}
-use Rattle.model.specs.Model.{refused, opened, edited, written}
+use Rattle.model.specs.Model.{refused, opened, written}
 use Rattle.table.specs.Memory.{Memory, fits, entryCount}
 use Rattle.table.specs.WellFormed.{wellFormed}
 use Rattle.records.specs.Records.{recordsOf}
 use Rattle.formulas.specs.Formulas.{formulas}
 use Rattle.evaluator.specs.Works.{Work}
-use Rattle.engine.specs.declared.answers.Previewed.{Previewed}
-use Rattle.engine.specs.declared.answers.Previewed.the-variants.{NotYet, Finished, Refused}
+use Rattle.engine.specs.declared.answers.Previewed.the-variants.{NotYet, Refused}
 use Rattle.engine.specs.Answers.{Reply}
 use Rattle.engine.specs.Calls.{tooMany, boundTo, readAnswer, readMemory, openAnswer, openMemory, editAnswer, editMemory, editPlaces, workOn, previewedAs, previewed, previewMemory}
 

@@ -1,6 +1,6 @@
 -- Cells lent beyond the sizes, and places past the part count, keep their contents whatever is called. Assumes nothing.
 use mathlib.Core.Path.{_≡_, refl, sym, ap, _∙_}
-use mathlib.Core.Bool.{Bool, true, false, cond, not, _&&_, _||_}
+use mathlib.Core.Bool.{Bool, true, false, _&&_}
 use mathlib.Core.List.{List, [], _∷_, _++_}
 use Prim.Native.Nat.{ℕ, zero, suc, _+_, _*_, _-_, _≤_, _<_}
 use native.Mathlib.Omega.{arith}
@@ -17,10 +17,10 @@ use Rattle.model.specs.Cases.{impossible, split}
 use Rattle.table.specs.Memory.{Memory, Node, fits, entryCount}
 use Rattle.table.specs.WellFormed.{wellFormed}
 use Rattle.table.specs.Bind.{Bound, append, appendAll}
-use Rattle.evaluator.specs.Works.{chosen, nameFor, otherFor, keepOf, kept, Work, workFrom, worked}
+use Rattle.evaluator.specs.Works.{chosen, nameFor, otherFor, keepOf, kept, workFrom, worked}
 use Rattle.records.specs.Records.{recordsOf}
-use Rattle.engine.specs.Calls.{openedMemory, openMemory, boundTo, tooMany, editedMemory, readMemory, declines, editMemory, workOn, workedMemory, previewMemory}
-use Rattle.demand.specs.Appended.{Lengths, lengths}
+use Rattle.engine.specs.Calls.{openedMemory, openMemory, boundTo, tooMany, editedMemory, readMemory, editMemory, workOn, workedMemory, previewMemory}
+use Rattle.demand.specs.Appended.{lengths}
 
 pub record Outside (m n : Memory) : Type 0 where
   pub readings : drop tableReadings (n .readings) ≡ drop tableReadings (m .readings)

@@ -1,14 +1,13 @@
 -- How many entries a preview works out: those that are chosen, up to the allowance; and it says whether some are left. Assumes nothing.
 use mathlib.Core.Path.{_≡_, refl, sym, ap, _∙_}
-use mathlib.Core.Bool.{Bool, true, false, cond, _&&_}
+use mathlib.Core.Bool.{cond}
 use mathlib.Core.List.{List}
 use Prim.Native.Nat.{ℕ, zero, suc, _+_, _-_, _≤_, _<_, min}
 use native.Mathlib.Omega.{arith}
 use borrow.Author.Tests.{ltb-true, ltb-false, lt-ltb, le-ltb}
-use lib.Dec.{leb, ltb, eqb}
-use lib.ListN.{getD, set}
+use lib.Dec.{ltb}
+use lib.ListN.{set}
 use lib.Seq.{getD-set-other}
-use Rattle.evaluator.specs.Links.{kindAt}
 use Rattle.evaluator.specs.Works.{chosen, workFrom}
 use Rattle.refine.specs.Free.{split}
 

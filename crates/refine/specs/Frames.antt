@@ -20,7 +20,7 @@ use Rattle.values.specs.Packing.{packOf, unpackOf}
 use Rattle.values.specs.PackingLaws.{round}
 use Rattle.values.specs.Tallies as Tallies
 use Rattle.values.specs.TallyLaws.{stopped-stays}
-use Rattle.meaning.specs.Forms.{Form, variable, readings, function}
+use Rattle.meaning.specs.Forms.{Form, variable}
 use Rattle.meaning.specs.Evaluation.{valueOf, Environment, bind, lookup, evaluate, awaited, hasName}
 use Rattle.evaluator.specs.Links.{kindAt, firstAt, secondAt, keyAt}
 use Rattle.evaluator.specs.Waits.{awaits}

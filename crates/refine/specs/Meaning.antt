@@ -33,7 +33,7 @@ use Rattle.values.specs.Tallies.{begun}
 use Rattle.values.specs.Tallies as Tallies
 use Rattle.values.specs.TallyLaws.{finished-is}
 use Rattle.values.specs.Windows.{readingsIn}
-use Rattle.meaning.specs.Forms.{Form, number, variable, readings, ask, call, function}
+use Rattle.meaning.specs.Forms.{Form, variable, ask, call, function}
 use Rattle.meaning.specs.Evaluation.{Result, plain, runs, valueOf, runOf, Environment, nowhere, bind, lookup, settled, functionOf, evaluate, awaited, hasName}
 use Rattle.table.specs.Nodes.{memberKind, memberOfKind}
 use Rattle.evaluator.specs.Links.{kindAt, firstAt, secondAt, keyAt}

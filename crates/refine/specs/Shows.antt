@@ -1,6 +1,6 @@
 -- The cells that are kept for an entry show what its form shows: the number, the window, the function's name, the awaited names in the order
 -- of first occurrence, or the reason. Assumes nothing.
-use mathlib.Core.Path.{_≡_, refl, sym, ap, _∙_}
+use mathlib.Core.Path.{_≡_, refl, ap, _∙_}
 use mathlib.Core.Bool.{Bool, true, false, cond}
 use mathlib.Core.List.{List, [], _∷_}
 use Prim.Native.Nat.{ℕ, suc, _+_, _*_, _-_, _≤_}

@@ -1,11 +1,10 @@
 -- 01, "Members": the members on a number, over the integers. Assumes nothing: these are definitions.
-use Prim.Native.Nat.{ℕ}
 use lib.IntN.{ℤ, pos, _+ℤ_, _-ℤ_, _*ℤ_}
 use lib.Signed.{ltZ, quotZ}
 use Rattle.language.specs.declared.members.Member.{Member}
 use Rattle.language.specs.declared.members.Member.the-variants.{Add, Sub, Mul, Div, Gt, Eq, Skip, Take, Count, Sum, Min, Max, At, CountWhere, LongestRun, SumBy}
 use Rattle.values.specs.declared.Value.{Value}
-use Rattle.values.specs.declared.Value.the-variants.{Number, Missing}
+use Rattle.values.specs.declared.Value.the-variants.{Missing}
 use Rattle.values.specs.Values.{pick, ranged, flag, sameℤ, wrongKind, divisionByZero}
 
 -- the quotient's rounding, towards zero: what div gives where the divisor is not zero

@@ -1,6 +1,6 @@
 -- A value as one cell of memory, and back: a tag times 2^33, and below that the number plus 2^31 plus 1, or the window's fields, or the
 -- reason. 0 is no value: not worked out. Numbers come before windows, functions, delays and reasons. Assumes nothing: these are definitions.
-use mathlib.Core.Bool.{Bool, true, false, _&&_, _||_}
+use mathlib.Core.Bool.{Bool, _&&_, _||_}
 use Prim.Native.Nat.{ℕ, suc, _+_, _-_, _*_, _/_, _%_}
 use lib.Dec.{leb, ltb, eqb}
 use lib.IntN.{ℤ, pos, natAbs, _+ℤ_, _-ℤ_}

@@ -1,5 +1,5 @@
 -- 01, "Members": what an entry comes to, and the reasons why nothing is shown. Assumes nothing: these are definitions.
-use mathlib.Core.Bool.{Bool, true, false, _||_}
+use mathlib.Core.Bool.{Bool, true, false}
 use Prim.Native.Nat.{ℕ}
 use lib.Dec.{eqb}
 use lib.IntN.{ℤ, pos, negsuc}

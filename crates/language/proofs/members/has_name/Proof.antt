@@ -1,8 +1,8 @@
 -- A word of another length or with another byte is not the name; after the loop every byte is the name's. Assumes nothing.
-use mathlib.Core.Path.{_≡_, sym, _∙_}
+use mathlib.Core.Path.{_≡_, sym}
 use Prim.Native.Nat.{ℕ, _-_, _≤_, _<_}
 use native.Mathlib.Omega.{arith}
-use lib.ListN.{length, getD}
+use lib.ListN.{getD}
 use borrow.Author.Count.{below-more}
 use Rattle.language.specs.MembersLaws.{other-length, other-byte, all-bytes}
 use Rattle.language.proofs.members.has_name.Statement.{statement}

@@ -1,9 +1,6 @@
 -- The name of the member with that number, and no bytes where there is none. Assumes nothing.
-use mathlib.Core.Path.{_≡_, sym, ap, _∙_}
-use native.Mathlib.Omega.{arith}
+use mathlib.Core.Path.{sym, _∙_}
 use borrow.Author.Needs.{needs}
-use lib.ListN.{length, take}
-use Rattle.language.specs.Members.{sameBytes}
 use Rattle.language.specs.MembersLaws.{row-short, row-full, named-row, named-none}
 use Rattle.language.proofs.members.is_named.Statement.{statement}
 use Rattle.language.proofs.members.is_named.Tie as tie
