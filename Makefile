@@ -1,6 +1,7 @@
 # make run: the watch's formula screen in the terminal; RECORDING=path for another recording. Formulas are read line by line.
 # make samples: the sample previews by the plain evaluator; TEXT='data.sum()' for one formula.
-# make test: the gate. make bench: benchmarks. make check-shell: the stored example. make sanitize: the screen under sanitizers.
+# make test: the gate. make check-shell: the stored example. make sanitize: the screen under sanitizers.
+# make bench: benchmarks; writes docs/benchmarks/figures.csv, and from it the tables and plots of docs/BENCHMARKS.md.
 RT = rt
 CC = cc
 STRICT = -std=c99 -pedantic -Wall -Wextra -Werror
@@ -21,6 +22,7 @@ test:
 	.ci/run
 
 bench:
+	$(RT) staticlib engine
 	$(RT) staticlib measured
 	cargo run --quiet --release --offline --manifest-path host/bench/Cargo.toml
 

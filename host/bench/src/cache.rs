@@ -1,4 +1,9 @@
-//! A cache's memory, built by hand as docs/MEMORY.md says.
+//! A cache's memory as docs/MEMORY.md says: built by hand, or by the engine's calls.
+
+use crate::proved;
+use crate::tree::Shown;
+use engine::ffi::{self, EditAnswer, PreviewAnswer};
+use engine::memory::{CELLS, LINKS, READINGS};
 
 pub const NUMBER: u16 = 0;
 pub const VARIABLE: u16 = 1;
@@ -11,6 +16,7 @@ pub const COUNT_WHERE: u16 = 18;
 pub const SUM_BY: u16 = 20;
 
 pub const ENTRIES: usize = 512;
+const PLACES: usize = 128;
 
 #[derive(Clone)]
 pub struct Cache {
@@ -26,13 +32,21 @@ pub fn packed(name: &str) -> u64 {
 }
 
 impl Cache {
-    pub fn new(readings: &[i32]) -> Cache {
-        Cache {
-            readings: readings.to_vec(),
-            heads: [0, readings.len() as u32],
-            links: vec![0; 3 * ENTRIES],
-            cells: vec![0; 4 * ENTRIES],
-        }
+    pub fn new(recording: &[i32]) -> Cache {
+        let mut readings = recording.to_vec();
+        readings.resize(READINGS, 0);
+        let heads = [0, recording.len() as u32];
+        Cache { readings, heads, links: vec![0; LINKS], cells: vec![0; CELLS] }
+    }
+
+    pub fn recording(&self) -> &[i32] {
+        &self.readings[..self.heads[1] as usize]
+    }
+
+    /// Works an entry out by the part of the engine that does so.
+    pub fn work(&mut self, entry: u16) -> (u64, bool) {
+        let recording = &self.readings[..self.heads[1] as usize];
+        proved::work(recording, &self.links, &mut self.cells, entry, u32::MAX)
     }
 
     /// A new entry; each dependency is an entry's number.
@@ -68,5 +82,92 @@ impl Cache {
     /// The number that is kept for an entry.
     pub fn kept(&self, entry: u16) -> i64 {
         self.cells[4 * entry as usize + 1] as i64 - 1 - (1 << 31)
+    }
+
+    pub fn open(&mut self, recording: &[i32]) {
+        // SAFETY: each pointer and length are those of one live slice, and no two overlap.
+        let refusal = unsafe {
+            ffi::formula_open(
+                recording.as_ptr(),
+                recording.len(),
+                self.readings.as_mut_ptr(),
+                self.readings.len(),
+                self.heads.as_mut_ptr(),
+                self.heads.len(),
+                self.links.as_ptr(),
+                self.links.len(),
+                self.cells.as_ptr(),
+                self.cells.len(),
+            )
+        };
+        assert_eq!(refusal, 0);
+    }
+
+    pub fn edit(&mut self, text: &[u8]) -> EditAnswer {
+        let mut places = [0; PLACES];
+        // SAFETY: each pointer and length are those of one live slice, and no two overlap.
+        unsafe {
+            ffi::formula_edit(
+                text.as_ptr(),
+                text.len(),
+                places.as_mut_ptr(),
+                places.len(),
+                self.readings.as_ptr(),
+                self.readings.len(),
+                self.heads.as_mut_ptr(),
+                self.heads.len(),
+                self.links.as_mut_ptr(),
+                self.links.len(),
+                self.cells.as_mut_ptr(),
+                self.cells.len(),
+            )
+        }
+    }
+
+    pub fn preview(&mut self, entry: u32) -> PreviewAnswer {
+        // SAFETY: each pointer and length are those of one live slice, and no two overlap.
+        unsafe {
+            ffi::formula_preview(
+                entry,
+                u32::MAX,
+                self.readings.as_ptr(),
+                self.readings.len(),
+                self.heads.as_ptr(),
+                self.heads.len(),
+                self.links.as_ptr(),
+                self.links.len(),
+                self.cells.as_mut_ptr(),
+                self.cells.len(),
+            )
+        }
+    }
+
+    /// Edits a text and previews the whole of it to the end, if it is accepted.
+    pub fn show(&mut self, text: &[u8]) -> Result<PreviewAnswer, u32> {
+        let edited = self.edit(text);
+        if edited.refusal != 0 {
+            return Err(edited.refusal);
+        }
+        Ok(self.preview(edited.whole))
+    }
+
+    /// Goes back to an earlier state of this cache: its entries and what they keep. Cells past them are never read.
+    pub fn restore(&mut self, earlier: &Cache) {
+        let count = earlier.heads[0] as usize;
+        self.heads = earlier.heads;
+        self.links[..3 * count].copy_from_slice(&earlier.links[..3 * count]);
+        self.cells[..4 * count].copy_from_slice(&earlier.cells[..4 * count]);
+    }
+}
+
+/// What a finished preview shows.
+pub fn shown(answer: PreviewAnswer) -> Shown {
+    assert_eq!((answer.refusal, answer.finished), (0, 1));
+    match answer.kind {
+        1 => Shown::Number(answer.first),
+        2 => Shown::Window(answer.first as u32, answer.second),
+        3 => Shown::Function(answer.name),
+        5 => Shown::Missing(answer.first as u8),
+        kind => panic!("kind {kind} is not shown by a whole text"),
     }
 }

@@ -1,40 +1,45 @@
-//! The same formulas in Lua 5.4 with closures, where `lua5.4` is installed.
+//! The same formulas in Lua 5.4 and LuaJIT, where these are installed: `lua/measure.lua` runs and times them.
 
-use std::process::Command;
+use std::process::{Command, Stdio};
 
-const PROGRAM: &str = r#"
-local data = {}
-for i = 0, 1023 do data[i + 1] = 140 + (i * 37 % 101) - 50 end
-local function countWhere(w, f)
-  local n = 0
-  for i = 1, #w do if f(w[i]) ~= 0 then n = n + 1 end end
-  return n
-end
-local function sumBy(w, f)
-  local n = 0
-  for i = 1, #w do n = n + f(w[i]) end
-  return n
-end
-local formulas = {
-  nested = function()
-    return sumBy(data, function(p) return countWhere(data, function(q) return q > p and 1 or 0 end) end)
-  end,
-  single = function() return countWhere(data, function(b) return b > 150 and 1 or 0 end) end,
+const SCRIPT: &str = concat!(env!("CARGO_MANIFEST_DIR"), "/lua/measure.lua");
+
+/// A program, and whether a formula is loaded once before it is evaluated. Otherwise its text is loaded each time, as an edit reads it.
+pub struct Side {
+    pub name: &'static str,
+    program: &'static str,
+    is_loaded: bool,
 }
-local run, best, value = formulas[formula], math.huge, nil
-for _ = 1, 15 do
-  local begun = os.clock()
-  for _ = 1, calls do value = run() end
-  best = math.min(best, (os.clock() - begun) / calls)
-end
-print(value, string.format("%.1f", best * 1e9))
-"#;
 
-/// What the formula gives and the best nanoseconds a call; none where Lua is not installed.
-pub fn best(formula: &str, calls: u32) -> Option<(i64, f64)> {
-    let chosen = format!("formula, calls = '{formula}', {calls}");
-    let output = Command::new("lua5.4").args(["-e", &chosen, "-e", PROGRAM]).output().ok()?;
+pub const SIDES: [Side; 4] = [
+    Side { name: "Lua 5.4", program: "lua5.4", is_loaded: false },
+    Side { name: "Lua 5.4 loaded", program: "lua5.4", is_loaded: true },
+    Side { name: "LuaJIT", program: "luajit", is_loaded: false },
+    Side { name: "LuaJIT loaded", program: "luajit", is_loaded: true },
+];
+
+/// The program's version, if it is installed.
+pub fn version(program: &str) -> Option<String> {
+    let output = Command::new(program).arg("-v").stderr(Stdio::null()).output().ok()?;
     let text = String::from_utf8(output.stdout).ok()?;
-    let mut words = text.split_whitespace();
-    Some((words.next()?.parse().ok()?, words.next()?.parse().ok()?))
+    Some(text.split_whitespace().take(2).collect::<Vec<_>>().join(" "))
+}
+
+impl Side {
+    pub fn is_installed(&self) -> bool {
+        version(self.program).is_some()
+    }
+
+    /// The nanoseconds of an evaluation, and what it gives. Fewer calls fill a batch where the text is loaded.
+    pub fn run(&self, calls: u32, readings: &str, text: &str) -> (f64, String) {
+        let (mode, calls) =
+            if self.is_loaded { ("loaded", calls) } else { ("text", calls.div_ceil(8)) };
+        let output = Command::new(self.program)
+            .args([SCRIPT, mode, &calls.to_string(), readings, text])
+            .output()
+            .expect("it is installed");
+        let output = String::from_utf8(output.stdout).expect("it writes text");
+        let (nanoseconds, value) = output.trim().split_once(' ').expect("it writes two words");
+        (nanoseconds.parse().expect("the first is a number"), value.to_string())
+    }
 }

@@ -1,5 +1,5 @@
-//! A reader as one would write it in Rust: recursive descent with one token of lookahead, which writes the same records and places as the
-//! proved one and gives the same refusals.
+//! A reader as one would write it in Rust: recursive descent with one token of lookahead, which gives the same refusals as the proved one.
+//! It builds the same records and places, or a tree.
 
 const PARTS: usize = 128;
 const MARKS: usize = 16;
@@ -25,15 +25,85 @@ pub struct Counts {
     pub records: usize,
 }
 
+/// What the parts of a text are read into.
+pub trait Builder {
+    type Part;
+    /// What a let's name stands for in the let's body.
+    type Bound: Copy;
+    /// The part at a place: its kind, its key, and what it depends on.
+    fn part(&mut self, place: usize, node: Node<Self::Part>) -> Self::Part;
+    fn bound(&self, value: &Self::Part) -> Self::Bound;
+    /// A use of a let's name.
+    fn used(&mut self, place: usize, name: u64, bound: Self::Bound) -> Self::Part;
+    fn let_in(
+        &mut self,
+        place: usize,
+        name: u64,
+        value: Self::Part,
+        body: Self::Part,
+    ) -> Self::Part;
+}
+
+/// A number, a name that no let binds, the recording, a function with its name and body, or a member with its receiver and argument.
+pub enum Node<P> {
+    Number(i32),
+    Variable(u64),
+    Unbound(u64),
+    Data,
+    Function(u64, P),
+    Member(u64, P, Option<P>),
+}
+
 /// Two words a record, and the record of each part.
 pub struct Output {
     pub records: [u64; 256],
     pub places: [u16; 128],
+    count: usize,
 }
 
 impl Output {
     pub fn new() -> Output {
-        Output { records: [0; 256], places: [0; 128] }
+        Output { records: [0; 256], places: [0; 128], count: 0 }
+    }
+}
+
+impl Builder for Output {
+    /// The record's number.
+    type Part = usize;
+    type Bound = usize;
+
+    /// A link is one more than a record, 0 for none.
+    fn part(&mut self, place: usize, node: Node<usize>) -> usize {
+        let (kind, key, first, second) = match node {
+            Node::Number(value) => (0, (i64::from(value) + (1 << 31)) as u64, 0, 0),
+            Node::Variable(name) => (VARIABLE, name, 0, 0),
+            Node::Unbound(name) => (UNBOUND, name, 0, 0),
+            Node::Data => (RECORDING, 0, 0, 0),
+            Node::Function(name, body) => (FUNCTION, name, body + 1, 0),
+            Node::Member(member, receiver, argument) => {
+                (MEMBERS + member, 0, receiver + 1, argument.map_or(0, |record| record + 1))
+            }
+        };
+        let n = self.count;
+        self.records[2 * n] = kind | (first as u64) << 5 | (second as u64) << 13;
+        self.records[2 * n + 1] = key;
+        self.places[place] = n as u16;
+        self.count += 1;
+        n
+    }
+
+    fn bound(&self, value: &usize) -> usize {
+        *value
+    }
+
+    fn used(&mut self, place: usize, _name: u64, bound: usize) -> usize {
+        self.places[place] = bound as u16;
+        bound
+    }
+
+    fn let_in(&mut self, place: usize, _name: u64, _value: usize, body: usize) -> usize {
+        self.places[place] = body as u16;
+        body
     }
 }
 
@@ -61,39 +131,44 @@ struct Token {
     end: usize,
 }
 
-/// What a name stands for: a lambda's variable, or the record of a let's value.
+/// What a name stands for: a lambda's variable, or a let's value.
 #[derive(Clone, Copy)]
-enum Binder {
+enum Binder<B> {
     Variable,
-    Record(usize),
+    Value(B),
 }
 
-struct Reader<'a> {
+struct Reader<'a, B: Builder> {
     text: &'a [u8],
     token: Token,
     parts: usize,
-    count: usize,
     marks: usize,
     lambdas: usize,
-    scope: Vec<(u64, Binder)>,
-    output: &'a mut Output,
+    scope: Vec<(u64, Binder<B::Bound>)>,
+    builder: &'a mut B,
 }
 
-/// Reads a whole text.
+/// Reads a whole text into records.
 pub fn read(text: &[u8], output: &mut Output) -> Result<Counts, Refusal> {
+    output.count = 0;
+    let (_, parts) = read_into(text, output)?;
+    Ok(Counts { parts, records: output.count })
+}
+
+/// Reads a whole text: what is built for it, and how many parts it has.
+pub fn read_into<B: Builder>(text: &[u8], builder: &mut B) -> Result<(B::Part, usize), Refusal> {
     let mut reader = Reader {
         text,
         token: token_at(text, 0),
         parts: 0,
-        count: 0,
         marks: 0,
         lambdas: 0,
         scope: Vec::with_capacity(MARKS),
-        output,
+        builder,
     };
-    reader.expression(false)?;
+    let whole = reader.expression(false)?;
     reader.expect(Kind::End)?;
-    Ok(Counts { parts: reader.parts, records: reader.count })
+    Ok((whole, reader.parts))
 }
 
 /// What a byte can be in a token.
@@ -202,7 +277,7 @@ fn member_of(word: &[u8]) -> Option<(u64, usize)> {
 
 type Step<T> = Result<T, Refusal>;
 
-impl Reader<'_> {
+impl<B: Builder> Reader<'_, B> {
     fn refuse<T>(&self, number: u8) -> Step<T> {
         Err(Refusal { number, place: self.token.start as u16 })
     }
@@ -240,18 +315,8 @@ impl Reader<'_> {
         Ok(())
     }
 
-    /// A record for the part at a place; a link is one more than a record, 0 for none.
-    fn put(&mut self, place: usize, kind: u64, key: u64, first: usize, second: usize) -> usize {
-        let n = self.count;
-        self.output.records[2 * n] = kind | (first as u64) << 5 | (second as u64) << 13;
-        self.output.records[2 * n + 1] = key;
-        self.output.places[place] = n as u16;
-        self.count += 1;
-        n
-    }
-
     /// `w`: one stands where a member takes no argument.
-    fn expression(&mut self, w: bool) -> Step<usize> {
+    fn expression(&mut self, w: bool) -> Step<B::Part> {
         match self.token.kind {
             Kind::Let if w => self.refuse(9),
             Kind::Let => self.let_in(),
@@ -288,7 +353,7 @@ impl Reader<'_> {
         }
         let key = packed(word);
         let taken =
-            |(name, binder): &(u64, Binder)| *name == key && matches!(binder, Binder::Variable);
+            |(name, binder): &(u64, Binder<_>)| *name == key && matches!(binder, Binder::Variable);
         if is_lambda && self.scope.iter().any(taken) {
             return self.refuse(11);
         }
@@ -296,7 +361,7 @@ impl Reader<'_> {
         Ok(key)
     }
 
-    fn let_in(&mut self) -> Step<usize> {
+    fn let_in(&mut self) -> Step<B::Part> {
         self.open_mark()?;
         let place = self.part()?;
         self.advance();
@@ -304,15 +369,14 @@ impl Reader<'_> {
         self.expect(Kind::Equals)?;
         let value = self.expression(false)?;
         self.expect(Kind::In)?;
-        self.scope.push((name, Binder::Record(value)));
+        self.scope.push((name, Binder::Value(self.builder.bound(&value))));
         let body = self.expression(false)?;
         self.scope.pop();
         self.marks -= 1;
-        self.output.places[place] = body as u16;
-        Ok(body)
+        Ok(self.builder.let_in(place, name, value, body))
     }
 
-    fn lambda(&mut self) -> Step<usize> {
+    fn lambda(&mut self) -> Step<B::Part> {
         if self.lambdas == LAMBDAS {
             return self.refuse(10);
         }
@@ -327,10 +391,10 @@ impl Reader<'_> {
         self.scope.pop();
         self.lambdas -= 1;
         self.marks -= 1;
-        Ok(self.put(place, FUNCTION, name, body + 1, 0))
+        Ok(self.builder.part(place, Node::Function(name, body)))
     }
 
-    fn bracket(&mut self) -> Step<usize> {
+    fn bracket(&mut self) -> Step<B::Part> {
         self.open_mark()?;
         self.advance();
         let inner = self.expression(false)?;
@@ -339,7 +403,7 @@ impl Reader<'_> {
         Ok(inner)
     }
 
-    fn name(&mut self, w: bool) -> Step<usize> {
+    fn name(&mut self, w: bool) -> Step<B::Part> {
         let word = self.word();
         if word.len() > NAME_BYTES {
             return self.refuse(7);
@@ -351,20 +415,16 @@ impl Reader<'_> {
         let place = self.part()?;
         self.advance();
         if is_data {
-            return Ok(self.put(place, RECORDING, 0, 0, 0));
+            return Ok(self.builder.part(place, Node::Data));
         }
-        match self.scope.iter().rev().find(|(name, _)| *name == key) {
-            Some((_, Binder::Record(record))) => {
-                let record = *record;
-                self.output.places[place] = record as u16;
-                Ok(record)
-            }
-            Some((_, Binder::Variable)) => Ok(self.put(place, VARIABLE, key, 0, 0)),
-            None => Ok(self.put(place, UNBOUND, key, 0, 0)),
-        }
+        Ok(match self.scope.iter().rev().find(|(name, _)| *name == key) {
+            Some((_, Binder::Value(bound))) => self.builder.used(place, key, *bound),
+            Some((_, Binder::Variable)) => self.builder.part(place, Node::Variable(key)),
+            None => self.builder.part(place, Node::Unbound(key)),
+        })
     }
 
-    fn number(&mut self, w: bool) -> Step<usize> {
+    fn number(&mut self, w: bool) -> Step<B::Part> {
         let Some(value) = value_of(self.word()) else {
             return self.refuse(6);
         };
@@ -373,17 +433,17 @@ impl Reader<'_> {
         }
         let place = self.part()?;
         self.advance();
-        Ok(self.put(place, 0, (i64::from(value) + (1 << 31)) as u64, 0, 0))
+        Ok(self.builder.part(place, Node::Number(value)))
     }
 
-    fn calls(&mut self, mut receiver: usize) -> Step<usize> {
+    fn calls(&mut self, mut receiver: B::Part) -> Step<B::Part> {
         while self.token.kind == Kind::Dot {
             receiver = self.call(receiver)?;
         }
         Ok(receiver)
     }
 
-    fn call(&mut self, receiver: usize) -> Step<usize> {
+    fn call(&mut self, receiver: B::Part) -> Step<B::Part> {
         let place = self.part()?;
         self.advance();
         if self.token.kind != Kind::Word {
@@ -400,22 +460,20 @@ impl Reader<'_> {
         self.advance();
         let argument = self.arguments(takes)?;
         self.marks -= 1;
-        Ok(self.put(place, MEMBERS + member, 0, receiver + 1, argument))
+        Ok(self.builder.part(place, Node::Member(member, receiver, argument)))
     }
 
-    /// The arguments and the bracket behind them: one more than the first argument's record, 0 for none.
-    fn arguments(&mut self, takes: usize) -> Step<usize> {
-        let mut given = 0;
-        let mut first = 0;
-        if self.token.kind != Kind::Shut {
-            first = self.expression(takes == 0)? + 1;
-            given = 1;
-        }
+    /// The argument, if one is given, and the bracket behind it.
+    fn arguments(&mut self, takes: usize) -> Step<Option<B::Part>> {
+        let given = match self.token.kind {
+            Kind::Shut => None,
+            _ => Some(self.expression(takes == 0)?),
+        };
         match self.token.kind {
-            Kind::Shut if given < takes => self.refuse(9),
+            Kind::Shut if given.is_none() && takes > 0 => self.refuse(9),
             Kind::Shut => {
                 self.advance();
-                Ok(first)
+                Ok(given)
             }
             // every member takes one argument at most
             Kind::Comma => self.refuse(9),

@@ -1,5 +1,6 @@
 //! Reading a text of 1,024 bytes, against a reader written by hand.
 
+use crate::figures::Figures;
 use crate::reader::{self, Counts, Output, Refusal};
 use crate::{proved, texts, timing};
 use std::hint::black_box;
@@ -44,8 +45,7 @@ fn agree_on_damaged(text: &[u8], rounds: u32) {
     }
 }
 
-pub fn measure() {
-    timing::heading("reading 1,024 bytes, 128 parts", "proved ns", "plain ns");
+pub fn measure(figures: &mut Figures) {
     for (name, text) in [("dense", texts::dense()), ("with blanks", texts::spaced())] {
         assert_eq!(agree(&text).map(|counts| counts.parts), Ok(128));
         agree_on_damaged(&text, 2_000);
@@ -55,7 +55,7 @@ pub fn measure() {
             || proved_read(black_box(&text), &mut ours),
             || reader::read(black_box(&text), &mut theirs),
         );
-        timing::line(name, times, Some(3.0));
+        figures.part(&format!("reading 1,024 bytes and 128 parts, {name}"), times, Some(3.0));
     }
     for text in [
         texts::nested_calls(),

@@ -3,6 +3,7 @@
 use crate::cache::{
     ADD, COUNT_WHERE, Cache, DATA, ENTRIES, FUNCTION, GT, NUMBER, SUM_BY, TAKE, VARIABLE, packed,
 };
+use crate::figures::Figures;
 use crate::{proved, table, timing};
 use std::hint::black_box;
 
@@ -35,7 +36,7 @@ pub fn full(readings: &[i32]) -> Cache {
 }
 
 /// 512 numbers in one chain of the proved table's hash.
-fn colliding(readings: &[i32]) -> Cache {
+pub fn colliding(readings: &[i32]) -> Cache {
     let mut cache = Cache::new(readings);
     let one_chain = |n: &i32| (i64::from(*n) + (1 << 31)) % 65_521 % 512 == 0;
     for n in (0..).filter(one_chain).take(ENTRIES) {
@@ -47,9 +48,7 @@ fn colliding(readings: &[i32]) -> Cache {
 /// Works out every entry.
 pub fn worked(mut cache: Cache) -> Cache {
     for entry in 0..cache.heads[0] as u16 {
-        let (_, left) =
-            proved::work(&cache.readings, &cache.links, &mut cache.cells, entry, u32::MAX);
-        assert!(!left);
+        assert!(!cache.work(entry).1);
     }
     cache
 }
@@ -83,8 +82,7 @@ pub fn records() -> [u64; 256] {
     records
 }
 
-pub fn measure(readings: &[i32]) {
-    timing::heading("a table of 512 entries", "proved ns", "plain ns");
+pub fn measure(readings: &[i32], figures: &mut Figures) {
     let cache = worked(full(readings));
     let (heads, links, cells) = (&cache.heads, &cache.links, &cache.cells);
     assert!(proved::is_well_formed(heads, links, cells));
@@ -94,7 +92,7 @@ pub fn measure(readings: &[i32]) {
         || proved::is_well_formed(black_box(heads), links, cells),
         || table::is_well_formed(black_box(heads), links, cells),
     );
-    timing::line("well-formedness of 512 entries", checks, Some(3.0));
+    figures.part("well-formedness of 512 entries", checks, Some(3.0));
 
     let worst = colliding(readings);
     let checks = timing::best_of(
@@ -102,31 +100,37 @@ pub fn measure(readings: &[i32]) {
         || proved::is_well_formed(black_box(&worst.heads), &worst.links, &worst.cells),
         || table::is_well_formed(black_box(&worst.heads), &worst.links, &worst.cells),
     );
-    timing::line("  all 512 of one hash", checks, None);
+    figures.part("well-formedness of 512 entries, all of one hash", checks, None);
 
     let (records, held, n) = (records(), HELD as u16, RECORDS as u16);
     let bound = proved::bind(links, cells, held, &records, n);
     assert_eq!(bound, table::bind(links, cells, held, &records, n));
-    let (whole, plain) = timing::best_of(
+    let times = timing::best_of(
         50,
         || proved::bind(links, cells, black_box(held), &records, n),
         || table::bind(links, cells, black_box(held), &records, n),
     );
-    let (test, _) =
-        timing::best_of(50, || proved::can_bind(links, cells, black_box(held), n), || ());
-    let name = format!("binding 128 records ({} new) to 384 entries", bound.0 - HELD as u64);
-    timing::line(&name, (whole - test, plain), Some(3.0));
-    timing::line("  with the test that the entries differ", (whole, plain), Some(3.0));
+    let name = format!(
+        "binding 128 records ({} new) to 384 entries, with the test that they differ",
+        bound.0 - HELD as u64
+    );
+    figures.part(&name, times, Some(3.0));
+    let (test, bind) = timing::best_of(
+        50,
+        || proved::can_bind(links, cells, black_box(held), n),
+        || proved::bind(links, cells, black_box(held), &records, n),
+    );
+    figures.row("idle", "the test that 384 entries differ", 0, &[("test", test), ("bind", bind)]);
 
-    timing::heading("a preview with nothing to work out", "work ns", "check ns");
     let last = (ENTRIES - 1) as u16;
     for (name, entry) in [("of entry 511", last), ("of the last run", last - 5)] {
         let mut own = cells.clone();
-        let times = timing::best_of(
+        let (work, check) = timing::best_of(
             50,
             || proved::work(readings, links, &mut own, black_box(entry), u32::MAX),
             || proved::is_well_formed(black_box(heads), links, cells),
         );
-        timing::line(name, times, Some(2.0));
+        let name = format!("working out nothing {name}");
+        figures.row("idle", &name, 0, &[("work", work), ("well-formedness", check)]);
     }
 }

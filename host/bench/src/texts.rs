@@ -68,6 +68,11 @@ pub fn nested_lets() -> Vec<u8> {
     ("let x = ".repeat(16) + "1" + &" in x".repeat(16)).into_bytes()
 }
 
+/// 16 open marks, each a let in the body of the one around it.
+pub fn lets_in_bodies() -> Vec<u8> {
+    ("let x = 1 in ".repeat(16) + "x").into_bytes()
+}
+
 /// 16 open marks, each a bracket.
 pub fn nested_brackets() -> Vec<u8> {
     ("(".repeat(16) + "1" + &")".repeat(16)).into_bytes()
@@ -86,4 +91,33 @@ pub fn long_chain_with_arguments() -> Vec<u8> {
 /// 15 open marks around a chain of all the calls that are left, each with a 16th.
 pub fn chain_in_calls() -> Vec<u8> {
     ("data.skip(".repeat(15) + "data" + &".sum()".repeat(97) + &")".repeat(15)).into_bytes()
+}
+
+/// A chain of windows and figures over them, as it is typed.
+pub fn windows_and_sums() -> String {
+    let mut text = "data.skip(20).take(900).sum()".to_string();
+    for i in 1..9 {
+        let (start, length) = (100 * i, 7 * i + 50);
+        text += &format!("\n.add(data.skip({start}).take({length}).sum().div({length}))");
+    }
+    text
+}
+
+/// A costly part first, and then more behind it.
+pub fn with_nested() -> String {
+    let text = r"data.sumBy(\p -> data.countWhere(\q -> q.gt(p))).div(data.count())
+.add(data.countWhere(\b -> b.gt(150)).mul(3))
+.sub(data.skip(100).take(500).sum().div(500))
+.add(data.longestRun(\b -> b.gt(145)))
+.mul(100).div(data.max().sub(data.min()))";
+    text.to_string()
+}
+
+/// Runs within runs, 22 deep, in 127 parts: each let's function runs the one before it, over a window that depends on its own variable. One
+/// more would take at least five parts: a `\`, a member, and a window of three.
+pub fn nested_runs() -> String {
+    let two = r"\a -> data.take(a).sumBy(\b -> data.take(b).sumBy(f))";
+    let mut text = r"let f = \a -> data.sumBy(\b -> a) in ".to_string();
+    text += &format!("let f = {two} in ").repeat(9);
+    text + &format!("data.sumBy({two})")
 }

@@ -1,12 +1,14 @@
-//! Two sides timed in turn, in one run. What is reported is the best time of each, and their ratio.
+//! Sides timed in turn, in one run. What is reported is the best of each.
 
 use std::hint::black_box;
 use std::time::Instant;
 
-const ROUNDS: usize = 41;
+pub const ROUNDS: usize = 41;
+/// How long a batch should take.
+const BATCH: f64 = 2e6;
 
 /// Nanoseconds a call, over one batch.
-fn batch<R>(calls: u32, run: &mut dyn FnMut() -> R) -> f64 {
+pub fn batch<R>(calls: u32, mut run: impl FnMut() -> R) -> f64 {
     let begun = Instant::now();
     for _ in 0..calls {
         black_box(run());
@@ -14,28 +16,34 @@ fn batch<R>(calls: u32, run: &mut dyn FnMut() -> R) -> f64 {
     begun.elapsed().as_nanos() as f64 / f64::from(calls)
 }
 
-/// The best nanoseconds a call of both sides, `calls` calls a batch.
+/// How many calls of so many nanoseconds fill a batch.
+pub fn calls_of(nanoseconds: f64) -> u32 {
+    (BATCH / nanoseconds).clamp(1.0, 20_000.0) as u32
+}
+
+pub fn calls<R>(mut run: impl FnMut() -> R) -> u32 {
+    batch(1, &mut run);
+    calls_of(batch(3, run))
+}
+
+/// The best of each side, which gives the nanoseconds a call of one batch. The sides run in turn, so many rounds.
+pub fn in_turn(rounds: usize, sides: &mut [&mut dyn FnMut() -> f64]) -> Vec<f64> {
+    let mut best = vec![f64::INFINITY; sides.len()];
+    for _ in 0..rounds {
+        for (best, side) in best.iter_mut().zip(sides.iter_mut()) {
+            *best = best.min(side());
+        }
+    }
+    best
+}
+
+/// The best nanoseconds a call of two sides, `calls` calls a batch.
 pub fn best_of<R, S>(
     calls: u32,
     mut ours: impl FnMut() -> R,
     mut theirs: impl FnMut() -> S,
 ) -> (f64, f64) {
-    let (mut a, mut b) = (f64::INFINITY, f64::INFINITY);
-    for _ in 0..ROUNDS {
-        a = a.min(batch(calls, &mut ours));
-        b = b.min(batch(calls, &mut theirs));
-    }
-    (a, b)
-}
-
-pub fn heading(title: &str, ours: &str, theirs: &str) {
-    println!("\n{title:<52} {ours:>14} {theirs:>14} {:>8} {:>8}", "ratio", "target");
-}
-
-/// One line: nanoseconds of both sides, the ratio, and the ratio that is aimed at, if there is one.
-pub fn line(name: &str, (ours, theirs): (f64, f64), target: Option<f64>) {
-    let ratio = ours / theirs;
-    let aim = target.map_or("-".to_string(), |most| format!("{most:.1}"));
-    let missed = if target.is_some_and(|most| ratio > most) { " missed" } else { "" };
-    println!("{name:<52} {ours:>14.1} {theirs:>14.1} {ratio:>8.2} {aim:>8}{missed}");
+    let best =
+        in_turn(ROUNDS, &mut [&mut || batch(calls, &mut ours), &mut || batch(calls, &mut theirs)]);
+    (best[0], best[1])
 }

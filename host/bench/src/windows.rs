@@ -1,5 +1,6 @@
 //! Sum, least and greatest of 1,024 readings, against plain loops.
 
+use crate::figures::Figures;
 use crate::{proved, timing};
 use std::hint::black_box;
 
@@ -40,17 +41,16 @@ fn plain_greatest(readings: &[i32]) -> u64 {
 
 type OnReadings = fn(&[i32]) -> u64;
 
-pub fn measure(readings: &[i32]) {
+pub fn measure(readings: &[i32], figures: &mut Figures) {
     let cases: [(&str, OnReadings, OnReadings); 3] = [
         ("sum", proved::sum, plain_sum),
         ("least", proved::least, plain_least),
         ("greatest", proved::greatest, plain_greatest),
     ];
-    timing::heading("over 1,024 readings", "proved ns", "plain ns");
     for (name, ours, theirs) in cases {
         assert_eq!(ours(readings), theirs(readings), "{name}");
         let times =
             timing::best_of(2_000, || ours(black_box(readings)), || theirs(black_box(readings)));
-        timing::line(name, times, Some(1.5));
+        figures.part(&format!("{name} of 1,024 readings"), times, Some(1.5));
     }
 }

@@ -1,0 +1,151 @@
+//! The formulas that are measured, in the engine's language and as one would write them in Lua by hand.
+
+use crate::texts;
+
+pub struct Formula {
+    pub name: &'static str,
+    pub text: String,
+    pub lua: String,
+}
+
+fn formula(name: &'static str, text: &str, lua: &str) -> Formula {
+    Formula { name, text: text.to_string(), lua: lua.to_string() }
+}
+
+pub fn windows(x: i32) -> Formula {
+    formula(
+        "two windows",
+        &format!("let x = {x} in data.skip(1).take(x)"),
+        &format!("local x = {x} return take(skip(data, 1), x)"),
+    )
+}
+
+pub fn sum() -> Formula {
+    formula("sum", "data.sum()", "return sum(data)")
+}
+
+pub fn count_where() -> Formula {
+    formula(
+        "countWhere",
+        r"data.countWhere(\b -> b.gt(150))",
+        "return countWhere(data, function(b) return b > 150 end)",
+    )
+}
+
+pub fn longest_run() -> Formula {
+    formula(
+        "longestRun",
+        r"data.longestRun(\b -> b.gt(145))",
+        "return longestRun(data, function(b) return b > 145 end)",
+    )
+}
+
+pub fn nested_sum() -> Formula {
+    formula(
+        "nested sum",
+        r"data.sumBy(\p -> data.countWhere(\q -> q.gt(p)))",
+        "return sumBy(data, function(p) return countWhere(data, function(q) return q > p end) end)",
+    )
+}
+
+/// Forty windows of windows, and the sum of the last.
+pub fn chain() -> Formula {
+    let (mut text, mut lua) = ("data".to_string(), "data".to_string());
+    for i in 0..20 {
+        let length = 1_000 - 10 * i;
+        let blank = if i % 5 == 4 { "\n    " } else { "" };
+        text += &format!("{blank}.skip(1).take({length})");
+        lua = format!("take(skip({lua}, 1), {length})");
+    }
+    formula("chain of windows", &(text + ".sum()"), &format!("return sum({lua})"))
+}
+
+/// Twelve lets, most of them used more than once. The first constant changes nearly all of them, the last one none.
+pub fn shared(first: i32, last: i32) -> Formula {
+    let text = r"let w = data.skip(FIRST).take(900) in
+let n = w.count() in
+let mean = w.sum().div(n) in
+let top = w.max() in
+let low = w.min() in
+let span = top.sub(low) in
+let edge = low.add(span.mul(3).div(4)) in
+let over = w.countWhere(\b -> b.gt(edge)) in
+let hard = w.sumBy(\b -> b.sub(mean).mul(b.gt(mean))) in
+let run = w.longestRun(\b -> b.gt(mean)) in
+let effort = hard.div(n).add(over).add(run) in
+let scaled = effort.mul(100).div(span.add(1)) in
+scaled.add(mean.sub(low)).add(top.sub(mean)).add(over.mul(n).div(run.add(1))).add(LAST)";
+    let lua = "local w = take(skip(data, FIRST), 900)
+local n = count(w)
+local mean = div(sum(w), n)
+local top = greatest(w)
+local low = least(w)
+local span = top - low
+local edge = low + div(span * 3, 4)
+local over = countWhere(w, function(b) return b > edge end)
+local hard = sumBy(w, function(b) return b > mean and b - mean or 0 end)
+local run = longestRun(w, function(b) return b > mean end)
+local effort = div(hard, n) + over + run
+local scaled = div(effort * 100, span + 1)
+return scaled + (mean - low) + (top - mean) + div(over * n, run + 1) + LAST";
+    let put =
+        |text: &str| text.replace("FIRST", &first.to_string()).replace("LAST", &last.to_string());
+    formula("shared lets", &put(text), &put(lua))
+}
+
+/// The edited constant is added to the nested sum.
+pub fn beside_nested(x: i32) -> Formula {
+    formula(
+        "beside a nested sum",
+        &format!(r"let x = {x} in data.sumBy(\p -> data.countWhere(\q -> q.gt(p))).add(x)"),
+        &format!(
+            "local x = {x} \
+             return sumBy(data, function(p) return countWhere(data, function(q) return q > p end) end) + x"
+        ),
+    )
+}
+
+/// The edited constant stands in the innermost function.
+pub fn within_nested(x: i32) -> Formula {
+    formula(
+        "within a nested sum",
+        &format!(r"let x = {x} in data.sumBy(\p -> data.countWhere(\q -> q.gt(p.add(x))))"),
+        &format!(
+            "local x = {x} \
+             return sumBy(data, function(p) return countWhere(data, function(q) return q > p + x end) end)"
+        ),
+    )
+}
+
+pub fn limit(x: i32) -> Formula {
+    formula(
+        "limit of a countWhere",
+        &format!(r"let x = {x} in data.countWhere(\b -> b.gt(x))"),
+        &format!("local x = {x} return countWhere(data, function(b) return b > x end)"),
+    )
+}
+
+/// Each formula behind its name, and those that are typed.
+pub fn list() -> String {
+    let formulas = [
+        windows(2),
+        sum(),
+        count_where(),
+        longest_run(),
+        nested_sum(),
+        chain(),
+        shared(100, 1),
+        limit(150),
+        beside_nested(2),
+        within_nested(2),
+    ];
+    let typed = [
+        ("typed, windows and sums", texts::windows_and_sums()),
+        ("typed, with a nested sum", texts::with_nested()),
+    ];
+    let all = formulas.into_iter().map(|Formula { name, text, .. }| (name, text)).chain(typed);
+    let indented = |text: String| text.replace('\n', "\n    ");
+    let lines: String =
+        all.map(|(name, text)| format!("{name}:\n    {}\n", indented(text))).collect();
+    format!("```\n{lines}```\n")
+}
