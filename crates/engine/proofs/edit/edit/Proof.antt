@@ -16,7 +16,13 @@ well-formed-requires : tie.Need-well-formed-requires
 well-formed-requires c κs = search needs
 
 edit-checked-requires : tie.Need-edit-checked-requires
-edit-checked-requires c κs = ((whole-is _ (sym (c .before .before .before .before .before .before .before .before .before .before .before .fits2 .ensures) ∙ c .before .before .before .before .before .before .before .before .before .before .if2 .taken), c .before .before .before .before .before .before .before .before .before .if3 .taken), λ readings. sym (c .before .before .before .before .before .well-formed .ensures readings) ∙ c .before .before .before .before .if4 .taken)
+edit-checked-requires c κs =
+    let at-if4 = c .before .before .before .before in
+    let at-well-formed = at-if4 .before in
+    let at-if3 = at-well-formed .before .before .before .before in
+    let at-if2 = at-if3 .before in
+    let at-fits2 = at-if2 .before in
+    ((whole-is _ (sym (at-fits2 .fits2 .ensures) ∙ at-if2 .if2 .taken), at-if3 .if3 .taken), λ readings. sym (at-well-formed .well-formed .ensures readings) ∙ at-if4 .if4 .taken)
 
 same-length : tie.Need-same-length
 same-length c = search needs
@@ -31,7 +37,15 @@ same-length-4 : tie.Need-same-length-4
 same-length-4 c = search needs
 
 returns-2 : tie.Need-returns-2
-returns-2 c = edit-text _ _ _ (c .before .before .before .before .before .before .before .before .before .before .before .before .before .before .before .before .before .before .before .before .before .before .before .before .if1 .left) (sym (c .before .before .before .before .before .before .before .before .before .before .before .before .before .before .before .before .before .before .before .before .fits2 .ensures) ∙ c .before .before .before .before .before .before .before .before .before .before .before .before .before .before .before .before .before .before .before .if2 .taken) (c .before .before .before .before .before .before .before .before .before .before .before .before .before .before .before .before .before .before .if3 .taken) _ _ _ (sym (c .before .before .before .before .before .before .before .before .before .before .before .before .before .before .well-formed .ensures _) ∙ c .before .before .before .before .before .before .before .before .before .before .before .before .before .if4 .taken) (c .before .before .before .before .before .before .before .before .edit-checked .ensures _)
+returns-2 c =
+    let at-edit-checked = c .before .before .before .before .before .before .before .before in
+    let at-if4 = at-edit-checked .before .before .before .before .before in
+    let at-well-formed = at-if4 .before in
+    let at-if3 = at-well-formed .before .before .before .before in
+    let at-if2 = at-if3 .before in
+    let at-fits2 = at-if2 .before in
+    let at-if1 = at-fits2 .before .before .before .before in
+    edit-text _ _ _ (at-if1 .if1 .left) (sym (at-fits2 .fits2 .ensures) ∙ at-if2 .if2 .taken) (at-if3 .if3 .taken) _ _ _ (sym (at-well-formed .well-formed .ensures _) ∙ at-if4 .if4 .taken) (at-edit-checked .edit-checked .ensures _)
 
 same-length-5 : tie.Need-same-length-5
 same-length-5 c = search needs
@@ -43,7 +57,13 @@ same-length-7 : tie.Need-same-length-7
 same-length-7 c = search needs
 
 returns-3 : tie.Need-returns-3
-returns-3 c = edit-ill _ _ _ (c .before .before .before .before .before .before .before .before .before .before .before .if1 .left) (sym (c .before .before .before .before .before .before .before .fits2 .ensures) ∙ c .before .before .before .before .before .before .if2 .taken) (c .before .before .before .before .before .if3 .taken) (sym (c .before .well-formed .ensures _) ∙ c .if4 .left)
+returns-3 c =
+    let at-well-formed = c .before in
+    let at-if3 = at-well-formed .before .before .before .before in
+    let at-if2 = at-if3 .before in
+    let at-fits2 = at-if2 .before in
+    let at-if1 = at-fits2 .before .before .before .before in
+    edit-ill _ _ _ (at-if1 .if1 .left) (sym (at-fits2 .fits2 .ensures) ∙ at-if2 .if2 .taken) (at-if3 .if3 .taken) (sym (at-well-formed .well-formed .ensures _) ∙ c .if4 .left)
 
 same-length-8 : tie.Need-same-length-8
 same-length-8 c = search needs

@@ -13,16 +13,31 @@ cast-count : tie.Need-cast-count
 cast-count c = omega (arith, well-few _ _ _ (c .before .before .before .before .before .before .before .pre .1) _ (c .at32 .ensures))
 
 plan-edit-requires : tie.Need-plan-edit-requires
-plan-edit-requires c κs = ((well-few _ _ _ (c .before .before .before .before .before .before .before .before .before .before .before .before .pre .1) _ (c .before .before .before .before .before .at32 .ensures), refl, refl, refl), well-distinct _ _ _ (c .before .before .before .before .before .before .before .before .before .before .before .before .pre .1) _ (c .before .before .before .before .before .at32 .ensures))
+plan-edit-requires c κs =
+    let at-at32 = c .before .before .before .before .before in
+    let at-pre = at-at32 .before .before .before .before .before .before .before in
+    ((well-few _ _ _ (at-pre .pre .1) _ (at-at32 .at32 .ensures), refl, refl, refl), well-distinct _ _ _ (at-pre .pre .1) _ (at-at32 .at32 .ensures))
 
 commit-requires : tie.Need-commit-requires
-commit-requires c κs = let a = plan-room _ _ _ _ _ _ _ _ (c .before .before .before .before .before .before .plan-edit .ensures) (c .before .before .before .before .if1 .taken) in (c .before .before .before .before .before .before .before .before .before .before .before .before .before .before .before .before .before .before .before .pre .0 .0, (sym (c .before .before .before .before .before .before .before .before .before .before .before .before .at32 .ensures), (a .0, a .1)))
+commit-requires c κs =
+    let at-if1 = c .before .before .before .before in
+    let at-plan-edit = at-if1 .before .before in
+    let at-at32 = at-plan-edit .before .before .before .before .before .before in
+    let at-pre = at-at32 .before .before .before .before .before .before .before in
+    let a = plan-room _ _ _ _ _ _ _ _ (at-plan-edit .plan-edit .ensures) (at-if1 .if1 .taken) in (at-pre .pre .0 .0, (sym (at-at32 .at32 .ensures), (a .0, a .1)))
 
 write-places-requires : tie.Need-write-places-requires
-write-places-requires c κs = let a = plan-room _ _ _ _ _ _ _ _ (c .before .before .before .before .before .before .before .before .before .before .before .before .before .before .before .before .plan-edit .ensures) (c .before .before .before .before .before .before .before .before .before .before .before .before .before .before .if1 .taken) in (a .2, a .3, c .before .before .before .before .before .before .before .before .before .before .before .before .before .before .before .before .before .before .before .before .before .before .before .before .before .before .before .before .before .pre .0 .1)
+write-places-requires c κs =
+    let at-if1 = c .before .before .before .before .before .before .before .before .before .before .before .before .before .before in
+    let at-plan-edit = at-if1 .before .before in
+    let at-pre = at-plan-edit .before .before .before .before .before .before .before .before .before .before .before .before .before in
+    let a = plan-room _ _ _ _ _ _ _ _ (at-plan-edit .plan-edit .ensures) (at-if1 .if1 .taken) in (a .2, a .3, at-pre .pre .0 .1)
 
 sub-t35 : tie.Need-sub-t35
-sub-t35 c = let a = plan-room _ _ _ _ _ _ _ _ (c .before .before .before .before .before .before .before .before .before .before .before .before .before .before .before .before .before .before .before .before .plan-edit .ensures) (c .before .before .before .before .before .before .before .before .before .before .before .before .before .before .before .before .before .before .if1 .taken) in (a .0)
+sub-t35 c =
+    let at-if1 = c .before .before .before .before .before .before .before .before .before .before .before .before .before .before .before .before .before .before in
+    let at-plan-edit = at-if1 .before .before in
+    let a = plan-room _ _ _ _ _ _ _ _ (at-plan-edit .plan-edit .ensures) (at-if1 .if1 .taken) in (a .0)
 
 same-length : tie.Need-same-length
 same-length c = search needs
@@ -37,7 +52,13 @@ same-length-4 : tie.Need-same-length-4
 same-length-4 c = search needs
 
 returns : tie.Need-returns
-returns c = λ readings. edit-accepted _ _ _ _ _ _ _ (c .before .before .before .before .before .before .before .before .before .before .before .before .before .before .before .before .before .before .before .before .plan-edit .ensures readings _ (sym (c .before .before .before .before .before .before .before .before .before .before .before .before .before .before .before .before .before .before .before .before .before .before .before .before .before .before .at32 .ensures))) _ _ _ (c .before .before .before .before .before .before .before .before .before .before .before .before .before .before .before .before .before .before .if1 .taken) (c .before .before .before .before .before .before .before .before .before .before .before .before .before .before .before .before .before .before .before .before .before .before .before .before .before .before .at32 .ensures) (c .before .before .before .before .before .before .before .before .before .before .before .before .before .commit .ensures readings) (c .before .before .before .write-places .ensures)
+returns c =
+    let at-write-places = c .before .before .before in
+    let at-commit = at-write-places .before .before .before .before .before .before .before .before .before .before in
+    let at-if1 = at-commit .before .before .before .before .before in
+    let at-plan-edit = at-if1 .before .before in
+    let at-at32 = at-plan-edit .before .before .before .before .before .before in
+    λ readings. edit-accepted _ _ _ _ _ _ _ (at-plan-edit .plan-edit .ensures readings _ (sym (at-at32 .at32 .ensures))) _ _ _ (at-if1 .if1 .taken) (at-at32 .at32 .ensures) (at-commit .commit .ensures readings) (at-write-places .write-places .ensures)
 
 same-length-5 : tie.Need-same-length-5
 same-length-5 c = search needs
@@ -49,7 +70,10 @@ same-length-7 : tie.Need-same-length-7
 same-length-7 c = search needs
 
 returns-2 : tie.Need-returns-2
-returns-2 c = λ readings. edit-declined _ _ _ _ _ _ _ (c .before .before .plan-edit .ensures readings _ (sym (c .before .before .before .before .before .before .before .before .at32 .ensures))) (c .if1 .left)
+returns-2 c =
+    let at-plan-edit = c .before .before in
+    let at-at32 = at-plan-edit .before .before .before .before .before .before in
+    λ readings. edit-declined _ _ _ _ _ _ _ (at-plan-edit .plan-edit .ensures readings _ (sym (at-at32 .at32 .ensures))) (c .if1 .left)
 
 pub edit-checked-spec : {M : Type 1} → statement M
 edit-checked-spec =
