@@ -6,9 +6,11 @@
 --      finished preview of a part shows is what evaluation gives for its let-free form.
 --   3. Over every list of calls after an opening the engine answers as the reference model does, and ends holding what it holds (model's Demand).
 use mathlib.Core.Path.{_≡_}
+use mathlib.Core.Bool.{true, false, _&&_}
 use mathlib.Core.Logic.{_↔_}
 use mathlib.Core.List.{List, [], map}
-use Prim.Native.Nat.{ℕ}
+use Prim.Native.Nat.{ℕ, _<_}
+use lib.Dec.{ltb}
 use lib.IntN.{ℤ}
 use Rattle.grammar.specs.Grammar.{Expression, Spells}
 use Rattle.grammar.specs.KeptLimits.{KeepsLimits}
@@ -24,12 +26,17 @@ use Rattle.formulas.specs.Formulas.{IsReading, formulas}
 use Rattle.meaning.specs.Substitution.{EveryLetE}
 use Rattle.bridge.specs.FormulaLaws.{formula-laws}
 use Rattle.bridge.specs.LetLaws.{text-lets}
-use Rattle.table.specs.Memory.{Memory}
+use Rattle.table.specs.Memory.{Memory, fits, entryCount, readingCount}
+use Rattle.table.specs.WellFormed.{wellFormed}
+use Rattle.evaluator.specs.Works.{showOf}
 use Rattle.engine.specs.declared.answers.Previewed.the-variants.{Refused}
-use Rattle.engine.specs.Calls.{openAnswer, openMemory, editAnswer, editMemory, editPlaces, previewed, previewMemory}
+use Rattle.engine.specs.Answers.{shownOf}
+use Rattle.engine.specs.Calls.{openAnswer, openMemory, editAnswer, editMemory, editPlaces, previewed, previewMemory, fetched}
 use Rattle.promises.specs.Implementing.{engine, implements}
 use Rattle.promises.specs.Declined as Declined
 use Rattle.promises.specs.Outside as Outside
+use Rattle.promises.specs.Fetching as Fetching
+use Rattle.promises.specs.Fetching.{readingsOf}
 
 -- 1. A declined call changes nothing.
 pub open-declined : (m : Memory) (r : List ℤ) (n at : ℕ) → openAnswer m r ≡ refused n at → openMemory m r ≡ m
@@ -62,6 +69,14 @@ refused-exactly = text-refused
 -- Every let of a text that is read is replaced by capture-avoiding substitution.
 pub lets-replaced : (text : List ℕ) (e : Expression) → readText text ≡ tree e → EveryLetE e []
 lets-replaced = text-lets
+
+-- Fetch hands out the readings of the window that the entry shows; of any other entry, and of a call that is declined, none.
+pub fetch-shown : (m : Memory) (n : ℕ) → fits m ≡ true → wellFormed m ≡ true → n < entryCount m
+    → fetched m n ≡ readingsOf (m .readings) (shownOf (showOf (readingCount m) (m .links) (m .cells) n))
+fetch-shown = Fetching.fetch-shown
+
+pub fetch-declined : (m : Memory) (n : ℕ) → (fits m && (wellFormed m && ltb n (entryCount m))) ≡ false → fetched m n ≡ []
+fetch-declined = Fetching.fetch-declined
 
 -- 3. Memory of any contents is opened, and then any calls are sent. The readings of a recording are within signed 32 bits.
 pub demand-three : (m : Memory) (r : List ℤ) (cs : List (Sent engine)) → openAnswer m r ≡ opened → All IsReading r → Sendable formulas (map (told engine) cs)

@@ -1,0 +1,58 @@
+-- Fetch hands out the readings of the window that preview shows for the entry, and nothing where it shows none. Assumes nothing.
+use mathlib.Core.Path.{_≡_, refl, sym}
+use mathlib.Core.Bool.{true, false, _&&_}
+use mathlib.Core.List.{List, []}
+use Prim.Native.Nat.{ℕ, _+_, _*_, _<_}
+use borrow.Author.Tests.{lt-ltb}
+use lib.Dec.{ltb, eqb}
+use lib.IntN.{ℤ}
+use lib.ListN.{getD, take, drop}
+use Rattle.values.specs.declared.Value.{Value}
+use Rattle.values.specs.declared.Value.the-variants.{Number, Window, Function, Delayed, Missing}
+use Rattle.values.specs.Packing.{unpackOf}
+use Rattle.values.specs.Shown.{shownNumbers}
+use Rattle.meaning.specs.Evaluation.{Shown, aNumber, aWindow, aFunction, aDelay, aReason}
+use Rattle.model.specs.Cases.{split}
+use Rattle.table.specs.Memory.{Memory, fits, entryCount, readingCount}
+use Rattle.table.specs.WellFormed.{wellFormed}
+use Rattle.evaluator.specs.Links.{kindAt, keyAt}
+use Rattle.evaluator.specs.Frames.{startAt}
+use Rattle.evaluator.specs.Works.{view, showOf}
+use Rattle.engine.specs.Answers.{shownOf}
+use Rattle.engine.specs.Calls.{windowIn, partOf, fetched}
+
+-- the readings of what is shown
+unfoldable pub readingsOf : List ℤ → Shown → List ℤ
+readingsOf xs (aWindow s l) = take l (drop s xs)
+readingsOf xs (aNumber z) = []
+readingsOf xs (aFunction x) = []
+readingsOf xs (aDelay names) = []
+readingsOf xs (aReason r) = []
+
+-- of a value, whatever its names
+value-shown : (xs : List ℤ) (v : Value) (name other : ℕ)
+    → readingsOf xs (shownOf (view (shownNumbers v) name other)) ≡ take (windowIn v .length) (drop (windowIn v .start) xs)
+unfolding readingsOf shownOf
+value-shown xs (Number z) name other = refl
+value-shown xs (Window s l) name other = refl
+value-shown xs Function name other = refl
+value-shown xs Delayed name other = refl
+value-shown xs (Missing r) name other = refl
+
+-- an entry of a cache that is not refused
+pub fetch-shown : (m : Memory) (n : ℕ) → fits m ≡ true → wellFormed m ≡ true → n < entryCount m
+    → fetched m n ≡ readingsOf (m .readings) (shownOf (showOf (readingCount m) (m .links) (m .cells) n))
+unfolding partOf showOf
+fetch-shown m n f w l =
+    let v : Value = unpackOf (startAt (readingCount m) (m .links) (m .cells) n) in
+    rw (f, w, lt-ltb n (entryCount m) l)
+    (split (eqb (kindAt (m .links) n) 1)
+    (λ p. rw p (sym (value-shown (m .readings) v (keyAt (m .cells) n) 0)))
+    (λ p. rw p (split (ltb (kindAt (m .links) n) 4)
+    (λ q. rw q (sym (value-shown (m .readings) v 0 0)))
+    (λ q. rw q (sym (value-shown (m .readings) v (getD (m .cells) (4 * n + 2) 0) (getD (m .cells) (4 * n + 3) 0)))))))
+
+-- any other call
+pub fetch-declined : (m : Memory) (n : ℕ) → (fits m && (wellFormed m && ltb n (entryCount m))) ≡ false → fetched m n ≡ []
+unfolding partOf
+fetch-declined m n h = rw h
