@@ -1,5 +1,6 @@
 -- A table of nodes, each with the numbers of its dependencies, stands for a list of forms: finding or appending a node is inserting its form.
--- That dependencies have lower numbers is used here, in Binder and in Sweep, and nowhere else. Assumes nothing.
+-- In this crate that dependencies have lower numbers is used here, in Binder and in Sweep; other crates take it from `Placed` `lower`, and from
+-- the table's `first-low` and `second-low`. Assumes nothing.
 use mathlib.Core.Path.{_≡_, refl, sym, ap, _∙_, subst}
 use mathlib.Core.Logic.{⊎-elim}
 use mathlib.Core.Bool.{Bool, true, cond}
