@@ -99,7 +99,7 @@ pub fn measure(readings: &[i32], figures: &mut Figures) {
         ("1 run", SINGLE),
         ("2 runs in one another", NESTED),
         ("3 runs in one another", THREE_DEEP),
-        ("22 runs in one another: the most found in 128 parts", &deep),
+        ("22 runs in one another: the most in 128 parts", &deep),
     ] {
         let formula = formula(text, &few);
         preview(name, formula.cache, formula.entry.into());

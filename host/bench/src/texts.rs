@@ -113,8 +113,8 @@ pub fn with_nested() -> String {
     text.to_string()
 }
 
-/// Runs within runs, 22 deep, in 127 parts: each let's function runs the one before it, over a window that depends on its own variable. One
-/// more would take at least five parts: a `\`, a member, and a window of three.
+/// Runs within runs, 22 deep, in 127 parts: each let's function runs the one before it, over a window that depends on its own variable. No
+/// text is deeper: docs/NESTING.md.
 pub fn nested_runs() -> String {
     let two = r"\a -> data.take(a).sumBy(\b -> data.take(b).sumBy(f))";
     let mut text = r"let f = \a -> data.sumBy(\b -> a) in ".to_string();

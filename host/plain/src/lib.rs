@@ -15,6 +15,7 @@ pub mod limits;
 pub mod member;
 pub mod model;
 pub mod name;
+pub mod nesting;
 mod position;
 pub mod random;
 pub mod refusal;

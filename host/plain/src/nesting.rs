@@ -1,0 +1,81 @@
+//! How deep runs of functions stand in one another. docs/NESTING.md has the least
+//! parts that a text needs for it.
+
+use crate::form::{Form, Forms};
+use crate::name::Name;
+use crate::rule::Rule;
+use std::collections::BTreeSet;
+
+/// For each form, the most runs that are under way at once when it is worked out
+/// from its dependencies: its own, and within it those of the forms that await the
+/// variable which it sets. Other forms keep their results during the run.
+pub fn nesting(forms: &Forms) -> Vec<u32> {
+    let awaited = awaited(forms);
+    let mut nested: Vec<u32> = Vec::new();
+    for form in &forms.list {
+        let inner = function_run(form, forms).map(|(name, body)| {
+            let again = worked_again(forms, &awaited, name, body);
+            1 + again.into_iter().map(|number| nested[number]).max().unwrap_or(0)
+        });
+        nested.push(inner.unwrap_or(0));
+    }
+    nested
+}
+
+/// The name and body of the function that a form runs over a window.
+fn function_run(form: &Form, forms: &Forms) -> Option<(Name, usize)> {
+    let Form::Member(member, operands) = form else { return None };
+    let is_run = matches!(member.rule(), Rule::Runs(_));
+    match operands[..] {
+        [receiver, argument] if is_run && is_window(&forms.list[receiver]) => {
+            match forms.list[argument] {
+                Form::Function(name, body) => Some((name, body)),
+                _ => None,
+            }
+        }
+        _ => None,
+    }
+}
+
+/// Whether a form can come to a window.
+fn is_window(form: &Form) -> bool {
+    match form {
+        Form::Data => true,
+        Form::Member(member, _) => matches!(member.rule(), Rule::Cut(_)),
+        _ => false,
+    }
+}
+
+/// The names that each form awaits.
+fn awaited(forms: &Forms) -> Vec<BTreeSet<Name>> {
+    let mut awaited: Vec<BTreeSet<Name>> = Vec::new();
+    for form in &forms.list {
+        let below = form.dependencies().into_iter().flat_map(|number| awaited[number].clone());
+        let mut names: BTreeSet<Name> = below.collect();
+        match form {
+            Form::Variable(name) => names.extend([*name]),
+            Form::Function(name, _) => names.retain(|awaited| awaited != name),
+            _ => (),
+        }
+        awaited.push(names);
+    }
+    awaited
+}
+
+/// The forms that a run of a body works out again: those that it reaches through
+/// forms that await the variable.
+fn worked_again(
+    forms: &Forms,
+    awaited: &[BTreeSet<Name>],
+    variable: Name,
+    body: usize,
+) -> BTreeSet<usize> {
+    let mut reached = BTreeSet::new();
+    let mut next = vec![body];
+    while let Some(number) = next.pop() {
+        if awaited[number].contains(&variable) && reached.insert(number) {
+            next.extend(forms.list[number].dependencies());
+        }
+    }
+    reached
+}

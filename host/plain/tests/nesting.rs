@@ -1,0 +1,169 @@
+//! The deepest nest of runs that a text can reach: docs/NESTING.md's count of parts
+//! is met by a text for each depth, and undercut by none that is tried.
+
+use plain::bind::bind;
+use plain::form::Forms;
+use plain::limits::{OPEN_LAMBDAS, TEXT_PARTS};
+use plain::nesting::nesting;
+use plain::random::formula::{formula, join};
+use plain::random::nested::nested;
+use plain::random::rng::Rng;
+use plain::refusal::TEXT_LIMIT;
+use plain::syntax::{Text, parse};
+
+/// Texts of up to so many parts are all tried.
+const SMALL: usize = 10;
+
+/// The least parts of a text whose runs stand `depth` deep in one another.
+fn least_parts(depth: usize) -> usize {
+    match depth {
+        0 => 1,
+        1 => 4,
+        _ => 5 * depth - 3 + 2 * ((depth - 1) / 2),
+    }
+}
+
+/// How deep runs stand in one another in a text that was read.
+fn depth(text: &Text) -> usize {
+    let mut forms = Forms::default();
+    bind(text, &mut forms);
+    nesting(&forms).into_iter().max().expect("a text has a form") as usize
+}
+
+/// A text of `depth` runs in one another, at least two: each let's function runs the
+/// one before it, over a window that depends on its own variable.
+fn deepest(depth: usize) -> String {
+    if depth == 2 {
+        return r"data.sumBy(\a -> data.sumBy(\b -> a))".to_string();
+    }
+    let two = r"\a -> data.take(a).sumBy(\b -> data.take(b).sumBy(f))";
+    let one = r"\a -> data.take(a).sumBy(f)";
+    let mut text = r"let f = \a -> data.sumBy(\b -> a) in ".to_string();
+    text += &format!("let f = {two} in ").repeat((depth - 3) / 2);
+    text + &format!("data.sumBy({})", if depth % 2 == 0 { two } else { one })
+}
+
+#[test]
+fn each_depth_up_to_22_is_reached() {
+    for wanted in 2..=22 {
+        let text = parse(deepest(wanted).as_bytes()).expect("a text within the limits");
+        assert_eq!((depth(&text), text.parts), (wanted, least_parts(wanted)));
+    }
+}
+
+#[test]
+fn depth_23_needs_more_parts_than_a_text_has() {
+    assert!(least_parts(22) <= TEXT_PARTS && TEXT_PARTS < least_parts(23));
+    let refusal = parse(deepest(23).as_bytes()).expect_err("a text with too many parts");
+    assert_eq!(refusal.number, TEXT_LIMIT);
+}
+
+#[derive(Clone, Copy, PartialEq)]
+enum Kind {
+    Number,
+    Window,
+    Function,
+}
+
+const KINDS: [Kind; 3] = [Kind::Number, Kind::Window, Kind::Function];
+
+/// The names bound at a point, with their kinds, and the open lambdas.
+#[derive(Clone, Default)]
+struct Scope {
+    names: Vec<(char, Kind)>,
+    lambdas: usize,
+}
+
+impl Scope {
+    /// With one more name, which no other in the scope has.
+    fn with(&self, kind: Kind) -> (char, Scope) {
+        let name = char::from(b'f' + self.names.len() as u8);
+        let mut scope = self.clone();
+        scope.names.push((name, kind));
+        (name, scope)
+    }
+}
+
+/// Every expression of a kind with so many parts that is made of lets, `add`, `take`,
+/// `sumBy` and functions giving numbers, up to the choice of names and numbers.
+fn expressions(kind: Kind, parts: usize, scope: &Scope) -> Vec<String> {
+    let mut all = Vec::new();
+    if parts == 1 {
+        all.extend(match kind {
+            Kind::Number => Some("1".to_string()),
+            Kind::Window => Some("data".to_string()),
+            Kind::Function => None,
+        });
+        let known = scope.names.iter().filter(|(_, known)| *known == kind);
+        all.extend(known.map(|(name, _)| name.to_string()));
+        return all;
+    }
+    if kind == Kind::Function && scope.lambdas < OPEN_LAMBDAS {
+        let (name, mut inner) = scope.with(Kind::Number);
+        inner.lambdas += 1;
+        let bodies = expressions(Kind::Number, parts - 1, &inner);
+        all.extend(bodies.iter().map(|body| format!("(\\{name} -> {body})")));
+    }
+    for first in 1..parts - 1 {
+        let second = parts - 1 - first;
+        for value in KINDS {
+            let (name, inner) = scope.with(value);
+            let bodies = expressions(kind, second, &inner);
+            let values = expressions(value, first, scope);
+            all.extend(pairs(&values, &bodies, &format!("(let {name} = "), " in "));
+        }
+        for (result, receiver, member, argument) in [
+            (Kind::Number, Kind::Number, "add", Kind::Number),
+            (Kind::Number, Kind::Window, "sumBy", Kind::Function),
+            (Kind::Window, Kind::Window, "take", Kind::Number),
+        ] {
+            if result == kind {
+                let receivers = expressions(receiver, first, scope);
+                let arguments = expressions(argument, second, scope);
+                all.extend(pairs(&receivers, &arguments, "", &format!(".{member}(")));
+            }
+        }
+    }
+    all
+}
+
+/// Each of the first before each of the second, with a bracket to close.
+fn pairs<'a>(
+    first: &'a [String],
+    second: &'a [String],
+    before: &'a str,
+    between: &'a str,
+) -> impl Iterator<Item = String> + 'a {
+    first.iter().flat_map(move |left| {
+        second.iter().map(move |right| format!("{before}{left}{between}{right})"))
+    })
+}
+
+/// Tests the count of parts for each text; gives the deepest nest among them.
+fn deepest_of(texts: impl IntoIterator<Item = Vec<u8>>) -> usize {
+    let mut most = 0;
+    for text in texts {
+        let Ok(text) = parse(&text) else { continue };
+        let depth = depth(&text);
+        assert!(least_parts(depth) <= text.parts, "{depth} deep in {} parts", text.parts);
+        most = most.max(depth);
+    }
+    most
+}
+
+#[test]
+fn every_small_text_has_the_parts_for_its_depth() {
+    let texts = |parts| expressions(Kind::Number, parts, &Scope::default());
+    let all = (1..=SMALL).flat_map(texts).map(String::into_bytes);
+    assert_eq!(deepest_of(all), 2);
+}
+
+#[test]
+fn random_texts_have_the_parts_for_their_depth() {
+    let mut rng = Rng::new(6);
+    let texts = (0..20_000).map(|_| {
+        let tokens = if rng.one_in(4) { formula(&mut rng) } else { nested(&mut rng) };
+        join(&mut rng, &tokens)
+    });
+    assert!(deepest_of(texts) >= 3);
+}
