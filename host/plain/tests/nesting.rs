@@ -40,7 +40,7 @@ fn deepest(depth: usize) -> String {
     let one = r"\a -> data.take(a).sumBy(f)";
     let mut text = r"let f = \a -> data.sumBy(\b -> a) in ".to_string();
     text += &format!("let f = {two} in ").repeat((depth - 3) / 2);
-    text + &format!("data.sumBy({})", if depth % 2 == 0 { two } else { one })
+    text + &format!("data.sumBy({})", if depth.is_multiple_of(2) { two } else { one })
 }
 
 #[test]
