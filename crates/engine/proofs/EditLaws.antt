@@ -8,7 +8,7 @@ use borrow.Author.Tests.{lt-ltb, le-ltb, le-leb, lt-leb, ltb-false, leb-true, eq
 use lib.Dec.{eqb, ltb, leb}
 use lib.IntN.{ℤ}
 use lib.ListN.{length, getD, take, drop, length-append, length-drop, length-map}
-use lib.Seq.{take-at, getD-take}
+use lib.Seq.{take-at, getD-take, length-take-le}
 use Rattle.language.specs.Limits.{textBytes, textParts, tableEntries}
 use Rattle.grammar.specs.Tokens.{when}
 use Rattle.grammar.specs.Grammar.{Expression}
@@ -219,15 +219,19 @@ plan-room links cells text count p P N F plans z = let a = plans [] (count ∷ [
 module _ (m : Memory) (places text : List ℕ) (p : Plan) (P N F : List ℕ) (plans : Planned m text p P N F) where
   pub edit-declined : (p .number ≡ 0 → ⊥) → EditsRead m places text m places (E.Refused (p .number) (p .place))
   unfolding written
-  edit-declined u = let d = plans .declined u in record { answer = rw (d .answer); memory = sym (d .memory); placed = rw (d .answer) }
+  edit-declined u = let d = plans .declined u in record { answer = sym (d .answer); memory = sym (d .memory); placed = rw (d .answer) }
 
   pub edit-accepted : (m′ : Memory) (places′ : List ℕ) (count : ℕ) → p .number ≡ 0 → count ≡ entryCount m → m′ ≡ appendAll m (numbered (freshAt F) 0 (p .total - count))
       → places′ ≡ placed N (take (p .parts) P) places → EditsRead m places text m′ places′ (E.Done (p .whole) (p .parts) (p .total - count))
   unfolding written placed
   edit-accepted m′ places′ count z qc qm qp =
       let a = plans .accepted z in
+      let parts : length (map (λ (j : ℕ). getD N j 0) (take (p .parts) P)) ≡ p .parts =
+      length-map (take (p .parts) P) (λ (j : ℕ). getD N j 0) ∙ length-take-le (p .parts) P (omega (arith, a .few, a .room)) in
+      let numbers : take (p .parts) places′ ≡ map (λ (j : ℕ). getD N j 0) (take (p .parts) P) =
+      ap (take (p .parts)) qp ∙ take-at (map (λ (j : ℕ). getD N j 0) (take (p .parts) P)) _ (p .parts) parts in
       record {
-        answer = rw (a .answer, qc);
+        answer = ap (edited (p .whole) (p .parts) (p .total - count)) numbers ∙ rw qc (sym (a .answer));
         memory = qm ∙ rw qc (sym (a .memory));
         placed = qp ∙ rw (a .answer, length-map (take (p .parts) P) (λ (j : ℕ). getD N j 0));
       }

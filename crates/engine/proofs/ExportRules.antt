@@ -15,6 +15,7 @@ use Rattle.grammar.specs.Reading.{Reading, tree, refused as refusedAt}
 use Rattle.grammar.specs.Machine.{readText}
 use Rattle.model.specs.Cases.{split}
 use Rattle.model.specs.Language.{rejected}
+use Rattle.model.specs.Model.{refused, opened, edited, notYet, finished}
 use Rattle.table.specs.Memory.{Memory, fits}
 use Rattle.table.specs.WellFormed.{wellFormed}
 use Rattle.evaluator.specs.declared.works.View.{View}
@@ -28,7 +29,7 @@ use Rattle.engine.specs.declared.answers.Previewed.{Previewed}
 use Rattle.engine.specs.declared.answers.Previewed.the-variants as P
 use Rattle.engine.specs.declared.answers.EditAnswer.{EditAnswer}
 use Rattle.engine.specs.declared.answers.PreviewAnswer.{PreviewAnswer}
-use Rattle.engine.specs.Answers.{editedOf, openNumber, editNumbers, previewNumbers}
+use Rattle.engine.specs.Answers.{Reply, editReply, openNumber, editNumbers, previewNumbers}
 use Rattle.engine.specs.Calls.{tooMany, boundTo, readAnswer, editAnswer}
 use Rattle.engine.specs.Contracts.{Opens, Edits, Previews, OpensForC, EditsForC, PreviewsForC, PlaceFits}
 
@@ -55,12 +56,19 @@ module _ (x : Previewed) where
 pub ruleset numbers = (needs, edit-done, edit-refused, preview-not-yet, preview-finished, preview-refused)
 
 -- the place of a refusal is one of the text's, or its end
-read-place : (m : Memory) (text : List ℕ) (x : Reading) → readText text ≡ x → length text ≤ textBytes → PlaceFits (editedOf (readAnswer m x))
+abbrev ReplyFits : Reply → Type 0
+ReplyFits (refused n at) = at < 4294967296
+ReplyFits opened = Unit {0}
+ReplyFits (edited whole parts added numbers) = Unit {0}
+ReplyFits (notYet k) = Unit {0}
+ReplyFits (finished k v) = Unit {0}
+
+read-place : (m : Memory) (text : List ℕ) (x : Reading) → readText text ≡ x → length text ≤ textBytes → ReplyFits (readAnswer m x)
 unfolding readAnswer parsed
 read-place m text (refusedAt n at) e h = let r = formula-laws .rejected text n at h (ap parsed e) .inside in omega arith
 read-place m text (tree t) e h = split (tooMany (boundTo m (recordsOf t))) (λ p. rw p (omega arith)) (λ p. rw p tt)
 
-answer-place : (m : Memory) (places text : List ℕ) → PlaceFits (editedOf (editAnswer m places text))
+answer-place : (m : Memory) (places text : List ℕ) → ReplyFits (editAnswer m places text)
 unfolding editAnswer
 answer-place m places text =
     split (ltb textBytes (length text)) (λ p. rw p (omega arith))
@@ -69,15 +77,16 @@ answer-place m places text =
     (λ q. rw (p, q) (omega arith)))
 
 pub place-fits : (m : Memory) (places text : List ℕ) (m′ : Memory) (places′ : List ℕ) (x : Edited) → Edits m places text m′ places′ x → PlaceFits x
-place-fits m places text m′ places′ x h = subst PlaceFits (sym (h .answer)) (answer-place m places text)
+place-fits m places text m′ places′ (E.Done whole parts added) h = tt
+place-fits m places text m′ places′ (E.Refused n at) h = subst ReplyFits (sym (h .answer)) (answer-place m places text)
 
 -- the promises
 pub opens-for-c : (m : Memory) (recording : List ℤ) (m′ : Memory) (x : Opened) (r : ℕ) → Opens m recording m′ x → r ≡ openNumber x → OpensForC m recording m′ r
-opens-for-c m recording m′ x r h e = record { answer = e ∙ ap openNumber (h .answer); memory = h .memory }
+opens-for-c m recording m′ x r h e = record { answer = x; opens = h; numbers = e }
 
 pub edits-for-c : (m : Memory) (places text : List ℕ) (m′ : Memory) (places′ : List ℕ) (x : Edited) (r : EditAnswer)
     → Edits m places text m′ places′ x → r ≡ editNumbers x → EditsForC m places text m′ places′ r
-edits-for-c m places text m′ places′ x r h e = record { answer = e ∙ ap editNumbers (h .answer); memory = h .memory; placed = h .placed }
+edits-for-c m places text m′ places′ x r h e = record { answer = x; edits = h; numbers = e }
 
 pub previews-for-c : (m : Memory) (n a : ℕ) (m′ : Memory) (x : Previewed) (r : PreviewAnswer) → Previews m n a m′ x → r ≡ previewNumbers x → PreviewsForC m n a m′ r
-previews-for-c m n a m′ x r h e = record { answer = e ∙ ap previewNumbers (h .answer); memory = h .memory }
+previews-for-c m n a m′ x r h e = record { answer = x; previews = h; numbers = e }

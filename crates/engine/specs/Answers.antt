@@ -4,6 +4,7 @@ use mathlib.Core.List.{List, [], _∷_}
 use Prim.Native.Nat.{ℕ}
 use lib.Dec.{eqb}
 use lib.IntN.{natAbs, pos}
+use lib.ListN.{take}
 use Rattle.meaning.specs.Evaluation.{Shown, aNumber, aWindow, aFunction, aDelay, aReason}
 use Rattle.model.specs.Model.{Answer, refused, opened, edited, notYet, finished}
 use Rattle.formulas.specs.Formulas.{formulas}
@@ -21,20 +22,14 @@ use Rattle.engine.specs.declared.answers.PreviewAnswer.{PreviewAnswer}
 abbrev pub Reply : Type 0
 Reply = Answer formulas
 
--- the answer of an open, which is one of the first two, and of an edit, which is the first or the third
-abbrev pub openedOf : Reply → Opened
-openedOf (refused n at) = O.Refused n
-openedOf opened = O.Done
-openedOf (edited whole parts added numbers) = O.Done
-openedOf (notYet k) = O.Done
-openedOf (finished k v) = O.Done
+abbrev pub openReply : Opened → Reply
+openReply O.Done = opened
+openReply (O.Refused n) = refused n 0
 
-abbrev pub editedOf : Reply → Edited
-editedOf (refused n at) = E.Refused n at
-editedOf opened = E.Done 0 0 0
-editedOf (edited whole parts added numbers) = E.Done whole parts added
-editedOf (notYet k) = E.Done 0 0 0
-editedOf (finished k v) = E.Done 0 0 0
+-- an accepted edit has written each part's number to the lent places
+abbrev pub editReply : Edited → (places : List ℕ) → Reply
+editReply (E.Done whole parts added) places = edited whole parts added (take parts places)
+editReply (E.Refused n at) places = refused n at
 
 -- what is shown: 1 a number, 2 a window, 3 a function, 4 a delay with one name or two, 5 a reason
 abbrev pub pickShown : Bool → Shown → Shown → Shown

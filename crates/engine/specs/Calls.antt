@@ -16,7 +16,7 @@ use Rattle.values.specs.declared.Value.{Value}
 use Rattle.values.specs.declared.Value.the-variants.{Number, Window, Function, Delayed, Missing}
 use Rattle.values.specs.Packing.{unpackOf}
 use Rattle.table.specs.Memory.{Memory, fits, entryCount, readingCount, recordingOf, entriesOf, nodesOf}
-use Rattle.table.specs.WellFormed.{wellFormed}
+use Rattle.table.specs.WellFormed.{doneAt, wellFormed}
 use Rattle.table.specs.Bind.{Bound, bindAll, appendAll}
 use Rattle.evaluator.specs.Frames.{startAt}
 use Rattle.evaluator.specs.Works.{Work, worked, showOf}
@@ -117,7 +117,8 @@ previewAnswer m n a = previewReply (previewed m n a)
 unfoldable pub previewMemory : Memory → (number allowance : ℕ) → Memory
 previewMemory m n a = pickMemory (fits m && (wellFormed m && ltb n (entryCount m))) (workedMemory m (workOn m n a)) m
 
--- Fetch: the part of the readings that entry n shows, as far as it is a window that is worked out; else the empty part at the start.
+-- Fetch: the part of the readings that entry n shows. For an entry not worked out, not a window or not existing, or a cache refused under 3
+-- or 4, it is the empty part at the start.
 pub record Part : Type 0 where
   pub start : ℕ
   pub length : ℕ
@@ -135,7 +136,7 @@ pickPart false a b = b
 
 unfoldable pub partOf : Memory → ℕ → Part
 partOf m n =
-    pickPart (fits m && (wellFormed m && ltb n (entryCount m))) (windowIn (unpackOf (startAt (readingCount m) (m .links) (m .cells) n)))
+    pickPart (fits m && (wellFormed m && doneAt (entriesOf m) n)) (windowIn (unpackOf (startAt (readingCount m) (m .links) (m .cells) n)))
     (record { start = 0; length = 0 })
 
 abbrev pub fetched : Memory → ℕ → List ℤ

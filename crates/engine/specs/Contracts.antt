@@ -10,16 +10,16 @@ use Rattle.engine.specs.declared.answers.Edited.the-variants as Edit
 use Rattle.engine.specs.declared.answers.Previewed.{Previewed}
 use Rattle.engine.specs.declared.answers.EditAnswer.{EditAnswer}
 use Rattle.engine.specs.declared.answers.PreviewAnswer.{PreviewAnswer}
-use Rattle.engine.specs.Answers.{openedOf, editedOf, openNumber, editNumbers, previewNumbers}
+use Rattle.engine.specs.Answers.{openReply, editReply, openNumber, editNumbers, previewNumbers}
 use Rattle.engine.specs.Calls.{openAnswer, openMemory, editAnswer, editMemory, editPlaces, previewed, previewMemory}
 
 -- the memory m before a call and m′ after it
 pub record Opens (m : Memory) (recording : List ℤ) (m′ : Memory) (r : Opened) : Type 0 where
-  pub answer : r ≡ openedOf (openAnswer m recording)
+  pub answer : openReply r ≡ openAnswer m recording
   pub memory : m′ ≡ openMemory m recording
 
 pub record Edits (m : Memory) (places text : List ℕ) (m′ : Memory) (places′ : List ℕ) (r : Edited) : Type 0 where
-  pub answer : r ≡ editedOf (editAnswer m places text)
+  pub answer : editReply r places′ ≡ editAnswer m places text
   pub memory : m′ ≡ editMemory m places text
   pub placed : places′ ≡ editPlaces m places text
 
@@ -27,19 +27,21 @@ pub record Previews (m : Memory) (entry allowance : ℕ) (m′ : Memory) (r : Pr
   pub answer : r ≡ previewed m entry allowance
   pub memory : m′ ≡ previewMemory m entry allowance
 
--- the same for C, with the answers as numbers
+-- the same for C: the numbers of an answer for which that holds
 pub record OpensForC (m : Memory) (recording : List ℤ) (m′ : Memory) (r : ℕ) : Type 0 where
-  pub answer : r ≡ openNumber (openedOf (openAnswer m recording))
-  pub memory : m′ ≡ openMemory m recording
+  pub answer : Opened
+  pub opens : Opens m recording m′ answer
+  pub numbers : r ≡ openNumber answer
 
 pub record EditsForC (m : Memory) (places text : List ℕ) (m′ : Memory) (places′ : List ℕ) (r : EditAnswer) : Type 0 where
-  pub answer : r ≡ editNumbers (editedOf (editAnswer m places text))
-  pub memory : m′ ≡ editMemory m places text
-  pub placed : places′ ≡ editPlaces m places text
+  pub answer : Edited
+  pub edits : Edits m places text m′ places′ answer
+  pub numbers : r ≡ editNumbers answer
 
 pub record PreviewsForC (m : Memory) (entry allowance : ℕ) (m′ : Memory) (r : PreviewAnswer) : Type 0 where
-  pub answer : r ≡ previewNumbers (previewed m entry allowance)
-  pub memory : m′ ≡ previewMemory m entry allowance
+  pub answer : Previewed
+  pub previews : Previews m entry allowance m′ answer
+  pub numbers : r ≡ previewNumbers answer
 
 -- a refusal's place is a number of 32 bits
 abbrev pub PlaceFits : Edited → Type 0

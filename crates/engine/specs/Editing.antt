@@ -18,7 +18,7 @@ use Rattle.table.specs.Held.{freshAt}
 use Rattle.table.specs.Records.{recordAt}
 use Rattle.engine.specs.declared.answers.Edited.{Edited}
 use Rattle.engine.specs.declared.edit.Plan.{Plan}
-use Rattle.engine.specs.Answers.{editedOf}
+use Rattle.engine.specs.Answers.{editReply}
 use Rattle.engine.specs.Calls.{readAnswer, readMemory}
 
 -- the arrays into which a text was read: two words a record, and the record of each part
@@ -56,6 +56,6 @@ pub record Planned (m : Memory) (text : List ℕ) (p : Plan) (parts numbers fres
 
 -- what is left of the call when the memory and the places have passed their tests
 pub record EditsRead (m : Memory) (places text : List ℕ) (m′ : Memory) (places′ : List ℕ) (r : Edited) : Type 0 where
-  pub answer : r ≡ editedOf (readAnswer m (readText text))
+  pub answer : editReply r places′ ≡ readAnswer m (readText text)
   pub memory : m′ ≡ readMemory m (readText text)
   pub placed : places′ ≡ written formulas (readAnswer m (readText text)) places

@@ -49,6 +49,8 @@ caches =
     ∷ memory 1 (1 ∷ 0 ∷ 0 ∷ []) (48 ∷ [])
     ∷ memory 2 (3 ∷ 0 ∷ 0 ∷ 13 ∷ 1 ∷ 1 ∷ []) []
     ∷ memory 2 (3 ∷ 0 ∷ 0 ∷ 3 ∷ 0 ∷ 0 ∷ []) []
+    -- an entry awaiting over two names: a.add(b).add(c), of three variables
+    ∷ memory 5 (1 ∷ 0 ∷ 0 ∷ 1 ∷ 0 ∷ 0 ∷ 1 ∷ 0 ∷ 0 ∷ 5 ∷ 1 ∷ 2 ∷ 5 ∷ 4 ∷ 3 ∷ []) (97 ∷ 0 ∷ 0 ∷ 0 ∷ 98 ∷ 0 ∷ 0 ∷ 0 ∷ 99 ∷ [])
     -- a kept number beyond 32 bits, a window beyond the recording, a reason of 6
     ∷ counted (0 ∷ 4294967297 ∷ 0 ∷ 0 ∷ [])
     ∷ counted (0 ∷ 8590262273 ∷ 0 ∷ 0 ∷ [])
@@ -57,6 +59,6 @@ caches =
     ∷ memory 3 (3 ∷ 0 ∷ 0 ∷ 13 ∷ 1 ∷ 0 ∷ 11 ∷ 1 ∷ 2 ∷ []) (0 ∷ 0 ∷ 0 ∷ 0 ∷ 0 ∷ 0 ∷ 0 ∷ 0 ∷ 0 ∷ 8589934592 ∷ 0 ∷ 0 ∷ [])
     ∷ []
 
-pub caches-judged : map wellFormed caches ≡ true ∷ true ∷ true ∷ replicate 11 false
+pub caches-judged : map wellFormed caches ≡ true ∷ true ∷ true ∷ replicate 12 false
 unfolding wellFormed every nodeAt keptAt entriesFrom memberOfKind memberAt arity kids sameNode wordNumber isName keyRight arityRight hasNode distinct awaitedBy awaitedAfter doneAt allDone namesRight keptRight isPacked row bytes packOnto letWord inWord! dataWord hasName joined without
 caches-judged = refl

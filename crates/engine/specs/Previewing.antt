@@ -1,23 +1,24 @@
 -- The tests that come before a preview and a fetch, and laws of both, each with a premise for every call and test on the code's way. That a
 -- fetched part lies within the readings follows from well-formedness. Assumes nothing.
-use mathlib.Core.Path.{_≡_, sym, ap, _∙_}
+use mathlib.Core.Path.{_≡_, refl, sym, ap, _∙_}
 use mathlib.Core.Bool.{Bool, true, false, cond, _&&_, _||_}
 use mathlib.Core.List.{List}
 use Prim.Native.Nat.{ℕ, _+_, _-_, _*_, _%_, _≤_, _<_}
 use native.Mathlib.Omega.{arith}
-use borrow.Author.Tests.{lt-ltb, le-ltb, leb-true, ltb-true, eqb-true}
+use borrow.Author.Tests.{lt-ltb, le-ltb, le-leb, lt-leb, leb-true, leb-false, ltb-true, ltb-false, eqb-true}
 use lib.Dec.{ltb, leb, eqb}
 use lib.IntN.{ℤ}
 use lib.ListN.{length, getD, take, drop}
 use lib.Seq.{length-take-le}
 use Rattle.meaning.specs.FormsLaws.{and-left, and-right}
 use Rattle.meaning.specs.EvaluationLaws.{split}
-use Rattle.table.specs.Memory.{Memory, fits, entryCount, readingCount, nodeAt, keptAt, entryAt, entriesFrom}
-use Rattle.table.specs.WellFormed.{distinct, awaitsFew, settled, namesRight, keptRight, wellFormed}
+use Rattle.model.specs.Cases.{impossible}
+use Rattle.table.specs.Memory.{Memory, fits, entryCount, readingCount, nodeAt, keptAt, entryAt, entriesFrom, entriesOf}
+use Rattle.table.specs.WellFormed.{distinct, awaitsFew, doneAt, settled, namesRight, keptRight, wellFormed}
 use Rattle.table.specs.Right.{allFrom}
 use Rattle.table.specs.RightLaws.{all-at}
 use Rattle.table.specs.Checked.{memory, keptOk, entriesRight}
-use Rattle.table.specs.CheckedLaws.{well-is}
+use Rattle.table.specs.CheckedLaws.{done-is, well-is}
 use Rattle.table.specs.WrittenLaws.{whole-is}
 use Rattle.values.specs.declared.Value.{Value}
 use Rattle.values.specs.declared.Value.the-variants.{Number, Window, Function, Delayed, Missing}
@@ -29,7 +30,7 @@ use Rattle.evaluator.specs.Frames.{leafOf, startAt}
 use Rattle.evaluator.specs.declared.works.View.{View}
 use Rattle.evaluator.specs.Works.{Lent, Works, showOf}
 use Rattle.engine.specs.declared.answers.Previewed.the-variants.{NotYet, Finished, Refused}
-use Rattle.engine.specs.Calls.{previewed, previewMemory, Part, windowIn, partOf, fetched}
+use Rattle.engine.specs.Calls.{previewed, previewMemory, Part, windowIn, pickPart, partOf, fetched}
 use Rattle.engine.specs.Contracts.{Previews}
 
 -- the refusal of a call on entry n, 0 for none
@@ -160,19 +161,50 @@ pub record Spans (p : Part) (start size : ℕ) : Type 0 where
   pub starts : start ≡ p .start
   pub lasts : size ≡ p .length
 
+-- an entry that is not worked out has the cell 0, which is no window's
+module _ (m : Memory) (n : ℕ) where
+  abbrev shownPart : Part
+  shownPart = windowIn (unpackOf (startAt (readingCount m) (m .links) (m .cells) n))
+
+  abbrev noPart : Part
+  noPart = record { start = 0; length = 0 }
+
+  unworked : doneAt (entriesOf m) n ≡ false → ltb n (entryCount m) ≡ true → shownPart ≡ noPart
+  unfolding startAt
+  unworked d h =
+      let e = done-is (m .links) (m .cells) (entryCount m) n (kindAt (m .links) n) (getD (m .cells) (4 * n + 1) 0) refl refl ∙ d in
+      split (ltb (kindAt (m .links) n) 4)
+      (λ t. impossible (sym e ∙ rw (h, lt-leb 4 (kindAt (m .links) n) (ltb-true (kindAt (m .links) n) 4 t))))
+      (λ t. split (leb 1 (getD (m .cells) (4 * n + 1) 0))
+      (λ v. impossible (sym e ∙ rw (h, le-leb 4 (kindAt (m .links) n) (ltb-false (kindAt (m .links) n) 4 t), v)))
+      (λ v. let z = leb-false 1 (getD (m .cells) (4 * n + 1) 0) v in rw t (rw (unpack-number (getD (m .cells) (4 * n + 1) 0) (omega arith)))))
+
+  pub part-held : partOf m n ≡ pickPart (fits m && (wellFormed m && ltb n (entryCount m))) shownPart noPart
+  unfolding partOf
+  part-held =
+      split (doneAt (entriesOf m) n)
+      (λ d. rw (d, done-held d))
+      (λ d. split (ltb n (entryCount m)) (λ h. rw (d, h) (both-empty (fits m) (wellFormed m) (unworked d h))) (λ h. rw (d, h)))
+    where
+      done-held : doneAt (entriesOf m) n ≡ true → ltb n (entryCount m) ≡ true
+      done-held d = and-left _ _ (done-is (m .links) (m .cells) (entryCount m) n (kindAt (m .links) n) (getD (m .cells) (4 * n + 1) 0) refl refl ∙ d)
+
+      both-empty : (a b : Bool) → shownPart ≡ noPart → pickPart (a && (b && false)) shownPart noPart ≡ pickPart (a && (b && true)) shownPart noPart
+      both-empty true true e = sym e
+      both-empty true false e = refl
+      both-empty false b e = refl
+
 pub span-refused : (m : Memory) (n r : ℕ) → r ≡ refusal m n → (r ≡ 0 → ⊥) → Spans (partOf m n) 0 0
-unfolding partOf
 span-refused m n r q u =
-    split (fits m && (wellFormed m && ltb n (entryCount m)))
+    rw (part-held m n) (split (fits m && (wellFormed m && ltb n (entryCount m)))
     (λ t. absurd (u (q ∙ none-refused m n (passes-all m n t))))
-    (λ t. record { starts = rw t; lasts = rw t })
+    (λ t. record { starts = rw t; lasts = rw t }))
 
 pub span-shown : (rs : List ℤ) (heads links cells : List ℕ) (n r : ℕ) → r ≡ refusal (memory rs heads links cells) n → r ≡ 0 → (k : ℕ) → k ≡ getD heads 1 0
     → (c : ℕ) → c ≡ startAt k links cells n → (v : Value) → v ≡ unpackOf c → (start size : ℕ) → Spans (windowIn v) start size → Spans (partOf (memory rs heads links cells) n) start size
-unfolding partOf
 span-shown rs heads links cells n r q z k qk c qc v qv start size s =
     let a = accepted (memory rs heads links cells) n (sym q ∙ z) in
-    rw (a .whole, a .well, a .held) (rw (← qk, ← qc, ← qv) s)
+    rw (part-held (memory rs heads links cells) n) (rw (a .whole, a .well, a .held) (rw (← qk, ← qc, ← qv) s))
 
 -- the part lies within the readings: of a leaf, since the recording is one window, and of another entry, since what is kept is right
 window-within : (k : ℕ) (v : Value) → Inside k v → windowIn v .start + windowIn v .length ≤ k
@@ -216,14 +248,13 @@ shown-inside m n a =
     (and-right (leb (readingCount m) 1024) _ (and-right (leb (entryCount m) 512) _ w)) (ltb-true n (entryCount m) (a .held))))
 
 pub part-within : (m : Memory) (n : ℕ) → partOf m n .start + partOf m n .length ≤ length (m .readings)
-unfolding partOf
 part-within m n =
-    split (fits m && (wellFormed m && ltb n (entryCount m)))
+    rw (part-held m n) (split (fits m && (wellFormed m && ltb n (entryCount m)))
     (λ t.
     let a = passes-all m n t in
     let i = window-within (readingCount m) (unpackOf (startAt (readingCount m) (m .links) (m .cells) n)) (shown-inside m n a) in
     rw t (omega (arith, sizes m n a .within)))
-    (λ t. rw t (omega arith))
+    (λ t. rw t (omega arith)))
 
 module _ (m : Memory) (n start size : ℕ) (s : Spans (partOf m n) start size) where
   pub span-within : start + size ≤ length (m .readings)

@@ -3,7 +3,6 @@ pub mod Limits
 pub mod Lists
 pub mod Language
 pub mod Model
-pub mod Report
 pub mod Since
 pub mod Runs
 -- What is asked of a language, and the theory of the model alone.

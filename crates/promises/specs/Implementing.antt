@@ -1,13 +1,13 @@
 -- The engine, as the contracts of its calls state it, implements the reference model. Assumes nothing.
-use mathlib.Core.Path.{_≡_, refl}
-use mathlib.Core.Bool.{false}
+use mathlib.Core.Path.{_≡_, refl, sym}
+use mathlib.Core.Bool.{true, false}
 use lib.Dec.{ltb}
 use lib.ListN.{length}
 use Rattle.language.specs.Limits.{textBytes, tableReadings}
 use Rattle.model.specs.Cases.{split}
 use Rattle.model.specs.Model as Model
 use Rattle.model.specs.Model.{State, Request, Open, Edit, Preview, Outcome, Answer, answer}
-use Rattle.model.specs.Engine.{Engine, says, leaves, Agrees, Implements}
+use Rattle.model.specs.Engine.{Engine, Lent, whole, part, says, leaves, Sent, isWhole, told, lendTo, Agrees, Implements}
 use Rattle.formulas.specs.Formulas.{formulas}
 use Rattle.bridge.specs.FormulaLaws.{formula-laws}
 use Rattle.table.specs.Memory.{Memory, fits}
@@ -68,3 +68,11 @@ implements =
       preview = λ m n a o i. agrees _ _ _ (previewing m n a o i (accepted m o i));
       places = λ m places text. refl;
     }
+
+-- what the model is told of the memory that a call is lent
+lent-enough : (m : Memory) (l : Lent Cut) → fits m ≡ true → isWhole engine l ≡ fits (lendTo engine l m)
+lent-enough m whole f = sym f
+lent-enough m (part c) f = sym (too-short c m)
+
+pub told-enough : (m : Memory) (c : Sent engine) → fits m ≡ true → told engine c .enough ≡ fits (lendTo engine (c .lent) m)
+told-enough m c f = lent-enough m (c .lent) f

@@ -1,4 +1,4 @@
--- Cells lent beyond the sizes, and places past the part count, keep their contents whatever is called. Assumes nothing.
+-- Cells lent beyond the sizes keep their contents whatever is called. Assumes nothing.
 use mathlib.Core.Path.{_≡_, refl, sym, ap, _∙_}
 use mathlib.Core.Bool.{Bool, true, false, _&&_}
 use mathlib.Core.List.{List, [], _∷_, _++_}

@@ -5,7 +5,7 @@
 --   2. A text is read exactly if a tree of the grammar spells its tokens and keeps the limits, and is refused exactly where 01 says. What a
 --      finished preview of a part shows is what evaluation gives for its let-free form.
 --   3. Over every list of calls after an opening the engine answers as the reference model does, and ends holding what it holds (model's Demand).
-use mathlib.Core.Path.{_≡_}
+use mathlib.Core.Path.{_≡_, ap}
 use mathlib.Core.Bool.{true, false, _&&_}
 use mathlib.Core.Logic.{_↔_}
 use mathlib.Core.List.{List, [], map}
@@ -20,23 +20,40 @@ use Rattle.grammar.specs.Theorems.{text-read-plainly, text-refused}
 use Rattle.model.specs.Lists.{All}
 use Rattle.model.specs.Model.{refused, opened}
 use Rattle.model.specs.Since.{Sendable}
-use Rattle.model.specs.Engine.{Sent, told}
+use Rattle.model.specs.Engine.{Sent, told, lendTo}
 use Rattle.model.specs.Demand.{Demand, demand}
 use Rattle.formulas.specs.Formulas.{IsReading, formulas}
 use Rattle.meaning.specs.Substitution.{EveryLetE}
 use Rattle.bridge.specs.FormulaLaws.{formula-laws}
 use Rattle.bridge.specs.LetLaws.{text-lets}
-use Rattle.table.specs.Memory.{Memory, fits, entryCount, readingCount}
-use Rattle.table.specs.WellFormed.{wellFormed}
+use Rattle.table.specs.Memory.{Memory, fits, entryCount, readingCount, entriesOf}
+use Rattle.table.specs.WellFormed.{doneAt, wellFormed}
+use Rattle.evaluator.specs.declared.works.View.{View}
 use Rattle.evaluator.specs.Works.{showOf}
-use Rattle.engine.specs.declared.answers.Previewed.the-variants.{Refused}
-use Rattle.engine.specs.Answers.{shownOf}
-use Rattle.engine.specs.Calls.{openAnswer, openMemory, editAnswer, editMemory, editPlaces, previewed, previewMemory, fetched}
+use Rattle.engine.specs.declared.answers.Opened.{Opened}
+use Rattle.engine.specs.declared.answers.Edited.{Edited}
+use Rattle.engine.specs.declared.answers.Previewed.{Previewed}
+use Rattle.engine.specs.declared.answers.Previewed.the-variants.{Finished, Refused}
+use Rattle.engine.specs.Answers.{openReply, editReply, previewReply, shownOf}
+use Rattle.engine.specs.Calls.{openAnswer, openMemory, editAnswer, editMemory, editPlaces, previewed, previewAnswer, previewMemory, partOf, fetched}
+use Rattle.engine.specs.Contracts.{Opens, Edits, Previews}
+use Rattle.promises.specs.Implementing as Implementing
 use Rattle.promises.specs.Implementing.{engine, implements}
 use Rattle.promises.specs.Declined as Declined
 use Rattle.promises.specs.Outside as Outside
 use Rattle.promises.specs.Fetching as Fetching
 use Rattle.promises.specs.Fetching.{readingsOf}
+
+-- What the functions answer is, by 01's numbers and values of their enums, the answer of Calls.
+pub open-answers : (m : Memory) (r : List ℤ) (m′ : Memory) (x : Opened) → Opens m r m′ x → openReply x ≡ openAnswer m r
+open-answers m r m′ x p = p .answer
+
+pub edit-answers : (m : Memory) (places text : List ℕ) (m′ : Memory) (places′ : List ℕ) (x : Edited) → Edits m places text m′ places′ x
+    → editReply x places′ ≡ editAnswer m places text
+edit-answers m places text m′ places′ x p = p .answer
+
+pub preview-answers : (m : Memory) (n a : ℕ) (m′ : Memory) (x : Previewed) → Previews m n a m′ x → previewReply x ≡ previewAnswer m n a
+preview-answers m n a m′ x p = ap previewReply (p .answer)
 
 -- 1. A declined call changes nothing.
 pub open-declined : (m : Memory) (r : List ℤ) (n at : ℕ) → openAnswer m r ≡ refused n at → openMemory m r ≡ m
@@ -70,15 +87,24 @@ refused-exactly = text-refused
 pub lets-replaced : (text : List ℕ) (e : Expression) → readText text ≡ tree e → EveryLetE e []
 lets-replaced = text-lets
 
--- Fetch hands out the readings of the window that the entry shows; of any other entry, and of a call that is declined, none.
+-- Fetch hands out the readings of the window that the entry shows, and so those that a finished preview showed; the empty part at the start
+-- for an entry that is not worked out or does not exist, and for a cache that is refused.
 pub fetch-shown : (m : Memory) (n : ℕ) → fits m ≡ true → wellFormed m ≡ true → n < entryCount m
     → fetched m n ≡ readingsOf (m .readings) (shownOf (showOf (readingCount m) (m .links) (m .cells) n))
 fetch-shown = Fetching.fetch-shown
 
-pub fetch-declined : (m : Memory) (n : ℕ) → (fits m && (wellFormed m && ltb n (entryCount m))) ≡ false → fetched m n ≡ []
-fetch-declined = Fetching.fetch-declined
+pub fetch-previewed : (m : Memory) (n a k : ℕ) (v : View) → previewed m n a ≡ Finished k v → fits (previewMemory m n a) ≡ true
+    → wellFormed (previewMemory m n a) ≡ true → fetched (previewMemory m n a) n ≡ readingsOf (m .readings) (shownOf v)
+fetch-previewed = Fetching.fetch-previewed
 
--- 3. Memory of any contents is opened, and then any calls are sent. The readings of a recording are within signed 32 bits.
+pub fetch-none : (m : Memory) (n : ℕ) → (fits m && (wellFormed m && doneAt (entriesOf m) n)) ≡ false → partOf m n ≡ record { start = 0; length = 0 }
+fetch-none = Fetching.fetch-none
+
+-- 3. The model is told whether the memory that a call is lent has the cache's size.
+pub told-enough : (m : Memory) (c : Sent engine) → fits m ≡ true → told engine c .enough ≡ fits (lendTo engine (c .lent) m)
+told-enough = Implementing.told-enough
+
+-- Memory of any contents is opened, and then any calls are sent. The readings of a recording are within signed 32 bits.
 pub demand-three : (m : Memory) (r : List ℤ) (cs : List (Sent engine)) → openAnswer m r ≡ opened → All IsReading r → Sendable formulas (map (told engine) cs)
     → Demand formulas formula-laws engine m r cs
 demand-three = demand formulas formula-laws engine implements

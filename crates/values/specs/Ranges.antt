@@ -1,5 +1,5 @@
 -- How large the members' results can be: a sum, a difference, a product and a quotient of two numbers of k bits beside the sign, for
--- every k. `mag z` is n at n and at -(n + 1), so `mag z < 2 ^ k` is the range from -2^k to 2^k - 1.
+-- every k; and a total of numbers of any width. `mag z` is n at n and at -(n + 1), so `mag z < 2 ^ k` is the range from -2^k to 2^k - 1.
 -- Each bound holds by cases on the signs and a linear bound on naturals. Assumes nothing.
 use mathlib.Core.Path.{_≡_, refl}
 use mathlib.Core.Bool.{Bool, true, false, cond}
@@ -87,6 +87,10 @@ module _ (k : ℕ) (a b : ℤ) (ha : mag a < 2 ^ k) (hb : mag b < 2 ^ k) where
 
   pub quotient-range : mag (quotient a b) ≤ 2 ^ k
   quotient-range = omega (arith, mag-abs (quotient a b), quotient-small a b, abs-mag a)
+
+-- a total of i numbers from -w to w - 1, and one more
+pub total-range : (w i : ℕ) (t z : ℤ) → natAbs t ≤ i * w → mag z < w → natAbs (t +ℤ z) ≤ i * w + w
+total-range w i t z ht hz = omega (arith, abs-sum t z, abs-mag z)
 
 -- what passed both tests of a range is in it
 pub in-range : (h : ℕ) (z : ℤ) → ltZ z (negsuc h) ≡ false → ltZ (pos h) z ≡ false → mag z < suc h

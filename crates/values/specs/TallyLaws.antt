@@ -17,7 +17,7 @@ use Rattle.values.specs.Values.{pick, ranged, wrongKind}
 use Rattle.values.specs.Windows.{total}
 use Rattle.values.specs.Runs.{Results, numbers, because, with, results, holds, countOf, stretch, longest, ofNumbers, concluded, ofRuns}
 use Rattle.values.specs.WindowLaws.{drop-next}
-use Rattle.values.specs.Ranges.{abs-sum, abs-mag}
+use Rattle.values.specs.Ranges.{total-range}
 use Rattle.values.specs.Tallies.{begun, noted, halted, entered, choose, stepped, gathered, ofTally, finished, Within}
 
 -- ---- a tally that has stopped stays, so the rest of the results need not be worked out
@@ -155,7 +155,7 @@ within-noted k t z h w = record {
   count = omega (arith, if-most (holds z) 1);
   stretch = omega (arith, if-most (holds z) (t .stretch + 1));
   longest = omega (arith, if-most (holds z) (t .stretch + 1));
-  total = omega (arith, abs-sum (t .total) z, abs-mag z);
+  total = omega (arith, total-range 2147483648 k (t .total) z (w .total) h);
 }
 
 within-halted : (k r : ℕ) → Within k (halted r)

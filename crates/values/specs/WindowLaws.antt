@@ -11,7 +11,7 @@ use lib.Seq.{take-all, take-nil, drop-nil, drop-drop, drop-cons}
 use lib.Signed.{mag}
 use Rattle.values.specs.declared.Value.the-variants.{Number}
 use Rattle.values.specs.Windows.{readingsIn, clipped, total, foldFrom, extreme}
-use Rattle.values.specs.Ranges.{abs-sum, abs-mag}
+use Rattle.values.specs.Ranges.{total-range}
 
 -- ---- the readings of a window
 
@@ -91,7 +91,7 @@ unfolding total
 summed-more xs t i s h k = record {
   short = s .short;
   within = omega arith;
-  small = omega (arith, abs-sum t (getD xs i (pos 0)), abs-mag (getD xs i (pos 0)));
+  small = omega (arith, total-range 2147483648 i t (getD xs i (pos 0)) (s .small) k);
   rest =
       +ℤ-assoc t (getD xs i (pos 0)) (total (drop (i + 1) xs))
       ∙ ap (λ (ys : List ℤ). t +ℤ total ys) (drop-next xs i h)
