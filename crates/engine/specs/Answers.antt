@@ -3,7 +3,7 @@ use mathlib.Core.Bool.{Bool, true, false, cond}
 use mathlib.Core.List.{List, [], _∷_}
 use Prim.Native.Nat.{ℕ}
 use lib.Dec.{eqb}
-use lib.IntN.{natAbs, pos}
+use lib.IntN.{ℤ, pos, negsuc}
 use lib.ListN.{take}
 use Rattle.meaning.specs.Evaluation.{Shown, aNumber, aWindow, aFunction, aDelay, aReason}
 use Rattle.model.specs.Model.{Answer, refused, opened, edited, notYet, finished}
@@ -39,13 +39,20 @@ pickShown false a b = b
 abbrev pub namesOf : ℕ → ℕ → List ℕ
 namesOf name other = cond (eqb other 0) (name ∷ []) (name ∷ other ∷ [])
 
+-- a start or a reason; a negative number is none of them, and stands for one that is never shown
+abbrev pub natural : ℤ → ℕ
+natural (pos n) = n
+natural (negsuc n) = 4294967296
+
+-- any other kind is that of no value: there is no reason 0
 unfoldable pub shownOf : View → Shown
 shownOf v =
     pickShown (eqb (v .kind) 1) (aNumber (v .first))
-    (pickShown (eqb (v .kind) 2) (aWindow (natAbs (v .first)) (v .second))
+    (pickShown (eqb (v .kind) 2) (aWindow (natural (v .first)) (v .second))
     (pickShown (eqb (v .kind) 3) (aFunction (v .name))
     (pickShown (eqb (v .kind) 4) (aDelay (namesOf (v .name) (v .other)))
-    (aReason (natAbs (v .first))))))
+    (pickShown (eqb (v .kind) 5) (aReason (natural (v .first)))
+    (aReason 0)))))
 
 abbrev pub previewReply : Previewed → Reply
 previewReply (P.NotYet k) = notYet k

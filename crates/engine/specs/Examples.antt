@@ -1,4 +1,5 @@
--- 01's small example of refusal 4, and others like it, computed: caches that no call leaves are declined, and an empty one is not.
+-- 01's small example of refusal 4, and others like it, computed: caches that no call leaves are declined, and an empty one is not; and the
+-- place of 4 among the other refusals.
 -- Assumes nothing.
 use mathlib.Core.Path.{_≡_, refl}
 use mathlib.Core.Bool.{true, false}
@@ -10,9 +11,11 @@ use Rattle.language.specs.Names.{bytes, packOnto, letWord, inWord!, dataWord}
 use Rattle.language.specs.Members.{row, memberAt}
 use Rattle.values.specs.Packing.{isPacked}
 use Rattle.meaning.specs.Evaluation.{hasName, joined, without}
-use Rattle.table.specs.Memory.{Memory, nodeAt, keptAt, entriesFrom}
+use Rattle.model.specs.Model.{refused}
+use Rattle.table.specs.Memory.{Memory, fits, nodeAt, keptAt, entriesFrom}
 use Rattle.table.specs.Nodes.{memberOfKind, arity, kids, sameNode, wordNumber, isName}
 use Rattle.table.specs.WellFormed.{every, keyRight, arityRight, hasNode, distinct, awaitedBy, awaitedAfter, doneAt, allDone, namesRight, keptRight, wellFormed}
+use Rattle.engine.specs.Calls.{editAnswer, previewed, previewAnswer}
 
 -- links and cells of entries, in memory of the cache's size, over a recording of five readings
 abbrev memory : ℕ → List ℕ → List ℕ → Memory
@@ -62,3 +65,16 @@ caches =
 pub caches-judged : map wellFormed caches ≡ true ∷ true ∷ true ∷ replicate 12 false
 unfolding wellFormed every nodeAt keptAt entriesFrom memberOfKind memberAt arity kids sameNode wordNumber isName keyRight arityRight hasNode distinct awaitedBy awaitedAfter doneAt allDone namesRight keptRight isPacked row bytes packOnto letWord inWord! dataWord hasName joined without
 caches-judged = refl
+
+-- the same cache, lent without its links
+abbrev cut : Memory
+cut = record { readings = replicate 1024 (pos 0); heads = 1 ∷ 5 ∷ []; links = []; cells = replicate 2048 0 }
+
+-- a text that is too long, and too few places; too few places; too little of the cache; the cache alone; and likewise for preview, of an
+-- entry that is not held
+pub refusals-ordered :
+    editAnswer itself (replicate 127 0) (replicate 1025 32) ∷ editAnswer itself (replicate 127 0) [] ∷ editAnswer cut (replicate 128 0) []
+    ∷ editAnswer itself (replicate 128 0) [] ∷ previewAnswer cut 9 1 ∷ previewAnswer itself 9 1 ∷ []
+    ≡ refused 1 0 ∷ refused 3 0 ∷ refused 3 0 ∷ refused 4 0 ∷ refused 3 0 ∷ refused 4 0 ∷ []
+unfolding editAnswer previewed fits wellFormed every nodeAt keptAt entriesFrom memberOfKind memberAt arity kids sameNode wordNumber isName keyRight arityRight hasNode distinct awaitedBy awaitedAfter doneAt allDone namesRight keptRight isPacked row bytes packOnto letWord inWord! dataWord hasName joined without
+refusals-ordered = refl

@@ -1,4 +1,5 @@
--- 01, "Sample previews": the starred samples, as sessions of the reference model, and one computed check over the list.
+-- 01, "Sample previews": the starred samples, as sessions of the reference model, and one computed check over the list; and likewise samples
+-- of hiding.
 -- Assumes nothing.
 use mathlib.Core.Path.{_≡_, refl}
 use mathlib.Core.Bool.{true}
@@ -8,7 +9,7 @@ use lib.IntN.{ℤ, pos, negsuc}
 use lib.ListN.{replicate}
 use Rattle.language.specs.Limits.{textParts}
 use Rattle.language.specs.Names.{bytes}
-use Rattle.meaning.specs.Evaluation.{Shown, aNumber, aWindow, aReason}
+use Rattle.meaning.specs.Evaluation.{Shown, aNumber, aWindow, aFunction, aReason}
 use Rattle.model.specs.Model.{State, Request, Edit, Preview, Call, Answer, edited, finished, Outcome, start}
 use Rattle.formulas.specs.Formulas.{formulas}
 use Rattle.formulas.specs.Computed.{run}
@@ -62,3 +63,15 @@ starred =
 pub samples-hold : map (heard (start formulas recording)) starred ≡ map expected starred
 unfolding heard expected run
 samples-hold = refl
+
+-- beside the starred ones: an inner let or lambda hides an outer let, and a let's name is not in scope in its own value
+abbrev pub hiding : List (List Sample)
+hiding =
+    (record { text = bytes "let x = 1 in let x = 2 in x"; whole = 1; parts = 5; new = 2; places = 1 ∷ 0 ∷ 1 ∷ 1 ∷ 1 ∷ []; worked = 0; shown = aNumber (pos 2) } ∷ [])
+    ∷ (record { text = bytes "let b = 1 in \\b -> b"; whole = 2; parts = 4; new = 3; places = 2 ∷ 0 ∷ 2 ∷ 1 ∷ []; worked = 1; shown = aFunction 98 } ∷ [])
+    ∷ (record { text = bytes "let x = x in x"; whole = 0; parts = 3; new = 1; places = 0 ∷ 0 ∷ 0 ∷ []; worked = 0; shown = aReason 1 } ∷ [])
+    ∷ []
+
+pub hiding-holds : map (heard (start formulas recording)) hiding ≡ map expected hiding
+unfolding heard expected run
+hiding-holds = refl

@@ -166,10 +166,11 @@ fn shown_as(v: View) {
             words(b"awaits ");
             names(v.name, v.other);
         }
-        _ => {
+        5 => {
             words(b"reason ");
             signed(v.first);
         }
+        _ => words(b"no kind"),
     }
 }
 
