@@ -22,7 +22,7 @@ bench:
 	$(RT) staticlib measured
 	cargo run --quiet --release --offline --manifest-path host/bench/Cargo.toml
 
-# Proves the engine first, where that is not done yet. Nothing is written to the output, so that make run can be piped.
+# Proves the engine's crate each time, and those below it that have changed. Nothing is written to the output, so that make run can be piped.
 library:
 	@$(RT) staticlib engine >&2
 

@@ -12,7 +12,9 @@
  *     formula_edit_answer edit = formula_cache_edit(&cache, text, text_length, places);
  *     if (edit.refusal == FORMULA_ACCEPTED) {
  *         formula_preview_answer seen = formula_cache_preview(&cache, places[part], allowance);
- *         if (seen.finished) ... show it; otherwise draw "not yet" and preview again at the next frame
+ *         if (seen.refusal != FORMULA_ACCEPTED) ... stop: the same preview would be refused again
+ *         else if (seen.finished) ... show it
+ *         else ... draw "not yet" and preview again at the next frame
  *     }
  *
  * For every slice:
@@ -103,7 +105,7 @@ typedef struct {
 /* The answer to a preview, 40 bytes. A field that has no value is 0. */
 typedef struct {
     uint32_t refusal;  /* enum formula_refusal */
-    uint32_t finished; /* 1: nothing is left to work out, and the fields from kind on are set; 0: not yet */
+    uint32_t finished; /* 1: nothing is left, and the fields from kind on are set; 0: not yet, or refused */
     uint32_t worked;   /* how many entries this call worked out */
     uint32_t kind;     /* enum formula_kind */
     int32_t first;
@@ -209,28 +211,107 @@ static inline formula_preview_answer formula_cache_preview(formula_cache *cache,
 }
 
 /*
- * How deep runs of functions (countWhere, longestRun, sumBy) stand within runs below an entry, itself counted.
- * An allowance counts entries, not time: an entry of depth d may take as many runs as the recording has readings,
- * to the power of d, and nothing interrupts it. Ask this before the first preview; see docs/INTEGRATION.md.
- * Over contents that no cache has it still ends, and gives some number; 0 for an entry that is not there.
+ * What formula_cache_run_depth finds out about an entry. A nest is how many runs are under way at once. None is
+ * over 255: each run has a member and a function among the entries, and one within another a variable too.
+ */
+typedef struct {
+    uint16_t awaited[2]; /* the variables that the entry awaits, one more than their numbers; 0 for none */
+    uint8_t within[2];   /* for each: the deepest nest of what a run that sets it works out again, here or below */
+    uint8_t run;         /* the nest of a run of this entry, where it is a function */
+    uint8_t depth;       /* the deepest nest here or below */
+} formula_nest;
+
+static inline uint8_t formula_nest_deeper(uint8_t one, uint8_t other)
+{
+    return one > other ? one : other;
+}
+
+/* The entry awaits the variable. A third one is dropped: no accepted cache has an entry that awaits three. */
+static inline void formula_nest_await(formula_nest *nest, uint16_t variable, uint8_t within)
+{
+    unsigned slot = nest->awaited[0] == 0 || nest->awaited[0] == variable ? 0 : 1;
+    if (nest->awaited[slot] == 0 || nest->awaited[slot] == variable) {
+        nest->awaited[slot] = variable;
+        nest->within[slot] = formula_nest_deeper(nest->within[slot], within);
+    }
+}
+
+/* Entry `at` depends on another. It awaits what that one does, but for a function's variable of its own name. */
+static inline void formula_nest_depend(const formula_cache *cache, uint32_t at, const formula_nest *below,
+                                       formula_nest *nest)
+{
+    unsigned slot;
+    for (slot = 0; slot < 2 && below->awaited[slot] != 0; slot++) {
+        uint16_t variable = below->awaited[slot];
+        if (cache->links[3 * at] == 4 && cache->cells[4 * at] == cache->cells[4 * (variable - 1)]) {
+            nest->run = (uint8_t)(1 + below->within[slot]);
+        } else {
+            formula_nest_await(nest, variable, below->within[slot]);
+        }
+    }
+    nest->depth = formula_nest_deeper(nest->depth, below->depth);
+}
+
+/* The nest of entry `at` if it runs a function (kinds 18 to 20) over what can be a window (3, 11, 12), or 0. */
+static inline uint8_t formula_nest_run(const formula_cache *cache, const formula_nest *nests, uint32_t at)
+{
+    const uint16_t *links = cache->links + 3 * at;
+    uint16_t receiver, argument;
+    if (links[0] < 18 || links[0] > 20 || links[1] < 1 || links[1] > at || links[2] < 1 || links[2] > at) {
+        return 0;
+    }
+    receiver = cache->links[3 * (links[1] - 1)];
+    argument = cache->links[3 * (links[2] - 1)];
+    if ((receiver != 3 && receiver != 11 && receiver != 12) || argument != 4) {
+        return 0;
+    }
+    return nests[links[2] - 1].run;
+}
+
+/* Entry `at`, from those before it. */
+static inline formula_nest formula_nest_at(const formula_cache *cache, const formula_nest *nests, uint32_t at)
+{
+    /* The entry's kind, and one more than each dependency's number, which is lower; 0 for none. */
+    const uint16_t *links = cache->links + 3 * at;
+    formula_nest nest = {{0, 0}, {0, 0}, 1, 0};
+    uint8_t run = formula_nest_run(cache, nests, at);
+    unsigned link;
+    if (links[0] == 1) {
+        formula_nest_await(&nest, (uint16_t)(at + 1), 0);
+    }
+    for (link = 1; link <= 2; link++) {
+        if (links[link] >= 1 && links[link] <= at) {
+            formula_nest_depend(cache, at, &nests[links[link] - 1], &nest);
+        }
+    }
+    /* A run that sets a variable which the entry awaits works the entry out again. */
+    nest.within[0] = formula_nest_deeper(nest.within[0], run);
+    nest.within[1] = formula_nest_deeper(nest.within[1], run);
+    nest.depth = formula_nest_deeper(nest.depth, run);
+    return nest;
+}
+
+/*
+ * How deep runs of functions (countWhere, longestRun, sumBy) stand in one another when an entry is previewed: no
+ * more are under way at once. For a text it is at most 22 (docs/NESTING.md). A run stands in another where its member
+ * awaits the other's variable. What does not await it keeps its result, so that runs one after another count as one.
+ * An allowance counts entries, not time, and nothing interrupts an entry: over r readings one of depth d may take r
+ * to the power of d runs, and several times that if a function's body has several runs in it. Ask this before the
+ * first preview; docs/INTEGRATION.md has the time of a run, and the stack for each depth.
+ * It reads the entries up to this one and takes about 4 KB of stack. Over contents that no cache has it still ends,
+ * and gives some number; 0 for an entry that is not there.
  */
 static inline unsigned formula_cache_run_depth(const formula_cache *cache, uint32_t entry)
 {
-    uint16_t depths[FORMULA_TABLE_ENTRIES];
+    formula_nest nests[FORMULA_TABLE_ENTRIES];
     uint32_t at;
     if (entry >= FORMULA_TABLE_ENTRIES || entry >= cache->heads[0]) {
         return 0;
     }
     for (at = 0; at <= entry; at++) {
-        /* The entry's kind, and one more than each dependency's number, which is lower; 0 for none. */
-        const uint16_t *links = cache->links + 3 * at;
-        uint16_t first = links[1] >= 1 && links[1] <= at ? depths[links[1] - 1] : (uint16_t)0;
-        uint16_t second = links[2] >= 1 && links[2] <= at ? depths[links[2] - 1] : (uint16_t)0;
-        /* Kinds 18 to 20 are the members that run a function. */
-        unsigned runs = links[0] >= 18 && links[0] <= 20 ? 1 : 0;
-        depths[at] = (uint16_t)((first > second ? first : second) + runs);
+        nests[at] = formula_nest_at(cache, nests, at);
     }
-    return depths[entry];
+    return nests[entry].depth;
 }
 
 /*

@@ -23,7 +23,17 @@
 /* Entries worked out in one frame. The watch sets this by the time that a frame leaves. */
 #define FRAME_ALLOWANCE 2
 
-/* Runs of a function that a single entry may take. Parts that may take more are not previewed. */
+/*
+ * Runs in one another that a preview may have, by the stack of the task: depth 1 takes up to 18,840 bytes, each
+ * further one 5,920 more (docs/INTEGRATION.md). Depth 3 takes 30,680, less than the most that an edit takes, so that
+ * a task which can edit can preview. Parts that are deeper are not previewed.
+ */
+#define MOST_DEPTH 3
+
+/*
+ * Runs of a function that an entry may take, by the time: a run takes 12 ns with the smallest body, and about 500
+ * times that with the costliest measured (docs/INTEGRATION.md). Parts that may take more runs are not previewed.
+ */
 #define MOST_RUNS 10000000
 
 /* Readings of a window that are shown, and parts that are named as not yet worked out. */
@@ -129,7 +139,7 @@ static const char *parse_reading(const char *word, size_t length, int32_t *readi
     for (; is_digit(*digit); digit++) {
         size = size <= beyond ? 10 * size + (*digit - '0') : size;
     }
-    if (*digit != '\0') {
+    if ((size_t)(digit - word) != length) {
         return "is no number";
     }
     size = word[0] == '-' ? -size : size;
@@ -375,21 +385,27 @@ static void print_refusal(const struct screen *screen, const formula_edit_answer
 
 /* ---- Frames ---- */
 
-/* Whether an entry may take too many runs: as many as there are readings, to the power of the depth. */
+/*
+ * Whether a preview may take too much stack or time: runs too deep in one another, or too many of them. They are as
+ * many as there are readings, to the power of the depth, if each body has one run in it; with more runs in a body,
+ * several times as many.
+ */
 static bool takes_too_much(const formula_cache *cache, size_t readings, uint32_t entry)
 {
     unsigned depth = formula_cache_run_depth(cache, entry);
     uint64_t runs = 1;
-    while (depth > 0 && runs <= MOST_RUNS) {
+    unsigned level;
+    for (level = 0; level < depth && runs <= MOST_RUNS; level++) {
         runs *= readings;
-        depth--;
     }
-    return runs > MOST_RUNS;
+    return depth > MOST_DEPTH || runs > MOST_RUNS;
 }
 
+/* Whether a part is to be previewed again. One that was refused is not finished either, and would be refused again. */
 static bool is_awaited(const struct screen *screen, uint32_t part)
 {
-    return !screen->is_too_much[part] && !screen->shown[part].finished;
+    const formula_preview_answer *shown = &screen->shown[part];
+    return !screen->is_too_much[part] && shown->refusal == FORMULA_ACCEPTED && !shown->finished;
 }
 
 /* Nothing is shown yet, and some parts never will be. */
@@ -517,12 +533,21 @@ static void echo(const char *text, size_t length)
     printf("\n");
 }
 
-/* Edits the cache with a formula and shows it. A full table is opened again, once: that drops what it keeps. */
+/* Whether an edit is made again over a cache that is opened again: the table is full, or the memory was damaged. */
+static bool needs_open(uint32_t refusal)
+{
+    return refusal == FORMULA_REFUSAL_TABLE_FULL || refusal == FORMULA_REFUSAL_CACHE_ILL_FORMED;
+}
+
+/*
+ * Edits the cache with a formula and shows it. Where that needs an open, there is one, once: it drops what the cache
+ * keeps. A cache that is damaged later, before a preview, is opened again at the next formula.
+ */
 static void take_formula(formula_cache *cache, const struct recording *recording, struct screen *screen,
                          uint32_t *held)
 {
     formula_edit_answer answer = formula_cache_edit(cache, screen->text, screen->length, screen->places);
-    if (answer.refusal == FORMULA_REFUSAL_TABLE_FULL) {
+    if (needs_open(answer.refusal)) {
         print_refusal(screen, &answer);
         printf("  the recording is opened again\n");
         (void)formula_cache_open(cache, recording->readings, recording->length);

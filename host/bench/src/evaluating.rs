@@ -27,7 +27,7 @@ pub fn formula(text: &str, readings: &[i32]) -> Formula {
 }
 
 /// Works out the entry from nothing: the kept values are cleared first.
-fn work(cache: &mut Cache, entry: u16) -> (u64, bool) {
+pub fn work(cache: &mut Cache, entry: u16) -> (u64, bool) {
     for cells in cache.cells.chunks_exact_mut(4).take(cache.heads[0] as usize) {
         cells[1..].fill(0);
     }

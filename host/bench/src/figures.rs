@@ -104,6 +104,15 @@ impl Figures {
         self.list.iter().filter(is_one).map(|figure| (figure.at.into(), figure.value)).collect()
     }
 
+    /// With another run's figures in place of its own of a group.
+    pub fn with_group(mut self, group: &str, other: Figures) -> Figures {
+        let of_group = |figure: &Figure| figure.group == group;
+        let at = self.list.iter().position(of_group).unwrap_or(self.list.len());
+        self.list.retain(|figure| !of_group(figure));
+        self.list.splice(at..at, other.list.into_iter().filter(of_group));
+        self
+    }
+
     pub fn write(&self, file: &Path) -> io::Result<()> {
         let mut text = String::new();
         for note in &self.notes {

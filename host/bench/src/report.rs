@@ -43,6 +43,13 @@ pub fn write(figures: &Figures, docs: &Path) -> io::Result<()> {
     plot("bench-readings.svg", plot::lines(&readings, &all, ("readings", "ns"), true))
 }
 
+/// The table of a group of bytes alone.
+pub fn write_bytes(figures: &Figures, docs: &Path, group: &str) -> io::Result<()> {
+    let page = docs.join("BENCHMARKS.md");
+    let block = values(figures, group, &[ENGINE], plot::number);
+    fs::write(&page, filled(&fs::read_to_string(&page)?, group, &block))
+}
+
 /// The sides of the group that counts entries.
 const HELD: [&str; 3] = ["edit", "refused edit", "preview"];
 

@@ -7,7 +7,13 @@ use crate::{proved, tables, texts};
 use std::arch::asm;
 
 const BYTES: usize = 1 << 23;
-const PAINT: u8 = 0xa5;
+const PAINTS: [u8; 2] = [0xa5, 0x5a];
+
+/// Functions that are judged while others are judged or run: these take a frame as runs do.
+const FUNCTIONS: &str = r"\a -> \b -> a.add(b)";
+const RUN_AND_FUNCTION: &str = r"data.sumBy(\p -> (\q -> q.add(p)).add(1))";
+const RUNS_AND_FUNCTION: &str =
+    r"let f = \q -> (\s -> s.add(q)).add(1) in data.sumBy(\p -> data.take(p).sumBy(f))";
 
 /// Runs a closure at the bottom of the new stack.
 extern "C" fn enter<F: FnMut()>(run: *mut F) {
@@ -16,8 +22,8 @@ extern "C" fn enter<F: FnMut()>(run: *mut F) {
 }
 
 /// How much of a painted stack the call uses.
-fn on_painted<F: FnMut()>(run: &mut F) -> usize {
-    let mut memory = vec![PAINT; BYTES];
+fn on_painted<F: FnMut()>(paint: u8, run: &mut F) -> usize {
+    let mut memory = vec![paint; BYTES];
     let top = memory.as_mut_ptr_range().end as usize & !15;
     // SAFETY: the new stack is a live buffer, aligned as a call asks for, and large enough for what is measured; the old stack pointer is
     // kept in a register that a callee preserves, and put back.
@@ -34,20 +40,23 @@ fn on_painted<F: FnMut()>(run: &mut F) -> usize {
             clobber_abi("C"),
         );
     }
-    let kept = memory.iter().take_while(|&&byte| byte == PAINT).count();
+    let kept = memory.iter().take_while(|&&byte| byte == paint).count();
     assert!(kept > 0, "the painted stack is too small");
     BYTES - kept
 }
 
-/// What the call uses beyond a call that does nothing.
+/// What the call uses beyond a call that does nothing. That one writes little more than a return address, whose last byte may be one of the
+/// paints by chance.
 fn used(mut run: impl FnMut()) -> f64 {
-    (on_painted(&mut run) - on_painted(&mut || ())) as f64
+    let [one, other] = PAINTS.map(|paint| on_painted(paint, &mut || ()));
+    (on_painted(PAINTS[0], &mut run) - one.max(other)) as f64
 }
 
 /// The deepest texts.
-fn texts() -> [(&'static str, Vec<u8>); 8] {
+fn texts() -> [(&'static str, Vec<u8>); 9] {
     [
         ("16 open marks: calls in arguments", texts::nested_calls()),
+        ("16 open marks: calls in arguments, on brackets", texts::bracketed_receivers()),
         ("16 open marks: lets in values", texts::nested_lets()),
         ("16 open marks: lets in bodies", texts::lets_in_bodies()),
         ("16 open marks: brackets", texts::nested_brackets()),
@@ -76,62 +85,103 @@ fn deepest(recording: &[i32]) -> (Cache, u32) {
     (cache, runs)
 }
 
-pub fn measure(readings: &[i32], figures: &mut Figures) {
-    let mut bytes = |case: String, used| figures.row("stack", &case, 0, &[(ENGINE, used)]);
-    let mut cache = Cache::new(&[]);
-    bytes("open: 1,024 readings".to_string(), used(|| cache.open(readings)));
-    for (name, text) in texts() {
-        let mut cache = Cache::new(readings);
-        let edit = used(|| assert_eq!(cache.edit(&text).refusal, 0));
-        bytes(format!("edit: {name}"), edit);
+/// A cache that no text makes, without a run: each function stands in the body of the next and awaits its variable, so that all are judged in
+/// one another.
+fn deepest_functions(recording: &[i32]) -> (Cache, u32) {
+    let mut cache = Cache::new(recording);
+    let names = ["a", "b"];
+    let variables = names.map(|name| cache.variable(name));
+    let mut body = cache.member(ADD, variables[0], variables[1]);
+    let mut functions = 0;
+    loop {
+        let function = cache.function(names[functions % 2], body);
+        functions += 1;
+        if cache.heads[0] as usize + 2 > ENTRIES {
+            return (cache, functions as u32);
+        }
+        body = cache.member(ADD, function, variables[(functions + 1) % 2]);
     }
+}
+
+pub fn measure(readings: &[i32], figures: &mut Figures) {
+    let mut cache = Cache::new(&[]);
+    bytes("open: 1,024 readings", used(|| cache.open(readings)), figures);
+    edits(readings, figures);
+    let full = tables::worked(tables::full(readings));
+    preview("nothing to work out and 512 entries held", full.clone(), figures);
+    previews(figures);
+    parts(&full, figures);
+}
+
+fn bytes(case: &str, used: f64, figures: &mut Figures) {
+    figures.row("stack", case, 0, &[(ENGINE, used)]);
+}
+
+fn edits(readings: &[i32], figures: &mut Figures) {
+    let mut edit = |name: &str, text: &[u8], refusal: u32| {
+        let mut cache = Cache::new(readings);
+        let edit = used(|| assert_eq!(cache.edit(text).refusal, refusal));
+        bytes(&format!("edit: {name}"), edit, figures);
+    };
+    for (name, text) in texts() {
+        edit(name, &text, 0);
+    }
+    let refused = texts::one_mark_too_many();
+    edit("17 open marks: calls in arguments, on brackets; refused", &refused, 12);
+}
+
+/// A preview of the last entry.
+fn preview(name: &str, mut cache: Cache, figures: &mut Figures) {
+    let last = cache.heads[0] - 1;
+    let preview = used(|| assert_eq!(cache.preview(last).finished, 1));
+    bytes(&format!("preview: {name}"), preview, figures);
+}
+
+fn previews(figures: &mut Figures) {
     // The window of a run is one reading, so that runs in one another come to an end.
     let few = [1];
-    let mut preview = |name: &str, mut cache: Cache, entry: u32| {
-        let preview = used(|| assert_eq!(cache.preview(entry).finished, 1));
-        bytes(format!("preview: {name}"), preview);
-    };
-    let full = tables::worked(tables::full(readings));
-    preview("nothing to work out and 512 entries held", full.clone(), 511);
     let deep = texts::nested_runs();
     for (name, text) in [
         ("no run", "data.skip(1).sum()"),
+        ("no run, a function in a function", FUNCTIONS),
         ("1 run", SINGLE),
+        ("1 run, a function in its body", RUN_AND_FUNCTION),
         ("2 runs in one another", NESTED),
+        ("2 runs in one another, a function in the inner body", RUNS_AND_FUNCTION),
         ("3 runs in one another", THREE_DEEP),
         ("22 runs in one another: the most in 128 parts", &deep),
     ] {
-        let formula = formula(text, &few);
-        preview(name, formula.cache, formula.entry.into());
+        preview(name, formula(text, &few).cache, figures);
     }
-    let (handmade, runs) = deepest(&few);
-    let last = handmade.heads[0] - 1;
-    preview(&format!("{runs} runs in one another: a cache that no text makes"), handmade, last);
-    parts(&full, figures);
+    let (cache, runs) = deepest(&few);
+    preview(&format!("{runs} runs in one another: a cache that no text makes"), cache, figures);
+    let (cache, functions) = deepest_functions(&few);
+    let name = format!("no run, {functions} functions in one another: a cache that no text makes");
+    preview(&name, cache, figures);
 }
 
 /// The parts of the engine by themselves.
 fn parts(full: &Cache, figures: &mut Figures) {
-    let mut bytes = |case: &str, used| figures.row("stack", case, 0, &[(ENGINE, used)]);
     for (name, text) in texts() {
         let (mut records, mut places) = ([0; 256], [0; 128]);
         let read = used(|| assert!(proved::read(&text, &mut records, &mut places) >> 32 == 0));
-        bytes(&format!("part: reading {name}"), read);
+        bytes(&format!("part: reading {name}"), read, figures);
     }
     let well_formed = used(|| {
         assert!(proved::is_well_formed(&full.heads, &full.links, &full.cells));
     });
-    bytes("part: well-formedness of 512 entries", well_formed);
+    bytes("part: well-formedness of 512 entries", well_formed, figures);
     let records = tables::records();
     let bind = used(|| {
         proved::bind(&full.links, &full.cells, 384, &records, 128);
     });
-    bytes("part: binding 128 records to 384 entries", bind);
+    bytes("part: binding 128 records to 384 entries", bind, figures);
     let mut own = full.clone();
-    bytes("part: working out nothing with 512 entries", used(|| assert!(!own.work(511).1)));
+    let work = used(|| assert!(!own.work(511).1));
+    bytes("part: working out nothing with 512 entries", work, figures);
     for (name, text) in [("1 run", SINGLE), ("2 runs", NESTED), ("3 runs", THREE_DEEP)] {
         let mut formula = formula(text, &[3, 1, 2]);
         let work = used(|| assert!(!formula.cache.work(formula.entry).1));
-        bytes(&format!("part: working out {name}"), work);
+        bytes(&format!("part: working out {name}"), work, figures);
     }
 }

@@ -63,6 +63,16 @@ pub fn nested_calls() -> Vec<u8> {
     ("data.skip(".repeat(16) + "1" + &")".repeat(16)).into_bytes()
 }
 
+/// 16 open marks, each a call's bracket behind a receiver in brackets.
+pub fn bracketed_receivers() -> Vec<u8> {
+    ("(1).add(".repeat(16) + "1" + &")".repeat(16)).into_bytes()
+}
+
+/// The same with a 17th mark, which is refused.
+pub fn one_mark_too_many() -> Vec<u8> {
+    ("(1).add(".repeat(16) + "1.count(").into_bytes()
+}
+
 /// 16 open marks, each a let in the value of the one around it.
 pub fn nested_lets() -> Vec<u8> {
     ("let x = ".repeat(16) + "1" + &" in x".repeat(16)).into_bytes()
@@ -111,6 +121,25 @@ pub fn with_nested() -> String {
 .add(data.longestRun(\b -> b.gt(145)))
 .mul(100).div(data.max().sub(data.min()))";
     text.to_string()
+}
+
+/// A run of a body with as many members of numbers as a text has parts for.
+pub fn numbers_in_body() -> String {
+    format!(r"data.sumBy(\b -> b{})", ".sub(1)".repeat(62))
+}
+
+/// A run of a body with 27 sums, least and greatest readings of windows that depend on the variable: the whole recording, all but one reading
+/// and so on.
+pub fn sums_in_body() -> String {
+    let mut windows = "let w0 = data.take(b.mul(1024)) in ".to_string();
+    let mut sums = "b".to_string();
+    for i in 0..9 {
+        if i > 0 {
+            windows += &format!("let w{i} = w{}.skip(1) in ", i - 1);
+        }
+        sums += &format!(".sub(w{i}.sum()).sub(w{i}.min()).sub(w{i}.max())");
+    }
+    format!(r"data.sumBy(\b -> {windows}{sums})")
 }
 
 /// Runs within runs, 22 deep, in 127 parts: each let's function runs the one before it, over a window that depends on its own variable. No

@@ -37,15 +37,6 @@ static void depth(uint32_t entry)
     printf("depth %u\n", formula_cache_run_depth(&cache, entry));
 }
 
-/* Contents that no cache has. */
-static void fill_links(uint16_t link)
-{
-    size_t at;
-    for (at = 0; at < FORMULA_LINKS_CELLS; at++) {
-        cache.links[at] = link;
-    }
-}
-
 int main(void)
 {
     static const int32_t recording[] = {140, 152, 160, 148, 155};
@@ -86,8 +77,5 @@ int main(void)
     memset(&cache, 0xff, sizeof cache);
     depth(511);
     depth(512);
-    fill_links(20);
-    depth(19);
-    depth(511);
     return 0;
 }

@@ -1,11 +1,17 @@
 //! Programs in C: compiled with the system's compilers, linked with the engine, run.
 
+use std::io::Write;
 use std::path::{Path, PathBuf};
-use std::process::{Command, Output};
+use std::process::{Command, Output, Stdio};
 
 /// The project's folder.
 pub fn root() -> PathBuf {
     Path::new(env!("CARGO_MANIFEST_DIR")).join("../..")
+}
+
+/// A program of the folder check.
+pub fn check(name: &str) -> PathBuf {
+    Path::new(env!("CARGO_MANIFEST_DIR")).join("check").join(name)
 }
 
 /// Flags under which all C and C++ of the project must compile.
@@ -25,11 +31,34 @@ pub fn compiler(name: &str, standard: &str, include: &Path) -> Command {
 
 /// Compiles a C99 source, links it with the engine and gives the program.
 pub fn linked(source: &Path, program: &Path) -> PathBuf {
+    built(source, program, &["-O1"])
+}
+
+/// The same with sanitizers in the C code. They stop the program at a fault.
+pub fn sanitized(source: &Path, program: &Path) -> PathBuf {
+    let sanitizers = ["-fsanitize=address,undefined", "-fno-sanitize-recover=all"];
+    built(source, program, &[&["-g", "-O1"], &sanitizers[..]].concat())
+}
+
+fn built(source: &Path, program: &Path, flags: &[&str]) -> PathBuf {
     let mut command = compiler("cc", "c99", &root().join("include"));
-    command.arg("-O1").arg(source).arg(root().join("target/staticlib/libengine.a"));
+    command.args(flags).arg(source).arg(root().join("target/staticlib/libengine.a"));
     let output = command.arg("-o").arg(program).output().expect("cc is needed");
     assert!(output.status.success(), "{}", text(&output.stderr));
     program.to_path_buf()
+}
+
+/// Runs a program with an input.
+pub fn run(command: &mut Command, input: &[u8]) -> Output {
+    command.stdin(Stdio::piped()).stdout(Stdio::piped()).stderr(Stdio::piped());
+    let mut child = command.spawn().expect("the program runs");
+    let mut stdin = child.stdin.take().expect("the input is piped");
+    let input = input.to_vec();
+    // The program may end before it has read its input.
+    let writer = std::thread::spawn(move || drop(stdin.write_all(&input)));
+    let output = child.wait_with_output().expect("the program ends");
+    writer.join().expect("the input is written");
+    output
 }
 
 /// What a program wrote to its output, if it ended well.

@@ -3,7 +3,7 @@
 
 use engine::ffi::{EditAnswer, PreviewAnswer};
 use engine::memory;
-use engine::program::{compiler, exists, linked, root, text, written};
+use engine::program::{check, compiler, exists, linked, root, run, text, written};
 use plain::{limits, refusal, shown};
 use std::collections::BTreeMap;
 use std::mem::{offset_of, size_of};
@@ -17,12 +17,10 @@ fn folder(test: &str) -> PathBuf {
     path
 }
 
-fn check(name: &str) -> PathBuf {
-    Path::new(env!("CARGO_MANIFEST_DIR")).join("check").join(name)
-}
-
-fn run(program: &Path) -> String {
-    written(&Command::new(program).output().expect("a program just linked runs"))
+/// What a program of the folder check writes.
+fn said(name: &str) -> String {
+    let program = linked(&check(&format!("{name}.c")), &folder(name).join(name));
+    written(&run(&mut Command::new(program), b""))
 }
 
 /// The sizes and offsets of the Rust side.
@@ -100,8 +98,7 @@ fn numbers() -> Vec<(&'static str, usize)> {
 
 #[test]
 fn layout_and_numbers() {
-    let program = linked(&check("layout.c"), &folder("layout").join("layout"));
-    let lines = run(&program);
+    let lines = said("layout");
     let said: BTreeMap<&str, usize> = lines
         .lines()
         .map(|line| line.rsplit_once(' ').expect("a name and a number"))
@@ -135,7 +132,7 @@ uint32_t use(formula_cache *cache, uint16_t *places, char *name)
 {
     formula_name_text(0x61, name);
     return formula_cache_open(cache, NULL, 0) + formula_cache_edit(cache, \"1\", 1, places).whole +
-           formula_cache_preview(cache, 0, 1).worked;
+           formula_cache_preview(cache, 0, 1).worked + formula_cache_run_depth(cache, 0);
 }
 ";
 
@@ -200,7 +197,6 @@ fn the_assertions_refuse_other_sizes() {
 /// A program in C over the wrappers: every field of every answer.
 #[test]
 fn calls_from_c() {
-    let program = linked(&check("calls.c"), &folder("calls").join("calls"));
     let expected = "open 2\n\
         edit 4 0 0 0 0:\n\
         preview 4 0 0 0 0 0 [] []\n\
@@ -227,7 +223,6 @@ fn calls_from_c() {
         depth 2\ndepth 1\ndepth 1\ndepth 0\ndepth 0\n\
         edit 0 0 32 18 11: 32 27 1 23 22 26 25 24 1 28 27 30 1 29 27 32 1 31\n\
         depth 2\ndepth 0\ndepth 0\n\
-        depth 0\ndepth 0\n\
-        depth 1\ndepth 2\n";
-    assert_eq!(run(&program), expected);
+        depth 0\ndepth 0\n";
+    assert_eq!(said("calls"), expected);
 }

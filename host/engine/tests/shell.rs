@@ -1,11 +1,10 @@
 //! The formula screen, shell/formula.c: the stored example, recordings that can't be used,
 //! and texts that no example file holds.
 
-use engine::program::{linked, root, text, written};
+use engine::program::{self, check, linked, root, text, written};
 use plain::samples::taken::forms_128;
-use std::io::Write;
 use std::path::{Path, PathBuf};
-use std::process::{Command, Output, Stdio};
+use std::process::{Command, Output};
 use std::sync::OnceLock;
 
 fn folder() -> &'static Path {
@@ -19,17 +18,7 @@ fn shell() -> &'static Path {
 
 /// Runs the screen with arguments and an input.
 fn run(arguments: &[&str], input: &[u8]) -> Output {
-    let mut command = Command::new(shell());
-    command.args(arguments).current_dir(root());
-    command.stdin(Stdio::piped()).stdout(Stdio::piped()).stderr(Stdio::piped());
-    let mut child = command.spawn().expect("the screen runs");
-    let mut stdin = child.stdin.take().expect("the input is piped");
-    let input = input.to_vec();
-    // The screen may end before it has read its input.
-    let writer = std::thread::spawn(move || drop(stdin.write_all(&input)));
-    let output = child.wait_with_output().expect("the screen ends");
-    writer.join().expect("the input is written");
-    output
+    program::run(Command::new(shell()).args(arguments).current_dir(root()), input)
 }
 
 /// Runs the screen over a recording with these contents.
@@ -84,6 +73,9 @@ fn recordings_that_cannot_be_used() {
         check_bad(&output, &format!("bad.txt:3: '{}", &word[..word.len().min(31)]));
         check_bad(&output, fault);
     }
+    // a zero byte hides nothing
+    let output = run_over("zero.txt", "12\0xyz 3", b"data\n");
+    check_bad(&output, "zero.txt:1: '12' is no number");
     let long = "7 ".repeat(1025);
     check_bad(&run_over("long.txt", &long, b"data\n"), "long.txt:1: over 1024 readings");
     let output = run(&["one", "two"], b"");
@@ -129,4 +121,54 @@ fn a_full_table() {
     assert_eq!(output.matches(full).count(), 1);
     assert_eq!(output.matches("128 parts; entries: 128 new, 0 reused, 64 worked out").count(), 5);
     assert_eq!(output.matches("not yet").count(), 5 * 31);
+}
+
+/// An ill-formed cache is opened again by the next edit. A preview that finds it so is
+/// shown as refused, and is not awaited.
+#[test]
+fn a_damaged_cache() {
+    let program = linked(&check("recovery.c"), &folder().join("recovery"));
+    let ill_formed = "refused (4): the cache is ill-formed\n";
+    let expected = [
+        &format!("  {ill_formed}  the recording is opened again\n"),
+        "    0  data             entry   0  window from 0, length 5: 140 152 160 148 155\n",
+        "    1  .sum             entry   1  755\n",
+        "  2 parts; entries: 2 new, 0 reused, 1 worked out in 1 frame\n",
+        "    0  data             entry   0  window from 0, length 5: 140 152 160 148 155\n",
+        "    1  .sum             entry   1  755\n",
+        "    2  .add             entry   3  756\n",
+        "    3  1                entry   2  1\n",
+        "  4 parts; entries: 2 new, 2 reused, 1 worked out in 1 frame\n",
+        &format!("  {ill_formed}  the recording is opened again\n"),
+        "    0  data             entry   0  window from 0, length 5: 140 152 160 148 155\n",
+        "    1  .sum             entry   1  755\n",
+        "    2  .add             entry   3  756\n",
+        "    3  1                entry   2  1\n",
+        "  4 parts; entries: 4 new, 0 reused, 2 worked out in 1 frame\n",
+        &format!("    0  data             entry   0  {ill_formed}"),
+        &format!("    1  .max             entry   4  {ill_formed}"),
+        "  2 parts; entries: 1 new, 1 reused, 0 worked out in 1 frame\n",
+        &format!("  {ill_formed}  the recording is opened again\n"),
+        "    0  data             entry   0  window from 0, length 5: 140 152 160 148 155\n",
+        "    1  .max             entry   1  160\n",
+        "  2 parts; entries: 2 new, 0 reused, 1 worked out in 1 frame\n",
+    ];
+    assert_eq!(written(&program::run(&mut Command::new(program), b"")), expected.concat());
+}
+
+/// Over one reading each run is one, so that the depth alone turns a part away: for the
+/// stack.
+#[test]
+fn runs_too_deep_for_the_stack() {
+    let seen = |formula: &str| written(&run_over("one.txt", "1", formula.as_bytes()));
+    let three = r"let f = \a -> data.sumBy(\b -> a) in data.sumBy(\a -> data.take(a).sumBy(f))";
+    assert!(!seen(three).contains("too much work"), "{}", seen(three));
+    let four = r"let f = \a -> data.sumBy(\b -> a) in
+        data.sumBy(\a -> data.take(a).sumBy(\b -> data.take(b).sumBy(f)))";
+    let four = seen(&four.replace('\n', " "));
+    assert_eq!(four.matches("too much work: runs 4 deep\n").count(), 2, "{four}");
+    let two = r"\a -> data.take(a).sumBy(\b -> data.take(b).sumBy(f))";
+    let lets = format!("let f = {two} in ").repeat(9);
+    let deepest = seen(&format!(r"let f = \a -> data.sumBy(\b -> a) in {lets}data.sumBy({two})"));
+    assert!(deepest.contains("too much work: runs 22 deep\n"), "{deepest}");
 }

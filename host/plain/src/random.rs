@@ -182,8 +182,8 @@ pub fn is_affordable(text: &[u8], readings: usize) -> bool {
     readings.checked_pow(depth).is_some_and(|runs| runs <= MOST_RUNS)
 }
 
-/// For each form, how deep runs stand within runs when it is evaluated. The
-/// dependencies of a form have lower numbers, so theirs are known.
+/// For each form, a bound on how deep runs stand within runs when it is evaluated: all
+/// runs on a way down its dependencies. These have lower numbers, so theirs are known.
 fn run_depths(forms: &Forms) -> Vec<u32> {
     let mut depths: Vec<u32> = Vec::new();
     for form in &forms.list {

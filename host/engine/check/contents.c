@@ -1,0 +1,100 @@
+/*
+ * Asks formula_cache_run_depth about every entry of caches with contents that no edit makes, and writes the greatest
+ * answer for each sort of them. Run under sanitizers.
+ */
+#include "formula.h"
+
+#include <stdio.h>
+#include <string.h>
+
+static formula_cache cache;
+
+/* A generator of numbers, the same at each run. */
+static uint64_t draw(void)
+{
+    static uint64_t state = 1;
+    state = state * UINT64_C(6364136223846793005) + UINT64_C(1442695040888963407);
+    return state >> 33;
+}
+
+static unsigned deepest(void)
+{
+    unsigned most = 0;
+    uint32_t entry;
+    for (entry = 0; entry <= FORMULA_TABLE_ENTRIES; entry++) {
+        unsigned depth = formula_cache_run_depth(&cache, entry);
+        most = most > depth ? most : depth;
+    }
+    return most;
+}
+
+/* Any kinds, links and names, each below a bound. */
+static unsigned any_contents(uint64_t kinds, uint64_t links, uint64_t names)
+{
+    size_t at;
+    for (at = 0; at < FORMULA_LINKS_CELLS; at++) {
+        cache.links[at] = (uint16_t)(draw() % (at % 3 == 0 ? kinds : links));
+    }
+    for (at = 0; at < FORMULA_CELLS_CELLS; at++) {
+        cache.cells[at] = draw() % names;
+    }
+    return deepest();
+}
+
+/* Variables, functions, windows and runs of two names, mostly over entries shortly before: many await three names. */
+static unsigned any_runs(void)
+{
+    static const uint16_t kinds[] = {1, 3, 4, 4, 12, 20, 20};
+    size_t at;
+    for (at = 0; at < FORMULA_LINKS_CELLS; at++) {
+        cache.links[at] = at % 3 == 0 ? kinds[draw() % 7] : (uint16_t)(at / 3 - draw() % 6);
+    }
+    for (at = 0; at < FORMULA_CELLS_CELLS; at++) {
+        cache.cells[at] = draw() % 3;
+    }
+    return deepest();
+}
+
+/* One more entry; a dependency is one more than its number. */
+static void put(uint16_t kind, uint64_t key, uint32_t first, uint32_t second)
+{
+    uint32_t at = cache.heads[0]++;
+    cache.links[3 * at] = kind;
+    cache.links[3 * at + 1] = (uint16_t)first;
+    cache.links[3 * at + 2] = (uint16_t)second;
+    cache.cells[4 * at] = key;
+}
+
+/* A full table of runs in one another: each function runs the one before it, over a window of its own variable. */
+static unsigned most_runs(void)
+{
+    memset(&cache, 0, sizeof cache);
+    put(3, 0, 0, 0);
+    put(1, 'a', 0, 0);
+    put(12, 0, 1, 2);
+    put(4, 'a', 2, 0);
+    while (cache.heads[0] + 2 <= FORMULA_TABLE_ENTRIES) {
+        put(20, 0, 3, cache.heads[0]);
+        put(4, 'a', cache.heads[0], 0);
+    }
+    return deepest();
+}
+
+int main(void)
+{
+    unsigned any = 0;
+    unsigned runs = 0;
+    unsigned round;
+    memset(&cache, 0xff, sizeof cache);
+    printf("all bits set: %u\n", deepest());
+    for (round = 0; round < 100; round++) {
+        unsigned depth = any_contents(round % 2 == 0 ? 22 : 65536, round % 3 == 0 ? 514 : 65536, 3);
+        any = any > depth ? any : depth;
+        depth = any_runs();
+        runs = runs > depth ? runs : depth;
+    }
+    printf("any contents: %u\n", any);
+    printf("any runs: %u\n", runs);
+    printf("most runs: %u\n", most_runs());
+    return 0;
+}
