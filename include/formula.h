@@ -80,7 +80,7 @@ enum formula_kind {
     FORMULA_KIND_NUMBER = 1,   /* first: the number */
     FORMULA_KIND_WINDOW = 2,   /* first: the start, counted in the recording; second: the length */
     FORMULA_KIND_FUNCTION = 3, /* name: the name of its variable */
-    FORMULA_KIND_DELAYED = 4,  /* name, other: the names that it awaits; other is 0 where it is one */
+    FORMULA_KIND_DELAYED = 4,  /* name, other: the names that it awaits; 0 for none */
     FORMULA_KIND_MISSING = 5   /* first: the reason */
 };
 

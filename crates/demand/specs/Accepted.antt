@@ -55,7 +55,7 @@ every-nth p i (x ∷ xs) h =
     rw a (every-nth p (suc i) xs (λ j y e. let q : i + suc j ≡ suc i + j = omega arith in rw q at (h (suc j) y e)))
 
 -- the tests of a node by itself
-kind-right : (n : Node) → Fine n → kindKnown n ≡ true
+pub kind-right : (n : Node) → Fine n → kindKnown n ≡ true
 kind-right _ (aNumber k) = refl
 kind-right _ (aVariable x) = refl
 kind-right _ (anUnbound x) = refl
@@ -68,7 +68,7 @@ kind-right _ (aCall m f a e) = let l = number-below m in lt-ltb (memberKind m) 2
 key-small : (key : ℕ) → InRange (numberOfKey key) → key < 2 ^ 32
 key-small key h = split (ltb key 2147483648) (λ e. let l = ltb-true key 2147483648 e in omega arith) (λ e. let l = leb→le (key - 2147483648) 2147483647 (rw e at (h .1 .le)) in let m = ltb-false key 2147483648 e in omega arith)
 
-key-right : (n : Node) (φ : ℕ → Form) → Fine n → Shape (build n φ) → keyRight n ≡ true
+pub key-right : (n : Node) (φ : ℕ → Form) → Fine n → Shape (build n φ) → keyRight n ≡ true
 unfolding keyRight build
 key-right _ φ (aNumber key) s = lt-ltb key (2 ^ 32) (key-small key s)
 key-right _ φ (aVariable x) s = s
@@ -89,7 +89,7 @@ arity-call : (m : Member) (f a : ℕ) → row m .arguments ≡ 1 → arityRight 
 unfolding arityRight
 arity-call m f a e = rw (member-arity m, e, one-link f, one-link a)
 
-arity-right : (n : Node) → Fine n → arityRight n ≡ true
+pub arity-right : (n : Node) → Fine n → arityRight n ≡ true
 unfolding arityRight arity memberOfKind
 arity-right _ (aNumber k) = refl
 arity-right _ (aVariable x) = refl
@@ -102,7 +102,7 @@ arity-right _ (aCall m f a e) = arity-call m f a e
 none-lower : (i : ℕ) → leb 0 i ≡ true
 none-lower i = le-leb 0 i (omega arith)
 
-lower-by : (i : ℕ) (n : Node) → Fine n → ((j : ℕ) → among j (kids n) ≡ true → j < i) → lower i n ≡ true
+pub lower-by : (i : ℕ) (n : Node) → Fine n → ((j : ℕ) → among j (kids n) ≡ true → j < i) → lower i n ≡ true
 lower-by i _ (aNumber k) h = rw (none-lower i)
 lower-by i _ (aVariable x) h = rw (none-lower i)
 lower-by i _ (anUnbound x) h = rw (none-lower i)
@@ -115,7 +115,7 @@ lower-by i _ (aCall m f a e) h =
     rw (le-leb (suc f) i (omega arith), le-leb (suc a) i (omega arith))
 
 -- no node twice
-has-at : (n : Node) (ns : List Node) → hasNode n ns ≡ true → (q : ℕ) × (getElem? ns q ≡ some n)
+pub has-at : (n : Node) (ns : List Node) → hasNode n ns ≡ true → (q : ℕ) × (getElem? ns q ≡ some n)
 unfolding hasNode
 has-at n [] h = impossible h
 has-at n (m ∷ ms) h =
@@ -148,7 +148,7 @@ awaited-call fs m f a e l k =
     rw (build-call m f a (formAt formulas nodes fs) e, not-member m 1 (omega arith), not-member m 4 (omega arith), member-arity m, e, less-one f, less-one a)
     (λ t. join (getD-awaited fs f l t) (getD-awaited fs a k t))
 
-awaited-by : (fs : List Form) (n : Node) → Fine n → ((j : ℕ) → among j (kids n) ≡ true → j < length fs) → awaitedBy (map awaited fs) n ≡ awaited (build n (formAt formulas nodes fs))
+pub awaited-by : (fs : List Form) (n : Node) → Fine n → ((j : ℕ) → among j (kids n) ≡ true → j < length fs) → awaitedBy (map awaited fs) n ≡ awaited (build n (formAt formulas nodes fs))
 unfolding awaitedBy awaited build arity memberOfKind
 awaited-by fs _ (aNumber k) h = refl
 awaited-by fs _ (aVariable x) h = refl
@@ -158,7 +158,7 @@ awaited-by fs _ (aFunction x b) h = let l = h b (among-by b _ _ (kids-function x
 awaited-by fs _ (anAsk m f e) h = awaited-ask fs m f e (h f (among-by f _ _ (kids-ask m f e) (among-first f [])))
 awaited-by fs _ (aCall m f a e) h = awaited-call fs m f a e (h f (among-by f _ _ (kids-call m f a e) (among-first f (a ∷ [])))) (h a (among-by a _ _ (kids-call m f a e) (among-second f a)))
 
-awaited-after : (fs : List Form) (ns : List Node) → AllPlaced formulas nodes (length fs) ns → awaitedAfter (map awaited fs) ns ≡ map awaited (decode formulas nodes fs ns)
+pub awaited-after : (fs : List Form) (ns : List Node) → AllPlaced formulas nodes (length fs) ns → awaitedAfter (map awaited fs) ns ≡ map awaited (decode formulas nodes fs ns)
 unfolding awaitedAfter decode
 awaited-after fs [] p = refl
 awaited-after fs (n ∷ ns) p =
@@ -200,7 +200,7 @@ nth-member [] p f h = impossible (cc)
 nth-member (g ∷ fs) zero f h = let q : g ≡ f = cc in rw (q, same-self f)
 nth-member (g ∷ fs) (suc p) f h = let i = nth-member fs p f h in split (same g f) (λ e. rw e) (λ e. rw (e, i))
 
-reading-small : (r : List ℤ) → All IsReading r → (i : ℕ) → i < length r → mag (getD r i (pos 0)) < 2147483648
+pub reading-small : (r : List ℤ) → All IsReading r → (i : ℕ) → i < length r → mag (getD r i (pos 0)) < 2147483648
 reading-small [] h i l = absurd (omega arith)
 reading-small (x ∷ r) h zero l = h .0
 reading-small (x ∷ r) h (suc i) l = reading-small r (h .1) i (omega arith)

@@ -124,7 +124,7 @@ function-name xs (call m f a) d h = impossible (sym (fun1 m xs _ _ _) ∙ h)
 function-name xs (function x b) d h = d (function x b) (within-self (function x b)) .shape
 
 -- a name is not 0
-name-some : (y : ℕ) → isName y ≡ true → eqb y 0 ≡ false
+pub name-some : (y : ℕ) → isName y ≡ true → eqb y 0 ≡ false
 unfolding isName wordNumber
 name-some y h = ne-eqb y 0 (λ e. no-way (rw e at h))
 
@@ -134,12 +134,14 @@ unfolding namesRight hasName
 keeps-delay n [] l y h g k = no-way h
 keeps-delay n (a ∷ []) l y h g k =
     let p = g a (rw (eq-eqb a a refl)) in
-    record { names = rw p; packed = kept-passes n Delayed k; above = packed-above Delayed; mark = rw (round Delayed tt) }
+    let y = name-some a p in
+    record { names = rw (p, y); packed = kept-passes n Delayed k; above = packed-above Delayed; mark = rw (round Delayed tt, y) }
 keeps-delay n (a ∷ b ∷ []) l y h g k =
     let p = g a (rw (eq-eqb a a refl)) in
     let q = g b (split (eqb b a) (λ e. rw e) (λ e. rw (e, eq-eqb b b refl))) in
+    let y = name-some a p in
     let z = name-some b q in
-    record { names = rw (p, q, z); packed = kept-passes n Delayed k; above = packed-above Delayed; mark = rw (round Delayed tt, z) }
+    record { names = rw (p, q, y, z); packed = kept-passes n Delayed k; above = packed-above Delayed; mark = rw (round Delayed tt, y, z) }
 keeps-delay n (a ∷ b ∷ c ∷ xs) l y h g k = absurd (omega arith)
 
 keeps-function : (n x : ℕ) → isName x ≡ true → Kept n Function → Keeps n (aFunction x)

@@ -5,7 +5,7 @@ use mathlib.Core.Bool.{true, cond}
 use mathlib.Core.List.{List, [], _∷_}
 use mathlib.Core.Option.{Option, none, some}
 use mathlib.Core.Logic.{_⊎_}
-use Prim.Native.Nat.{ℕ, _≤_}
+use Prim.Native.Nat.{_≤_}
 use lib.Dec.{eqb}
 use lib.ListN.{getD}
 use Rattle.language.specs.Limits.{tableReadings}
@@ -21,16 +21,14 @@ use Rattle.table.specs.Memory.{Memory, Kept, Entry, fits, readingCount, recordi
 use Rattle.formulas.specs.Formulas.{formulas}
 use Rattle.bridge.specs.Graphs.{nodes}
 use Rattle.bridge.specs.Recorded.{formsOf}
+use Rattle.engine.specs.Answers.{namesOf}
 
 -- what a kept result shows
-abbrev pub namesIn : Kept → List ℕ
-namesIn k = cond (eqb (k .other) 0) (k .name ∷ []) (k .name ∷ k .other ∷ [])
-
 abbrev pub shownBy : Kept → Value → Shown
 shownBy k (Number z) = aNumber z
 shownBy k (Window s l) = aWindow s l
 shownBy k Function = aFunction (k .name)
-shownBy k Delayed = aDelay (namesIn k)
+shownBy k Delayed = aDelay (namesOf (k .name) (k .other))
 shownBy k (Missing r) = aReason r
 
 abbrev pub shownIn : Kept → Shown

@@ -12,3 +12,7 @@ pub mod Needs
 pub mod Starts
 pub mod Working
 pub mod Previewing
+pub mod WorkedOut
+pub mod Worked
+pub mod Decoded
+pub mod Grown

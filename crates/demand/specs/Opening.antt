@@ -24,16 +24,16 @@ module _ (m : Memory) (r : List ℤ) (l : Lengths m) (short : length r ≤ table
   abbrev n : Memory
   n = openedMemory m r
 
-  count-zero : entryCount n ≡ 0
+  pub count-zero : entryCount n ≡ 0
   count-zero =
       let h = l .heads in
       let s = length-set (m .heads) 0 0 in
       getD-set-other (set (m .heads) 0 0) 1 0 (length r) 0 (omega arith) ∙ getD-set-same (m .heads) 0 0 0 (omega arith)
 
-  count-readings : readingCount n ≡ length r
+  pub count-readings : readingCount n ≡ length r
   count-readings = let h = l .heads in let s = length-set (m .heads) 0 0 in getD-set-same (set (m .heads) 0 0) 1 (length r) 0 (omega arith)
 
-  longer : Lengths n
+  pub longer : Lengths n
   longer =
       let h = l .heads in
       let s = length-set (m .heads) 0 0 in

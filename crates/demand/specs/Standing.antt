@@ -14,13 +14,13 @@ use Rattle.model.specs.Cases.{impossible, split}
 use Rattle.model.specs.ListLaws.{nth-has, getD-nth}
 use Rattle.model.specs.Graph.{formAt, Placed, AllPlaced, Stands, decodes}
 use Rattle.model.specs.Model as Model
-use Rattle.table.specs.Memory.{Memory, Node, Entry, entriesOf, nodesOf}
+use Rattle.table.specs.Memory.{Memory, Node, Entry, entryCount, entriesOf, nodesOf}
 use Rattle.table.specs.Bind.{find, relink, Bound, bindOne, bindAll}
 use Rattle.formulas.specs.Formulas.{formulas}
 use Rattle.bridge.specs.Graphs.{nodes, graph-laws}
 use Rattle.bridge.specs.Recorded.{formsOf, length-forms}
 use Rattle.demand.specs.Holds.{joined, markOf}
-use Rattle.demand.specs.Appended.{unworked}
+use Rattle.demand.specs.Appended.{entries-length, unworked}
 
 -- lists that are equal number by number
 same-nth : {A : Type 0} (xs ys : List A) → ((i : ℕ) → getElem? xs i ≡ getElem? ys i) → xs ≡ ys
@@ -59,7 +59,7 @@ module _ (ns : List Node) (fs gs : List Form) (p : Stands formulas nodes ns fs) 
           split (ltb i (length ns)) (λ e. alike (suc i) i (omega arith) (ltb-true i (length ns) e)) (λ e. let l = ltb-false i (length ns) e in beyond fs i (omega arith) ∙ sym (beyond gs i (omega arith)))
 
 -- every number's node is placed: all are
-placed-all : (i : ℕ) (ns : List Node) → ((j : ℕ) (n : Node) → getElem? ns j ≡ some n → Placed formulas nodes (i + j) n) → AllPlaced formulas nodes i ns
+pub placed-all : (i : ℕ) (ns : List Node) → ((j : ℕ) (n : Node) → getElem? ns j ≡ some n → Placed formulas nodes (i + j) n) → AllPlaced formulas nodes i ns
 placed-all i [] h = tt
 placed-all i (n ∷ ns) h =
     let z : i + 0 ≡ i = omega arith in
@@ -110,3 +110,6 @@ joined-append (f ∷ fs) gs (e ∷ es) ns h k = ap (λ (l : List (Model.Entry fo
 
 pub size-held : (m : Memory) → length (formsOf (nodesOf (entriesOf m))) ≡ length (entriesOf m)
 size-held m = length-forms (nodesOf (entriesOf m)) ∙ length-map (entriesOf m) (λ (e : Entry). e .node)
+
+pub count-nodes : (m : Memory) → length (nodesOf (entriesOf m)) ≡ entryCount m
+count-nodes m = length-map (entriesOf m) (λ (e : Entry). e .node) ∙ entries-length (m .links) (m .cells) 0 (entryCount m)

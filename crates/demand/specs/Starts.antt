@@ -45,6 +45,7 @@ use Rattle.refine.specs.Shows.{viewOf, slotNames, kept-shows}
 use Rattle.engine.specs.Answers.{shownOf}
 use Rattle.demand.specs.Holds.{shownBy, shownIn, markOf, holds, keptFor, Ok}
 use Rattle.demand.specs.Appended.{lengths}
+use Rattle.demand.specs.Cells.{name-some}
 use Rattle.demand.specs.Accepted.{accepted}
 use Rattle.demand.specs.Needs.{node-nth}
 
@@ -155,7 +156,7 @@ leaf xs _ φ s (aNumber key) h k =
     let l = ltb-true key 4294967296 h in
     let q : key % 4294967296 + 1 ≡ suc key = omega arith in
     record { value = q ∙ ap suc (sym (number-key key)); held = down-range 2147483648 key (omega arith); shown = λ u. refl }
-leaf xs _ φ s (aVariable x) h k = record { value = refl; held = tt; shown = λ u. refl }
+leaf xs _ φ s (aVariable x) h k = record { value = refl; held = tt; shown = λ u. rw (name-some x h) }
 leaf xs _ φ s (anUnbound x) h k = record { value = refl; held = omega arith; shown = λ u. refl }
 leaf xs _ φ s theReadings h k = record { value = omega arith; held = (omega arith, omega arith); shown = λ u. refl }
 leaf xs _ φ s (aFunction x b) h k = absurd (omega arith)

@@ -108,15 +108,15 @@ module _ (cells : List ℕ) (i c name other : ℕ) where
   abbrev after : List ℕ
   after = keepOf cells i c name other
 
-  keep-length : length after ≡ length cells
+  pub keep-length : length after ≡ length cells
   unfolding keepOf
   keep-length = simp length-set
 
-  keep-other : (j : ℕ) → (j ≡ 4 * i + 1 → ⊥) → (j ≡ 4 * i + 2 → ⊥) → (j ≡ 4 * i + 3 → ⊥) → getD after j 0 ≡ getD cells j 0
+  pub keep-other : (j : ℕ) → (j ≡ 4 * i + 1 → ⊥) → (j ≡ 4 * i + 2 → ⊥) → (j ≡ 4 * i + 3 → ⊥) → getD after j 0 ≡ getD cells j 0
   unfolding keepOf
   keep-other j p q r = getD-set-other two (4 * i + 3) j other 0 r ∙ getD-set-other one (4 * i + 2) j name 0 q ∙ getD-set-other cells (4 * i + 1) j c 0 p
 
-  keep-apart : (j : ℕ) → (j ≡ i → ⊥) → keptAt after j ≡ keptAt cells j
+  pub keep-apart : (j : ℕ) → (j ≡ i → ⊥) → keptAt after j ≡ keptAt cells j
   unfolding keptAt
   keep-apart j h =
       λ t.
@@ -126,7 +126,7 @@ module _ (cells : List ℕ) (i c name other : ℕ) where
         other = keep-other (4 * j + 3) (λ e. omega arith) (λ e. omega arith) (λ e. h (omega arith)) t;
       }
 
-  keep-here : 4 * i + 3 < length cells → keptAt after i ≡ record { value = c; name = name; other = other }
+  pub keep-here : 4 * i + 3 < length cells → keptAt after i ≡ record { value = c; name = name; other = other }
   unfolding keepOf keptAt
   keep-here h =
       let a = length-set cells (4 * i + 1) c in

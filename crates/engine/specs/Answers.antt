@@ -31,13 +31,13 @@ abbrev pub editReply : Edited → (places : List ℕ) → Reply
 editReply (E.Done whole parts added) places = edited whole parts added (take parts places)
 editReply (E.Refused n at) places = refused n at
 
--- what is shown: 1 a number, 2 a window, 3 a function, 4 a delay with one name or two, 5 a reason
+-- what is shown: 1 a number, 2 a window, 3 a function, 4 a delay with its names up to the first that is 0, 5 a reason
 abbrev pub pickShown : Bool → Shown → Shown → Shown
 pickShown true a b = a
 pickShown false a b = b
 
 abbrev pub namesOf : ℕ → ℕ → List ℕ
-namesOf name other = cond (eqb other 0) (name ∷ []) (name ∷ other ∷ [])
+namesOf name other = cond (eqb name 0) [] (cond (eqb other 0) (name ∷ []) (name ∷ other ∷ []))
 
 -- a start or a reason; a negative number is none of them, and stands for one that is never shown
 abbrev pub natural : ℤ → ℕ

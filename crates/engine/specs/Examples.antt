@@ -9,7 +9,7 @@ use lib.IntN.{pos}
 use lib.ListN.{replicate, drop, length}
 use Rattle.language.specs.Names.{bytes, packOnto, letWord, inWord!, dataWord}
 use Rattle.language.specs.Members.{row, memberAt}
-use Rattle.values.specs.Packing.{isPacked}
+use Rattle.values.specs.Packing.{delayedCell, isPacked}
 use Rattle.meaning.specs.Evaluation.{hasName, joined, without}
 use Rattle.model.specs.Model.{refused}
 use Rattle.table.specs.Memory.{Memory, fits, nodeAt, keptAt, entriesFrom}
@@ -43,6 +43,8 @@ caches =
     memory 0 [] []
     ∷ counted (0 ∷ 0 ∷ 0 ∷ 0 ∷ [])
     ∷ counted (0 ∷ five ∷ 0 ∷ 0 ∷ [])
+    -- a delay without names
+    ∷ counted (0 ∷ delayedCell ∷ 0 ∷ 0 ∷ [])
     ∷ itself
     -- over 512 entries; over 1,024 readings
     ∷ memory 513 [] []
@@ -58,11 +60,13 @@ caches =
     ∷ counted (0 ∷ 4294967297 ∷ 0 ∷ 0 ∷ [])
     ∷ counted (0 ∷ 8590262273 ∷ 0 ∷ 0 ∷ [])
     ∷ counted (0 ∷ 34359738374 ∷ 0 ∷ 0 ∷ [])
+    -- a delay with a second name alone
+    ∷ counted (0 ∷ delayedCell ∷ 0 ∷ 97 ∷ [])
     -- worked out with an unworked dependency: data.skip(data.count())
     ∷ memory 3 (3 ∷ 0 ∷ 0 ∷ 13 ∷ 1 ∷ 0 ∷ 11 ∷ 1 ∷ 2 ∷ []) (0 ∷ 0 ∷ 0 ∷ 0 ∷ 0 ∷ 0 ∷ 0 ∷ 0 ∷ 0 ∷ 8589934592 ∷ 0 ∷ 0 ∷ [])
     ∷ []
 
-pub caches-judged : map wellFormed caches ≡ true ∷ true ∷ true ∷ replicate 12 false
+pub caches-judged : map wellFormed caches ≡ true ∷ true ∷ true ∷ true ∷ replicate 13 false
 unfolding wellFormed every nodeAt keptAt entriesFrom memberOfKind memberAt arity kids sameNode wordNumber isName keyRight arityRight hasNode distinct awaitedBy awaitedAfter doneAt allDone namesRight keptRight isPacked row bytes packOnto letWord inWord! dataWord hasName joined without
 caches-judged = refl
 

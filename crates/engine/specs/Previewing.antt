@@ -225,18 +225,29 @@ leaf-inside k kind key h =
     (λ d. rw (a, b, d) (rw (unpack-missing (missingCell + 1) (omega arith)) tt))
     (λ d. rw (a, b, d) (rw (unpack-window (windowCell + k) (omega arith) (omega arith)) (omega arith)))))
 
-kept-inside : (links cells : List ℕ) (k count n : ℕ) → entriesRight links cells k count ≡ true → n < count → Inside k (unpackOf (getD cells (4 * n + 1) 0))
-unfolding entriesRight keptOk keptRight keptAt
-kept-inside links cells k count n e h =
-    let c = getD cells (4 * n + 1) 0 in
+kept-right : (links cells : List ℕ) (k count n : ℕ) → entriesRight links cells k count ≡ true → n < count → keptRight k (entryAt links cells n) ≡ true
+unfolding entriesRight keptOk
+kept-right links cells k count n e h =
     let here : 0 + n ≡ n = omega arith in
     let all : allFrom (keptOk links cells count k) count 0 ≡ true = and-right (awaitsFew _) _ (and-right (distinct _) _ (and-right (allFrom _ _ _) _ e)) in
     let right : keptOk links cells count k n ≡ true = rw here at (all-at (keptOk links cells count k) count n 0 all h) in
-    let kept : (eqb c 0 || (leb 4 (nodeAt links cells n .kind) && isPacked c k)) ≡ true =
-    and-right (namesRight (keptAt cells n)) _ (and-right (settled (entriesFrom links cells 0 count) (entryAt links cells n)) _ right) in
+    and-right (settled (entriesFrom links cells 0 count) (entryAt links cells n)) _ right
+
+kept-inside : (links cells : List ℕ) (k count n : ℕ) → entriesRight links cells k count ≡ true → n < count → Inside k (unpackOf (getD cells (4 * n + 1) 0))
+unfolding keptRight keptAt
+kept-inside links cells k count n e h =
+    let c = getD cells (4 * n + 1) 0 in
+    let kept : (eqb c 0 || (leb 4 (nodeAt links cells n .kind) && isPacked c k)) ≡ true = and-right (namesRight (keptAt cells n)) _ (kept-right links cells k count n e h) in
     split (eqb c 0)
     (λ t. rw (unpack-number c (omega (arith, eqb-true c 0 t))) tt)
     (λ t. passes-packs k c (and-right (leb 4 (nodeAt links cells n .kind)) _ (rw t at kept)) .kept .inside)
+
+-- what a well-formed cache has beside the kept values
+pub kept-names : (m : Memory) (n : ℕ) → wellFormed m ≡ true → n < entryCount m → namesRight (keptAt (m .cells) n) ≡ true
+unfolding keptRight
+kept-names m n w h =
+    let e = sym (well-is (m .readings) (m .heads) (m .links) (m .cells)) ∙ w in
+    and-left _ _ (kept-right (m .links) (m .cells) (readingCount m) (entryCount m) n (and-right (leb (readingCount m) 1024) _ (and-right (leb (entryCount m) 512) _ e)) h)
 
 shown-inside : (m : Memory) (n : ℕ) → Accepted m n → Inside (readingCount m) (unpackOf (startAt (readingCount m) (m .links) (m .cells) n))
 unfolding startAt

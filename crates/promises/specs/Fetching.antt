@@ -1,11 +1,10 @@
 -- Fetch hands out the readings of the window that preview shows for the entry, and the empty part at the start where it shows none.
 -- Assumes nothing.
-use mathlib.Core.Path.{_≡_, refl, sym, _∙_}
+use mathlib.Core.Path.{_≡_, refl, sym, ap, _∙_}
 use mathlib.Core.Bool.{true, false, _&&_}
 use mathlib.Core.List.{List, []}
 use Prim.Native.Nat.{ℕ, _+_, _*_, _<_}
-use native.Mathlib.Omega.{arith}
-use borrow.Author.Tests.{lt-ltb, ltb-true}
+use borrow.Author.Tests.{lt-ltb}
 use lib.Dec.{ltb, eqb}
 use lib.IntN.{ℤ}
 use lib.ListN.{getD, take, drop}
@@ -15,7 +14,9 @@ use Rattle.values.specs.Packing.{unpackOf}
 use Rattle.values.specs.Shown.{shownNumbers}
 use Rattle.meaning.specs.Evaluation.{Shown, aNumber, aWindow, aFunction, aDelay, aReason}
 use Rattle.model.specs.Cases.{split}
-use Rattle.table.specs.Memory.{Memory, fits, entryCount, readingCount, entriesOf}
+use Rattle.model.specs.Lists.{All}
+use Rattle.formulas.specs.Formulas.{IsReading}
+use Rattle.table.specs.Memory.{Memory, fits, entryCount, readingCount, recordingOf, entriesOf}
 use Rattle.table.specs.WellFormed.{doneAt, wellFormed}
 use Rattle.evaluator.specs.Links.{kindAt, keyAt}
 use Rattle.evaluator.specs.Frames.{startAt}
@@ -25,6 +26,7 @@ use Rattle.engine.specs.declared.answers.Previewed.the-variants.{Finished}
 use Rattle.engine.specs.Answers.{shownOf}
 use Rattle.engine.specs.Calls.{workOn, workedMemory, previewed, previewMemory, windowIn, partOf, fetched}
 use Rattle.engine.specs.Previewing.{part-held}
+use Rattle.promises.specs.Finishing.{finished-by}
 
 -- the readings of what is shown
 unfoldable pub readingsOf : List ℤ → Shown → List ℤ
@@ -63,19 +65,8 @@ unfolding partOf
 fetch-none m n h = rw h
 
 -- an entry whose preview is finished, in the cache that it leaves
-pub fetch-previewed : (m : Memory) (n a k : ℕ) (v : View) → previewed m n a ≡ Finished k v → fits (previewMemory m n a) ≡ true
-    → wellFormed (previewMemory m n a) ≡ true → fetched (previewMemory m n a) n ≡ readingsOf (m .readings) (shownOf v)
-unfolding previewed previewMemory
-fetch-previewed m n a k v e f w =
-    split (fits m)
-    (λ g. split (wellFormed m)
-    (λ u. split (ltb n (entryCount m))
-    (λ l. split (workOn m n a .left)
-    (λ t. let z = rw (g, u, l, t) at e in let y : _≡_ {A = ℕ} 0 1 = cc in absurd (omega arith))
-    (λ t.
-    let z = rw (g, u, l, t) at e in
-    let shows : showOf (readingCount m) (m .links) (workOn m n a .cells) n ≡ v = cc in
-    rw (g, u, l) (fetch-shown (workedMemory m (workOn m n a)) n (rw (g, u, l) at f) (rw (g, u, l) at w) (ltb-true n (entryCount m) l) ∙ rw shows)))
-    (λ l. let z = rw (g, u, l) at e in let y : _≡_ {A = ℕ} 0 1 = cc in absurd (omega arith)))
-    (λ u. let z = rw (g, u) at e in let y : _≡_ {A = ℕ} 0 1 = cc in absurd (omega arith)))
-    (λ g. let z = rw g at e in let y : _≡_ {A = ℕ} 0 1 = cc in absurd (omega arith))
+pub fetch-previewed : (m : Memory) (n a k : ℕ) (v : View) → previewed m n a ≡ Finished k v → All IsReading (recordingOf m)
+    → fetched (previewMemory m n a) n ≡ readingsOf (m .readings) (shownOf v)
+fetch-previewed m n a k v e sound =
+    let d = finished-by m n a k v e sound in
+    ap (λ (after : Memory). fetched after n) (d .memory) ∙ fetch-shown (workedMemory m (workOn m n a)) n (d .whole) (d .well) (d .held) ∙ rw (d .shows)

@@ -2,5 +2,8 @@ pub mod Lending
 pub mod Implementing
 pub mod Declined
 pub mod Outside
+pub mod Accepting
+pub mod Finishing
+pub mod Showing
 pub mod Fetching
 pub mod Promises

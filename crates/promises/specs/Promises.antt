@@ -1,7 +1,8 @@
 -- What the engine promises, on one page. The calls are those of engine's Calls, which the contracts of the exported functions cite; what each
 -- of these theorems says is written out where it is named. Assumes nothing.
 --   1. Any call gets a result or a numbered refusal: the definitions of Calls are total, and the exported functions ask for nothing. A refusal
---      changes no lent memory (Declined), and cells beyond the sizes keep their contents (Outside).
+--      changes no lent memory (Declined), and cells beyond the sizes keep their contents (Outside). A cache that a call accepts, whatever was
+--      in it, is accepted by the next one (Accepting).
 --   2. A text is read exactly if a tree of the grammar spells its tokens and keeps the limits, and is refused exactly where 01 says. What a
 --      finished preview of a part shows is what evaluation gives for its let-free form.
 --   3. Over every list of calls after an opening the engine answers as the reference model does, and ends holding what it holds (model's Demand).
@@ -9,7 +10,7 @@ use mathlib.Core.Path.{_≡_, ap}
 use mathlib.Core.Bool.{true, false, _&&_}
 use mathlib.Core.Logic.{_↔_}
 use mathlib.Core.List.{List, [], map}
-use Prim.Native.Nat.{ℕ, _<_}
+use Prim.Native.Nat.{ℕ, _+_, _<_}
 use lib.Dec.{ltb}
 use lib.IntN.{ℤ}
 use Rattle.grammar.specs.Grammar.{Expression, Spells}
@@ -26,10 +27,11 @@ use Rattle.formulas.specs.Formulas.{IsReading, formulas}
 use Rattle.meaning.specs.Substitution.{EveryLetE}
 use Rattle.bridge.specs.FormulaLaws.{formula-laws}
 use Rattle.bridge.specs.LetLaws.{text-lets}
-use Rattle.table.specs.Memory.{Memory, fits, entryCount, readingCount, entriesOf}
+use Rattle.table.specs.Memory.{Memory, fits, entryCount, readingCount, recordingOf, entriesOf}
 use Rattle.table.specs.WellFormed.{doneAt, wellFormed}
 use Rattle.evaluator.specs.declared.works.View.{View}
 use Rattle.evaluator.specs.Works.{showOf}
+use Rattle.refine.specs.Shows.{viewOf}
 use Rattle.engine.specs.declared.answers.Opened.{Opened}
 use Rattle.engine.specs.declared.answers.Edited.{Edited}
 use Rattle.engine.specs.declared.answers.Previewed.{Previewed}
@@ -37,11 +39,15 @@ use Rattle.engine.specs.declared.answers.Previewed.the-variants.{Finished, Refu
 use Rattle.engine.specs.Answers.{openReply, editReply, previewReply, shownOf}
 use Rattle.engine.specs.Calls.{openAnswer, openMemory, editAnswer, editMemory, editPlaces, previewed, previewAnswer, previewMemory, partOf, fetched}
 use Rattle.engine.specs.Contracts.{Opens, Edits, Previews}
+use Rattle.demand.specs.WorkedOut.{workedOut}
 use Rattle.promises.specs.Implementing as Implementing
 use Rattle.promises.specs.Implementing.{engine, implements}
 use Rattle.promises.specs.Declined as Declined
 use Rattle.promises.specs.Outside as Outside
+use Rattle.promises.specs.Showing as Showing
 use Rattle.promises.specs.Fetching as Fetching
+use Rattle.promises.specs.Accepting as Accepting
+use Rattle.promises.specs.Accepting.{counted}
 use Rattle.promises.specs.Fetching.{readingsOf}
 
 -- What the functions answer is, by 01's numbers and values of their enums, the answer of Calls.
@@ -76,6 +82,31 @@ edit-outside = Outside.edit-outside
 pub preview-outside : (m : Memory) (n a : ℕ) → Outside.Outside m (previewMemory m n a)
 preview-outside = Outside.preview-outside
 
+-- What an open leaves is well-formed, and so is what an edit or a preview leaves of a cache that is, whatever was in it.
+pub open-well : (m : Memory) (r : List ℤ) → openAnswer m r ≡ opened → wellFormed (openMemory m r) ≡ true
+open-well = Accepting.open-well
+
+pub edit-well : (m : Memory) (places text : List ℕ) → wellFormed m ≡ true → wellFormed (editMemory m places text) ≡ true
+edit-well = Accepting.edit-well
+
+-- The readings of a lent slice are within signed 32 bits.
+pub preview-well : (m : Memory) (n a : ℕ) → wellFormed m ≡ true → All IsReading (recordingOf m) → wellFormed (previewMemory m n a) ≡ true
+preview-well = Accepting.preview-well
+
+-- The memory fits where it did before.
+pub open-fits : (m : Memory) (r : List ℤ) → fits (openMemory m r) ≡ fits m
+open-fits = Accepting.open-fits
+
+pub edit-fits : (m : Memory) (places text : List ℕ) → fits (editMemory m places text) ≡ fits m
+edit-fits = Accepting.edit-fits
+
+pub preview-fits : (m : Memory) (n a : ℕ) → fits (previewMemory m n a) ≡ fits m
+preview-fits = Accepting.preview-fits
+
+-- The count that a preview answers is the rise in entries with a kept value.
+pub preview-rise : (m : Memory) (n a : ℕ) → All IsReading (recordingOf m) → workedOut (previewMemory m n a) ≡ workedOut m + counted (previewed m n a)
+preview-rise = Accepting.preview-rise
+
 -- 2. The reader.
 pub read-exactly : (text : List ℕ) (e : Expression) → (readText text ≡ tree e) ↔ (Spells e (tokensOf text) × KeepsLimits e)
 read-exactly = text-read-plainly
@@ -87,14 +118,18 @@ refused-exactly = text-refused
 pub lets-replaced : (text : List ℕ) (e : Expression) → readText text ≡ tree e → EveryLetE e []
 lets-replaced = text-lets
 
+-- A field of an answer that has no value is 0: what a finished preview gives are the numbers and names of what it shows.
+pub preview-plain : (m : Memory) (n a k : ℕ) (v : View) → previewed m n a ≡ Finished k v → All IsReading (recordingOf m) → v ≡ viewOf (shownOf v)
+preview-plain = Showing.preview-plain
+
 -- Fetch hands out the readings of the window that the entry shows, and so those that a finished preview showed; the empty part at the start
 -- for an entry that is not worked out or does not exist, and for a cache that is refused.
 pub fetch-shown : (m : Memory) (n : ℕ) → fits m ≡ true → wellFormed m ≡ true → n < entryCount m
     → fetched m n ≡ readingsOf (m .readings) (shownOf (showOf (readingCount m) (m .links) (m .cells) n))
 fetch-shown = Fetching.fetch-shown
 
-pub fetch-previewed : (m : Memory) (n a k : ℕ) (v : View) → previewed m n a ≡ Finished k v → fits (previewMemory m n a) ≡ true
-    → wellFormed (previewMemory m n a) ≡ true → fetched (previewMemory m n a) n ≡ readingsOf (m .readings) (shownOf v)
+pub fetch-previewed : (m : Memory) (n a k : ℕ) (v : View) → previewed m n a ≡ Finished k v → All IsReading (recordingOf m)
+    → fetched (previewMemory m n a) n ≡ readingsOf (m .readings) (shownOf v)
 fetch-previewed = Fetching.fetch-previewed
 
 pub fetch-none : (m : Memory) (n : ℕ) → (fits m && (wellFormed m && doneAt (entriesOf m) n)) ≡ false → partOf m n ≡ record { start = 0; length = 0 }

@@ -52,7 +52,7 @@ numbers-none Min zs = refl
 numbers-none Max zs = refl
 numbers-none At zs = refl
 
-concluded-none : (m : Member) (r : Results) → None (concluded m r)
+pub concluded-none : (m : Member) (r : Results) → None (concluded m r)
 concluded-none m (numbers zs) = numbers-none m zs
 concluded-none m (because r) = refl
 

@@ -7,3 +7,7 @@ pub mod Meaning
 pub mod Shows
 pub mod Counts
 pub mod Waiting
+pub mod Packed
+pub mod Slots
+pub mod Named
+pub mod Needed

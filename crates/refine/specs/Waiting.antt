@@ -48,12 +48,12 @@ numbered (m ∷ ms) j (suc n) e h =
     let w = numbered ms (suc j) n (both (eqb (memberNumber m) j) _ e .1) (omega arith) in
     record { member = w .member; is = w .is; number = omega (arith, w .number) }
 
-record OfKind (k : ℕ) : Type 0 where
-  member : Member
-  is : memberOfKind k ≡ Is member
-  kind : k ≡ memberKind member
+pub record OfKind (k : ℕ) : Type 0 where
+  pub member : Member
+  pub is : memberOfKind k ≡ Is member
+  pub kind : k ≡ memberKind member
 
-of-kind : (k : ℕ) → 5 ≤ k → k < 21 → OfKind k
+pub of-kind : (k : ℕ) → 5 ≤ k → k < 21 → OfKind k
 unfolding memberOfKind memberAt
 of-kind k l h =
     let w = numbered members 0 (k - 5) refl (omega arith) in
@@ -61,17 +61,17 @@ of-kind k l h =
 
 -- ---- an entry by its node
 module _ (i : ℕ) (n : Node) (r : nodeRight i n ≡ true) where
-  no-links : arity (n .kind) ≡ 0 → (n .first ≡ 0) × (n .second ≡ 0)
+  pub no-links : arity (n .kind) ≡ 0 → (n .first ≡ 0) × (n .second ≡ 0)
   unfolding arityRight
   no-links e =
       let w = both (eqb (n .first) 0) _ (rw (eq-eqb (arity (n .kind)) 0 e) at (right-arity i n r)) in
       (eqb-true (n .first) 0 (w .0), eqb-true (n .second) 0 (w .1))
 
-  no-second : arity (n .kind) ≡ 1 → n .second ≡ 0
+  pub no-second : arity (n .kind) ≡ 1 → n .second ≡ 0
   unfolding arityRight
   no-second e = eqb-true (n .second) 0 (both (leb 1 (n .first)) _ (rw (ne-eqb (arity (n .kind)) 0 (λ q. omega arith), eq-eqb (arity (n .kind)) 1 e) at (right-arity i n r)) .1)
 
-  a-second : 2 ≤ arity (n .kind) → 1 ≤ n .second
+  pub a-second : 2 ≤ arity (n .kind) → 1 ≤ n .second
   unfolding arityRight
   a-second h =
       leb-true 1 (n .second)
@@ -147,7 +147,7 @@ module _ (links cells : List ℕ) where
   pass-below zero i j ws h = refl
   pass-below (suc k) i j ws h = pass-below k (suc i) j _ (omega arith) ∙ getD-set-other ws i j _ 0 (λ e. omega arith)
 
-  pass-at : (k i j : ℕ) (ws : List ℕ) → i ≤ j → j < i + k → j < length ws → getD (waitsFrom links cells k i ws) j 0 ≡ waitsAt links cells (waitsFrom links cells k i ws) j
+  pub pass-at : (k i j : ℕ) (ws : List ℕ) → i ≤ j → j < i + k → j < length ws → getD (waitsFrom links cells k i ws) j 0 ≡ waitsAt links cells (waitsFrom links cells k i ws) j
   unfolding waitsFrom
   pass-at zero i j ws l h s = absurd (omega arith)
   pass-at (suc k) i j ws l h s =

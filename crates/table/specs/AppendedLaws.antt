@@ -197,7 +197,7 @@ pub well-empty : (m : Memory) → entryCount m ≡ 0 → readingCount m ≤ 1024
 unfolding wellFormed entriesFrom every distinct awaitedAfter
 well-empty m e h = rw (e, le-leb (readingCount m) 1024 h)
 
-and-true : (a b : Bool) → a ≡ true → b ≡ true → (a && b) ≡ true
+pub and-true : (a b : Bool) → a ≡ true → b ≡ true → (a && b) ≡ true
 and-true a b p q = rw (p, q)
 
 every-snoc : {A : Type 0} (p : A → Bool) (i : ℕ) (xs : List A) (x : A) → every (λ (k : ℕ) (y : A). p y) i xs ≡ true → p x ≡ true → every (λ (k : ℕ) (y : A). p y) i (xs ++ (x ∷ [])) ≡ true
@@ -212,13 +212,15 @@ done-more [] x i h = no-way h
 done-more (e ∷ es) x zero h = h
 done-more (e ∷ es) x (suc i) h = done-more es x i h
 
-all-done-more : (es : List Entry) (x : Entry) (is : List ℕ) → allDone es is ≡ true → allDone (es ++ (x ∷ [])) is ≡ true
-unfolding allDone
-all-done-more es x [] h = refl
-all-done-more es x (i ∷ is) h = rw (done-more es x i (and-left _ _ h), all-done-more es x is (and-right (doneAt es i) _ h))
+-- so an entry that is settled stays so
+module _ (es later : List Entry) (stays : (i : ℕ) → doneAt es i ≡ true → doneAt later i ≡ true) where
+  all-done-later : (is : List ℕ) → allDone es is ≡ true → allDone later is ≡ true
+  unfolding allDone
+  all-done-later [] h = refl
+  all-done-later (i ∷ is) h = rw (stays i (and-left _ _ h), all-done-later is (and-right (doneAt es i) _ h))
 
-settled-more : (es : List Entry) (x e : Entry) → settled es e ≡ true → settled (es ++ (x ∷ [])) e ≡ true
-settled-more es x e h = split (eqb (e .kept .value) 0) (λ p. rw p) (λ p. rw p (all-done-more es x (kids (e .node)) (rw p at h)))
+  pub settled-later : (e : Entry) → settled es e ≡ true → settled later e ≡ true
+  settled-later e h = split (eqb (e .kept .value) 0) (λ p. rw p) (λ p. rw p (all-done-later (kids (e .node)) (rw p at h)))
 
 new-kept : (readings : ℕ) (n : Node) (es : List Entry) → (settled es (newEntry n) && keptRight readings (newEntry n)) ≡ true
 unfolding keptRight namesRight
@@ -274,7 +276,7 @@ module _ (m : Memory) (n : Node) (f : fits m ≡ true) (w : Well m) (room : entr
             let h = w .kept i less in
             subst (λ (e : Entry). (settled (old ++ (newEntry n ∷ [])) e && keptRight (readingCount m) e) ≡ true) (sym (entry-old (m .links) (m .cells) k n i less))
             (and-true _ _
-            (settled-more old (newEntry n) (entryAt (m .links) (m .cells) i) (and-left _ _ h))
+            (settled-later old (old ++ (newEntry n ∷ [])) (done-more old (newEntry n)) (entryAt (m .links) (m .cells) i) (and-left _ _ h))
             (and-right (settled old (entryAt (m .links) (m .cells) i)) _ h))
         | no most ↦
             let q : i ≡ k = omega arith in

@@ -99,7 +99,7 @@ module _ (value name other : ℕ) where
   names-function r q e = rw (eq-eqb value 17179869184 e, q)
 
   pub names-delayed : (r s : Bool) → r ≡ isName name → s ≡ isName other → (value ≡ 17179869184 → ⊥) → value ≡ 25769803776
-      → (r && (eqb other 0 || s)) ≡ namesRight (kept value name other)
+      → ((eqb name 0 && eqb other 0) || (r && (eqb other 0 || s))) ≡ namesRight (kept value name other)
   unfolding namesRight
   names-delayed r s q p u e = rw (ne-eqb value 17179869184 u, eq-eqb value 25769803776 e, q, p)
 

@@ -83,12 +83,15 @@ allDone es (i ∷ is) = doneAt es i && allDone es is
 abbrev pub settled : List Entry → Entry → Bool
 settled es e = eqb (e .kept .value) 0 || allDone es (kids (e .node))
 
--- a kept number, window or reason outside its range; the names are those that the value shows
+-- a kept number, window or reason outside its range; the names are those that the value shows: a function's own, a delay's none, one or two
+abbrev pub nameless : Kept → Bool
+nameless k = eqb (k .name) 0 && eqb (k .other) 0
+
 unfoldable pub namesRight : Kept → Bool
 namesRight k =
     cond (isFunctionCell (k .value)) (isName (k .name) && eqb (k .other) 0)
-    (cond (isDelayedCell (k .value)) (isName (k .name) && (eqb (k .other) 0 || isName (k .other)))
-    (eqb (k .name) 0 && eqb (k .other) 0))
+    (cond (isDelayedCell (k .value)) (nameless k || (isName (k .name) && (eqb (k .other) 0 || isName (k .other))))
+    (nameless k))
 
 unfoldable pub keptRight : ℕ → Entry → Bool
 keptRight readings e = namesRight (e .kept) && (eqb (e .kept .value) 0 || (worksKind (e .node .kind) && isPacked (e .kept .value) readings))

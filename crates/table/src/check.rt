@@ -59,10 +59,11 @@ fn names_right(value: u64, name: u64, other: u64) -> bool
     if value == FUNCTION_CELL {
         return is_name(name) & (other == 0);
     }
+    let nameless = (name == 0) & (other == 0);
     if value == DELAYED_CELL {
-        return is_name(name) & ((other == 0) | is_name(other));
+        return nameless | (is_name(name) & ((other == 0) | is_name(other)));
     }
-    (name == 0) & (other == 0)
+    nameless
 }
 
 // Whether what is kept of entry i is right.

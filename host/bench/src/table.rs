@@ -127,10 +127,11 @@ fn is_packed(cell: u64, readings: u32) -> bool {
 
 fn is_kept_right(links: &[u16], cells: &[u64], i: usize, readings: u32) -> bool {
     let [_, value, name, other] = cells[4 * i..4 * i + 4] else { return false };
+    let is_nameless = name == 0 && other == 0;
     let names = match value {
         FUNCTION_CELL => is_name(name) && other == 0,
-        DELAYED_CELL => is_name(name) && (other == 0 || is_name(other)),
-        _ => name == 0 && other == 0,
+        DELAYED_CELL => is_nameless || is_name(name) && (other == 0 || is_name(other)),
+        _ => is_nameless,
     };
     let is_done = |link: u16| {
         let j = usize::from(link);

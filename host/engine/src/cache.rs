@@ -3,7 +3,7 @@
 
 use crate::ffi::{EditAnswer, PreviewAnswer, formula_edit, formula_open, formula_preview};
 use crate::lent::{Cell, Lent};
-use crate::memory::{CELLS, HEADS, LINKS, Memory, READINGS, name};
+use crate::memory::{CELLS, HEADS, LINKS, Memory, READINGS, name, names};
 use plain::model::{Answer, Call};
 use plain::name::Name;
 use plain::shown::{Shown, Window};
@@ -241,8 +241,7 @@ fn shown(raw: PreviewAnswer) -> Shown {
             length: raw.second as usize,
         }),
         3 => Shown::Function(name(raw.name)),
-        4 if raw.other == 0 => Shown::Delayed(vec![name(raw.name)]),
-        4 => Shown::Delayed(vec![name(raw.name), name(raw.other)]),
+        4 => Shown::Delayed(names([raw.name, raw.other])),
         5 => Shown::Missing(u8::try_from(raw.first).expect("reasons are 1 to 5")),
         _ => panic!("{raw:?}"),
     }
@@ -281,8 +280,8 @@ fn raw_shown(raw: PreviewAnswer, shown: &Shown) -> PreviewAnswer {
         },
         Shown::Function(name) => PreviewAnswer { kind: 3, name: packed(name), ..raw },
         Shown::Delayed(names) => {
-            let other = names.get(1).map_or(0, packed);
-            PreviewAnswer { kind: 4, name: packed(&names[0]), other, ..raw }
+            let number = |i: usize| names.get(i).map_or(0, packed);
+            PreviewAnswer { kind: 4, name: number(0), other: number(1), ..raw }
         }
         Shown::Missing(reason) => PreviewAnswer { kind: 5, first: (*reason).into(), ..raw },
     }

@@ -81,10 +81,11 @@ fn await_few(memory: &Memory) -> bool {
 fn is_kept_right(memory: &Memory, entry: usize) -> bool {
     let value = memory.kept(entry);
     let [first, second] = memory.names(entry);
+    let is_nameless = first == 0 && second == 0;
     let are_names_right = match value {
         KEPT_FUNCTION => is_name(first) && second == 0,
-        KEPT_DELAYED => is_name(first) && (second == 0 || is_name(second)),
-        _ => first == 0 && second == 0,
+        KEPT_DELAYED => is_nameless || is_name(first) && (second == 0 || is_name(second)),
+        _ => is_nameless,
     };
     let is_worked = |below: usize| !memory.needs_work(below) || memory.kept(below) != 0;
     let is_value_right = value == 0

@@ -114,8 +114,7 @@ impl Memory {
         match value {
             0 => None,
             KEPT_FUNCTION => Some(Shown::Function(name(first))),
-            KEPT_DELAYED if second == 0 => Some(Shown::Delayed(vec![name(first)])),
-            KEPT_DELAYED => Some(Shown::Delayed(vec![name(first), name(second)])),
+            KEPT_DELAYED => Some(Shown::Delayed(names([first, second]))),
             _ => Some(value_shown(value)),
         }
     }
@@ -173,4 +172,9 @@ pub fn word(packed: u64) -> Vec<u8> {
 pub fn name(packed: u64) -> Name {
     let word = String::from_utf8(word(packed)).expect("a name is ASCII");
     Name::new(&word).expect("a name has at most 8 bytes")
+}
+
+/// The names that two numbers pack, 0 for none.
+pub fn names(packed: [u64; 2]) -> Vec<Name> {
+    packed.into_iter().filter(|number| *number != 0).map(name).collect()
 }

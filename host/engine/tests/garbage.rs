@@ -105,8 +105,8 @@ fn check_preview(memory: &Memory, entry: u32, allowance: u32) -> Answer {
         let shown = after.shown(entry).unwrap_or_else(leaf);
         assert_eq!(answer, Answer::Finished { worked, shown });
     }
+    assert!(is_well_formed(&after));
     if let Some(shown) = shown_by_forms(memory) {
-        assert!(is_well_formed(&after));
         for number in unworked {
             assert_eq!(after.shown(number).as_ref(), Some(&shown[number]), "entry {number}");
         }
@@ -269,7 +269,7 @@ fn clauses_of_refusal_4() {
         ("a second name beside a window", Cell(2, 3, 0x61)),
         ("a second name beside a function", Cell(7, 3, 0x61)),
         ("a function without a name", Cell(7, 2, 0)),
-        ("a delay without a name", Cell(6, 2, 0)),
+        ("a delay with a second name alone", Cell(5, 2, 0)),
         ("a delay with a name that is none", Cell(5, 3, 0x31)),
         ("a name without a result", Cell(10, 2, 0x61)),
         ("a number that keeps a result", Cell(1, 1, 1)),
@@ -315,6 +315,7 @@ fn good_contents_at_the_limits() {
         Cell(2, 1, (1 << 33) + 5 * 65_536),
         Cell(2, 1, (1 << 35) + 1),
         Cell(2, 1, (1 << 35) + 5),
+        Cell(6, 2, 0),
         Cell(6, 2, 0x7a),
         Cell(6, 3, 0x7a),
         Cell(8, 1, 0),

@@ -1,0 +1,103 @@
+-- A cache that a call accepts, whatever was in it, is accepted by the next call: none leaves a cache that refusal 4 declines or that no longer
+-- fits. And a preview of any cache works out as many entries as it says. Assumes nothing.
+use mathlib.Core.Path.{_≡_, sym, ap, _∙_}
+use mathlib.Core.Bool.{true, _&&_}
+use mathlib.Core.List.{List}
+use Prim.Native.Nat.{ℕ, _+_}
+use native.Mathlib.Omega.{arith}
+use borrow.Author.Tests.{ltb-true, ltb-false}
+use lib.Dec.{leb, ltb}
+use lib.IntN.{ℤ}
+use lib.ListN.{length}
+use Rattle.language.specs.Limits.{textBytes, textParts, tableReadings}
+use Rattle.grammar.specs.Machine.{readText}
+use Rattle.model.specs.Lists.{All}
+use Rattle.model.specs.Cases.{impossible, split, both}
+use Rattle.model.specs.Model.{refused, opened}
+use Rattle.table.specs.Memory.{Memory, fits, entryCount, recordingOf}
+use Rattle.table.specs.WellFormed.{wellFormed}
+use Rattle.table.specs.AppendedLaws.{well-parts, well-from, well-empty}
+use Rattle.formulas.specs.Formulas.{IsReading}
+use Rattle.evaluator.specs.Works.{Work}
+use Rattle.engine.specs.declared.answers.Previewed.{Previewed}
+use Rattle.engine.specs.declared.answers.Previewed.the-variants.{NotYet, Finished, Refused}
+use Rattle.engine.specs.Calls.{openAnswer, openMemory, openedMemory, editMemory, workOn, workedMemory, previewedAs, previewed, previewMemory}
+use Rattle.demand.specs.Appended.{lengths, long-enough}
+use Rattle.demand.specs.Opening.{count-zero, count-readings, longer}
+use Rattle.demand.specs.Grown.{read-well, read-fits}
+use Rattle.demand.specs.WorkedOut.{workedOut}
+use Rattle.demand.specs.Worked.{worked-well, worked-fits, worked-rise}
+
+-- ---- open
+
+pub open-fits : (m : Memory) (r : List ℤ) → fits (openMemory m r) ≡ fits m
+unfolding openMemory
+open-fits m r =
+    split (ltb tableReadings (length r)) (λ p. rw p)
+    (λ p. split (fits m)
+    (λ q. rw (p, q) (long-enough (openedMemory m r) (longer m r (lengths m q) (ltb-false tableReadings (length r) p))))
+    (λ q. rw (p, q) q))
+
+pub open-well : (m : Memory) (r : List ℤ) → openAnswer m r ≡ opened → wellFormed (openMemory m r) ≡ true
+unfolding openAnswer openMemory
+open-well m r h =
+    split (ltb tableReadings (length r)) (λ p. impossible (let z : refused 2 0 ≡ opened = rw p at h in cc))
+    (λ p. split (fits m)
+    (λ q.
+    let short = ltb-false tableReadings (length r) p in
+    let n = count-readings m r (lengths m q) short in
+    rw (p, q) (well-empty (openedMemory m r) (count-zero m r (lengths m q) short) (omega arith)))
+    (λ q. impossible (let z : refused 3 0 ≡ opened = rw (p, q) at h in cc)))
+
+-- ---- edit
+
+pub edit-fits : (m : Memory) (places text : List ℕ) → fits (editMemory m places text) ≡ fits m
+unfolding editMemory
+edit-fits m places text =
+    split (ltb textBytes (length text)) (λ p. rw p)
+    (λ p. split (fits m && leb textParts (length places))
+    (λ q. split (wellFormed m) (λ w. rw (p, q, w) (read-fits m (readText text))) (λ w. rw (p, q, w)))
+    (λ q. rw (p, q)))
+
+pub edit-well : (m : Memory) (places text : List ℕ) → wellFormed m ≡ true → wellFormed (editMemory m places text) ≡ true
+unfolding editMemory
+edit-well m places text w =
+    split (ltb textBytes (length text)) (λ p. rw p w)
+    (λ p. split (fits m && leb textParts (length places))
+    (λ q. rw (p, q, w) (read-well m text (both (fits m) _ q .0) w))
+    (λ q. rw (p, q) w))
+
+-- ---- preview
+
+pub preview-fits : (m : Memory) (n a : ℕ) → fits (previewMemory m n a) ≡ fits m
+unfolding previewMemory
+preview-fits m n a = split (fits m && (wellFormed m && ltb n (entryCount m))) (λ p. rw p (worked-fits m n a)) (λ p. rw p)
+
+pub preview-well : (m : Memory) (n a : ℕ) → wellFormed m ≡ true → All IsReading (recordingOf m) → wellFormed (previewMemory m n a) ≡ true
+unfolding previewMemory
+preview-well m n a w sound =
+    split (fits m && (wellFormed m && ltb n (entryCount m)))
+    (λ p.
+    let b = both (fits m) _ p in
+    rw p (well-from (workedMemory m (workOn m n a)) (worked-well m (b .0) (well-parts m w) sound n (ltb-true n (entryCount m) (both (wellFormed m) _ (b .1) .1)) a)))
+    (λ p. rw p w)
+
+-- how many entries the answer says were worked out
+abbrev pub counted : Previewed → ℕ
+counted (NotYet k) = k
+counted (Finished k v) = k
+counted (Refused r) = 0
+
+pub preview-rise : (m : Memory) (n a : ℕ) → All IsReading (recordingOf m) → workedOut (previewMemory m n a) ≡ workedOut m + counted (previewed m n a)
+unfolding previewMemory previewed
+preview-rise m n a sound =
+    split (fits m)
+    (λ f. split (wellFormed m)
+    (λ w. split (ltb n (entryCount m))
+    (λ l. rw (f, w, l) (worked-rise m f (well-parts m w) sound n (ltb-true n (entryCount m) l) a ∙ ap (λ (k : ℕ). workedOut m + k) (sym (says (workOn m n a)))))
+    (λ l. rw (f, w, l) (omega arith)))
+    (λ w. rw (f, w) (omega arith)))
+    (λ f. rw f (omega arith))
+  where
+    says : (w : Work) → counted (previewedAs m n w) ≡ w .count
+    says w = split (w .left) (λ p. rw p) (λ p. rw p)
