@@ -7,7 +7,7 @@ use Prim.Native.Nat.{ℕ, zero, suc, _+_, _-_, _<_}
 use native.Mathlib.Omega.{arith}
 use borrow.Author.Tests.{eqb-true, eq-eqb, ne-eqb, le-ltb}
 use lib.Dec.{eqb}
-use lib.IntN.{pos, natAbs, _+ℤ_, _-ℤ_, -ℤ-+ℤ-cancel}
+use lib.IntN.{pos, natAbs, -ℤ-+ℤ-cancel}
 use Rattle.language.specs.Members.{row, memberAt, memberNumber}
 use Rattle.language.specs.declared.members.Member.{Member}
 use Rattle.language.specs.declared.members.Found.{Found}

@@ -3,7 +3,7 @@
 use mathlib.Core.Path.{_≡_, refl, sym, ap, _∙_, subst}
 use mathlib.Core.Bool.{Bool, true, false}
 use mathlib.Core.List.{List, [], _∷_, _++_, map, append-nil, append-assoc}
-use Prim.Native.Nat.{ℕ, zero, suc, _+_, _-_, _<_, _≤_}
+use Prim.Native.Nat.{ℕ, zero, suc, _+_, _<_, _≤_}
 use native.Mathlib.Omega.{arith}
 use borrow.Author.Tests.{eqb-true, le-ltb}
 use lib.Dec.{T, leb→le}
@@ -51,9 +51,6 @@ insert-append : (xs ys fs : List Form) → insertAll same (xs ++ ys) fs ≡ inse
 unfolding insertAll
 insert-append [] ys fs = refl
 insert-append (x ∷ xs) ys fs = insert-append xs ys (insert same x fs)
-
-same-rest : (xs ys us vs : List Form) → Same xs ys → Same us vs → Same (xs ++ us) (ys ++ vs)
-same-rest xs ys us vs p q fs = insert-append xs us fs ∙ ap (insertAll same us) (p fs) ∙ q (insertAll same ys fs) ∙ sym (insert-append ys vs fs)
 
 -- a form that is there already adds nothing
 same-again : (xs us : List Form) (f : Form) → isIn same f xs ≡ true → Same (xs ++ (f ∷ us)) (xs ++ us)

@@ -29,7 +29,7 @@ use Rattle.model.specs.Invariant as Inv
 use Rattle.model.specs.Invariant.{Invariant}
 use Rattle.model.specs.Graph.{among, formAt, Placed, AllPlaced, Stands, decodes, decode}
 use Rattle.model.specs.Checks as Checks
-use Rattle.table.specs.Memory.{Memory, Node, Kept, Entry, entryCount, readingCount, recordingOf, entriesOf, nodesOf}
+use Rattle.table.specs.Memory.{Memory, Node, Entry, entryCount, readingCount, recordingOf, entriesOf, nodesOf}
 use Rattle.table.specs.Nodes.{memberKind, worksKind, arity, memberOfKind, kids, sameNode, build, numberOfKey}
 use Rattle.table.specs.WellFormed.{every, kindKnown, keyRight, given, arityRight, lower, hasNode, distinct, awaitedBy, awaitedAfter, isDone, doneAt, allDone, settled, namesRight, keptRight, wellFormed}
 use Rattle.records.specs.Records.{node}

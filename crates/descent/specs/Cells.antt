@@ -3,7 +3,7 @@ use mathlib.Core.Path.{_≡_, refl, sym, ap, _∙_}
 use mathlib.Core.List.{List, [], _∷_, _++_}
 use Prim.Native.Nat.{ℕ, zero, suc, _+_, _*_, _≤_, _<_}
 use native.Mathlib.Omega.{arith}
-use lib.ListN.{length, getD, drop, set, length-set}
+use lib.ListN.{length, getD, drop, set}
 use Rattle.table.specs.Memory.{Node}
 use Rattle.descent.specs.Descent.{linkWord}
 
@@ -33,11 +33,6 @@ set-puts (x ∷ vs) cs i j v l = set-puts vs (set cs i x) (suc i) j v (omega ari
 pub put-before : (vs cs : List ℕ) (i v : ℕ) → set (puts cs (suc i) vs) i v ≡ puts cs i (v ∷ vs)
 unfolding puts
 put-before vs cs i v = set-puts vs cs (suc i) i v (omega arith)
-
-pub length-puts : (vs cs : List ℕ) (i : ℕ) → length (puts cs i vs) ≡ length cs
-unfolding puts
-length-puts [] cs i = refl
-length-puts (v ∷ vs) cs i = length-puts vs (set cs i v) (suc i) ∙ length-set cs i v
 
 -- where there is room: the values, and behind them the cells as they were
 puts-behind : (vs cs : List ℕ) (c i : ℕ) → puts (c ∷ cs) (suc i) vs ≡ c ∷ puts cs i vs

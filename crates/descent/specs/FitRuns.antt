@@ -62,13 +62,6 @@ part-count : (end n : ℕ) (c : Cursor) → judge end n c (λ _. passPart c) .co
 unfolding judge refuse passPart
 part-count end n c = by-test (λ x. x .count ≡ c .count) (eqb n 0) (λ _. passPart c) (λ _. refuse end n c) (λ _. refl) (λ _. refl)
 
--- behind a let's body
-pub fit-let-end : (marks depth p : ℕ) (s : State) → depth ≤ marks → Fit (inCalls (suc marks) (suc depth)) s → Fit (inCalls marks depth) (mark p s)
-unfolding mark
-fit-let-end marks depth p s l h =
-    let few = h .marks in
-    record { parts = h .parts; count = h .count; marks = omega arith; depth = l; links = λ b i. h .links b (omega arith); own = h .own }
-
 abbrev pub RootsHeld : Reader → Type 0
 RootsHeld rd = (m : Mode) (s : State) → Fit m s → rd m s .cursor .number ≡ 0 → RootHeld (rd m s)
 
@@ -256,20 +249,6 @@ room-part w marks depth p s c h m z =
     let few = h .parts in
     let n = h .count in
     record { count = omega (arith, m .count, m .most); place = omega (arith, m .most) }
-
-pub room-arguments : (k : Call) (marks depth p : ℕ) (s : State) (c : Cursor) → Fit (inArguments k marks depth) s → Moved p 0 (s .cursor) c → Room (k .place) (moved s c)
-room-arguments k marks depth p s c h m =
-    let few = h .parts in
-    let n = h .count in
-    let o = h .own .place in
-    record { count = omega (arith, m .count); place = omega arith }
-
-pub room-more : (k : Call) (marks depth p : ℕ) (s : State) (c : Cursor) → Fit (inMore k marks depth) s → Moved p 0 (s .cursor) c → Room (k .place) (moved s c)
-room-more k marks depth p s c h m =
-    let few = h .parts in
-    let n = h .count in
-    let o = h .own .place in
-    record { count = omega (arith, m .count); place = omega arith }
 
 -- behind the body of a lambda
 pub room-lambda : (end f : ℕ) (w : Bool) (marks depth : ℕ) (s : State) → Fit (inExpression w marks depth) s → isAt lambdaKind (s .cursor .rest) ≡ true → (c : Cursor)

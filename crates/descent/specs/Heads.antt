@@ -66,13 +66,6 @@ module _ (end : ℕ) where
       (λ z. let y = eqb-true n 0 z in f y (unless-passed n _ r r' y e))
       (λ z. record { goes = λ y. absurd (eqb-false n 0 z y); stops = λ _. unless-refused n (headPlace end (c .rest)) r r' (eqb-false n 0 z) e })
 
-  pub fits-next : (c : Cursor) (k : Cursor → Cursor) (P Q : Cursor → Type 0) (r : Reading) → Fits c P r → (c .number ≡ 0 → P c → Fits (k c) Q r) → Fits (next end c k) Q r
-  unfolding next
-  fits-next c k P Q r h f =
-      by-test (λ x. Fits x Q r) (eqb (c .number) 0) (λ _. k c) (λ _. c)
-      (λ z. let y = eqb-true (c .number) 0 z in f y (h .goes y))
-      (λ z. record { goes = λ y. absurd (eqb-false (c .number) 0 z y); stops = h .stops })
-
   pub fits-here : (c : Cursor) (P : Cursor → Type 0) (r : Reading) → c .number ≡ 0 → P c → Fits c P r
   fits-here c P r z p = record { goes = λ _. p; stops = λ d. absurd (d z) }
 

@@ -39,11 +39,6 @@ unfolding headKind behindHead
 behind-some k [] l e = absurd (omega (arith, eqb-true 0 k e))
 behind-some k (x ∷ xs) l e = omega arith
 
-behind-less : (rest : List Located) → length (behindHead rest) ≤ length rest
-unfolding behindHead
-behind-less [] = omega arith
-behind-less (x ∷ xs) = omega arith
-
 -- the cursor: p tokens are passed and g parts counted, where nothing is refused
 pub record Moved (p g : ℕ) (c c' : Cursor) : Type 0 where
   pub count : c' .count ≡ c .count

@@ -3,13 +3,12 @@
 use mathlib.Core.Path.{_≡_, refl, sym, ap, ap₂, subst, _∙_}
 use mathlib.Core.Bool.{Bool, true, false}
 use mathlib.Core.List.{List, [], _∷_, _++_}
-use Prim.Native.Nat.{ℕ, zero, suc, _-_, _*_, _≤_, _<_}
+use Prim.Native.Nat.{ℕ, suc, _*_, _≤_, _<_}
 use native.Mathlib.Omega.{arith}
 use lib.Dec.{eqb}
 use lib.ListN.{length, drop}
 use borrow.Author.Tests.{eqb-true, eqb-false}
-use Rattle.language.specs.Names.{isBlank}
-use Rattle.grammar.specs.Tokens.{Token, kLet, kIn, kEquals, kLambda, kArrow, kDot, kOpen, kShut, kComma, word, number, other, when, tokenAt, Located, scan, tokens}
+use Rattle.grammar.specs.Tokens.{Token, kLet, kIn, kEquals, kLambda, kArrow, kDot, kOpen, kShut, kComma, word, number, other, when, Located, tokens}
 use Rattle.grammar.specs.Grammar.{Expression}
 use Rattle.grammar.specs.KeptLimits.{partsE}
 use Rattle.grammar.specs.Reading.{Reading, tree, refused}
@@ -20,7 +19,7 @@ use Rattle.descent.specs.Descent.{State, moved, start, inExpression, run
 use Rattle.descent.specs.Cells.{puts, puts-all, words, length-words}
 use Rattle.descent.specs.Continued.{judgeAt, endedAt, readOn, text-on}
 use Rattle.descent.specs.Fronts.{due}
-use Rattle.descent.specs.Moves.{by-test, was-due}
+use Rattle.descent.specs.Moves.{was-due}
 use Rattle.descent.specs.Kept.{Kept, run-keeps, ended-keeps}
 use Rattle.descent.specs.Scope.{bindersOf}
 use Rattle.descent.specs.Heads.{fits-judge, fits-here, due-zero}
@@ -193,14 +192,3 @@ module _ (text R P S : List ℕ) (f : ℕ) (room : length S ≡ 32) (enough : 2 
 -- the reading that the code's contract cites
 pub into : (text R P S : List ℕ) → length R ≡ 256 → length P ≡ 128 → length S ≡ 32 → Result text R P (readInto text R P S)
 into text R P S lr lp ls = reads text R P S (suc (2 * length (tokens text))) ls (omega arith) lr lp
-
--- no more tokens than bytes, so two for each byte, and one, is fuel enough
-pub scan-fewer : (bs : List ℕ) (inside place : ℕ) → length (scan inside place bs) ≤ length bs
-unfolding scan
-scan-fewer [] inside place = omega arith
-scan-fewer (b ∷ bs) (suc n) place = let h = scan-fewer bs n (suc place) in omega arith
-scan-fewer (b ∷ bs) zero place =
-    by-test (λ (xs : List Located). length xs ≤ suc (length bs)) (isBlank b) _ _ (λ _. let h = scan-fewer bs zero (suc place) in omega arith) (λ _. let h = scan-fewer bs (tokenAt b bs .width - 1) (suc place) in omega arith)
-
-pub reads-bytes : (text R P S : List ℕ) (f : ℕ) → length R ≡ 256 → length P ≡ 128 → length S ≡ 32 → 2 * length text < f → Result text R P (readWith f text R P S)
-reads-bytes text R P S f lr lp ls l = let h = scan-fewer text 0 0 in reads text R P S f ls (omega arith) lr lp

@@ -14,7 +14,6 @@ use Rattle.language.specs.Limits.{textBytes, textParts}
 use Rattle.grammar.specs.Reading.{Reading, tree, refused as refusedAt}
 use Rattle.grammar.specs.Machine.{readText}
 use Rattle.model.specs.Cases.{split}
-use Rattle.model.specs.Language.{rejected}
 use Rattle.model.specs.Model.{refused, opened, edited, notYet, finished}
 use Rattle.table.specs.Memory.{Memory, fits}
 use Rattle.table.specs.WellFormed.{wellFormed}
@@ -29,7 +28,7 @@ use Rattle.engine.specs.declared.answers.Previewed.{Previewed}
 use Rattle.engine.specs.declared.answers.Previewed.the-variants as P
 use Rattle.engine.specs.declared.answers.EditAnswer.{EditAnswer}
 use Rattle.engine.specs.declared.answers.PreviewAnswer.{PreviewAnswer}
-use Rattle.engine.specs.Answers.{Reply, editReply, openNumber, editNumbers, previewNumbers}
+use Rattle.engine.specs.Answers.{Reply, openNumber, editNumbers, previewNumbers}
 use Rattle.engine.specs.Calls.{tooMany, boundTo, readAnswer, editAnswer}
 use Rattle.engine.specs.Contracts.{Opens, Edits, Previews, OpensForC, EditsForC, PreviewsForC, PlaceFits}
 

@@ -1,6 +1,6 @@
 -- An entry's value from a frame, in the code's shape: what the entry asks for, and the runs of a function over a window. Inside a run only
 -- what awaits its variable is worked out again. A function's body is judged with its own variable delayed, whatever a run around it has set.
--- Assumes nothing: these are definitions. What they come to is in Meaning.
+-- Assumes nothing: these are definitions. What they come to is in refine's Meaning.
 use mathlib.Core.Path.{_≡_}
 use mathlib.Core.Bool.{Bool, true, false, cond}
 use mathlib.Core.List.{List, [], _∷_}

@@ -3,7 +3,6 @@ use crate::links::cell;
 use crate::links::link;
 ghost use mathlib.Core.Path.{_≡_};
 ghost use Prim.Native.Nat.{_<_, _≤_};
-ghost use lib.ListN.{getD};
 ghost use Rattle.evaluator.specs.Frames.{leafOf, startAt, startFrom, bound, isUnset, isOpen, functionOf};
 
 pub const WINDOW: u64 = 8589934592;

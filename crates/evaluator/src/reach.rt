@@ -3,9 +3,9 @@ use crate::links::is_below;
 use crate::links::link;
 use crate::waits::awaits;
 ghost use mathlib.Core.Path.{_≡_};
-ghost use Prim.Native.Nat.{_<_, _≤_};
-ghost use lib.ListN.{length, drop};
-ghost use Rattle.evaluator.specs.Reach.{moves as movesOf, flagged, spread as spreadOf, gathered, Gathers};
+ghost use Prim.Native.Nat.{_<_};
+ghost use lib.ListN.{length};
+ghost use Rattle.evaluator.specs.Reach.{moves as movesOf, flagged, spread as spreadOf, Gathers};
 
 // Whether entry d awaits the variable v and is not v.
 fn moves(waits: &[u32; 512], v: u32, d: usize) -> bool

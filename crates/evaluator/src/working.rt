@@ -24,16 +24,15 @@ use values::runs::step;
 ghost use mathlib.Core.Path.{_≡_};
 ghost use mathlib.Core.Bool.{true, false};
 ghost use mathlib.Core.List.{List};
-ghost use Prim.Native.Nat.{_+_, _<_, _≤_};
+ghost use Prim.Native.Nat.{_+_, _<_};
 ghost use lib.IntN.{ℤ, pos};
 ghost use lib.ListN.{length, getD, drop};
 ghost use Rattle.values.specs.declared.Value.the-variants.{Number};
 ghost use Rattle.values.specs.declared.apply.Applied.the-variants.{Done};
-ghost use Rattle.values.specs.Packing.{packOf, unpackOf, windowCell};
-ghost use Rattle.values.specs.Windows.{readingsIn};
+ghost use Rattle.values.specs.Packing.{packOf, windowCell};
 ghost use Rattle.values.specs.Tallies.{Within};
 ghost use Rattle.table.specs.Nodes.{memberOfKind};
-ghost use Rattle.evaluator.specs.Working.{graph, boundedOf, askOf, callOf, doneOf, taskOf, judgeOf, runOf, followOf, planOf, Planned, concludeOf, Applies, Fills, Bounds, Tallied, Reruns, Counts};
+ghost use Rattle.evaluator.specs.Working.{graph, askOf, callOf, doneOf, taskOf, judgeOf, runOf, followOf, planOf, Planned, concludeOf, Applies, Fills, Bounds, Tallied, Reruns, Counts};
 
 const WRONG: u64 = 34359738370;
 

@@ -10,7 +10,7 @@ use values::packing::unpack;
 use values::shown::numbers;
 ghost use mathlib.Core.Path.{_≡_};
 ghost use Prim.Native.Nat.{_+_, _*_, _<_, _≤_};
-ghost use lib.ListN.{length, getD};
+ghost use lib.ListN.{length};
 ghost use Rattle.evaluator.specs.Works.{raised, needOf, chosen as chosenOf, slotName, nameFor, otherFor, keepOf, kept as keptOf, Lent, Works, showOf};
 
 const FUNCTION: u64 = 17179869184;

@@ -98,9 +98,6 @@ each p t m =
     let h = found-inside members (memberNumber m) m (number-found m) in
     rw (h .1) at (passes-at (λ i k. p k) Add members t (memberNumber m) (h .0))
 
-each-equal : (f g : Member → ℕ) → passes (λ i m. eqb (f m) (g m)) 0 members ≡ true → (m : Member) → f m ≡ g m
-each-equal f g t m = eqb-true (f m) (g m) (each (λ k. eqb (f k) (g k)) t m)
-
 -- ---- names
 
 same-refl : (w : List ℕ) → sameBytes w w ≡ true

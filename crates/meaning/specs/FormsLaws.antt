@@ -190,10 +190,6 @@ within-trans d f (function x b) h k =
     (λ e. rw (same-eq f (function x b) e) at h)
     (λ e. or-right (same d (function x b)) _ (within-trans d f b h e))
 
--- a dependency of what lies within g lies within g
-pub within-dependency : (d f g : Form) → dependency d f ≡ true → within f g ≡ true → within d g ≡ true
-within-dependency d f g h k = within-trans d f g (dependency-within d f h) k
-
 -- and nothing else does: it is the form, or within a dependency
 pub within-only : (g f : Form) → within g f ≡ true → (g ≡ f) ⊎ ((d : Form) × (dependency d f ≡ true) × (within g d ≡ true))
 unfolding within dependency

@@ -9,10 +9,9 @@ use Prim.Native.Nat.{ℕ, suc, _<_}
 use native.Mathlib.Omega.{arith}
 use lib.ListN.{length, getD, getElem?, List·getD-append}
 use Rattle.model.specs.Lists.{member, index, insert, insertAll, Distinct}
-use Rattle.model.specs.Cases.{impossible}
 use Rattle.model.specs.Language.{Language}
-use Rattle.model.specs.ListLaws.{nth-below, nth-has, old-or-last, getD-nth, getD-last, length-snoc, member-nth, member-self, member-tail, nth-index, index-nth, insert-has, insert-old, nth-insert, distinct-insert}
-use Rattle.model.specs.Laws.{Ordered, Tests}
+use Rattle.model.specs.ListLaws.{nth-below, nth-has, old-or-last, getD-nth, getD-last, length-snoc, member-nth, nth-index, index-nth, insert-has, insert-old, nth-insert, distinct-insert}
+use Rattle.model.specs.Laws.{Tests}
 use Rattle.model.specs.Graph.{among, Graph, GraphLaws, formAt, Placed, Stands, bind-stands, bind-number}
 
 -- A record: the same as an earlier one, or a node whose links are earlier records.
@@ -42,46 +41,6 @@ module _ (L : Language) (G : Graph L) where
   abbrev pub Valid : ℕ → List (Record Node) → Type 0
   Valid p [] = Unit {0}
   Valid p (x ∷ xs) = Earlier p x × Valid (suc p) xs
-
-  -- so that dependencies come first
-  module _ (B : GraphLaws L G) (T : Tests L) where
-    abbrev Covers : List Form → List Form → Type 0
-    Covers pre rf =
-        (k : ℕ) (f : Form) → getElem? rf k ≡ some f
-        → (member (L .same) f pre ≡ true) × ((d : Form) → L .dependency d f ≡ true → member (L .same) d pre ≡ true)
-
-    deps-before : (pre rf : List Form) (x : Record Node) → Covers pre rf → Earlier (length rf) x → (d : Form)
-        → L .dependency d (recordForm rf x) ≡ true → member (L .same) d pre ≡ true
-    unfolding recordForm
-    deps-before pre rf (again j) c h d e =
-        let z = nth-has rf j h in
-        c j (z .0) (z .1) .1 d (subst (λ (y : Form). L .dependency d y ≡ true) (getD-nth rf j (z .0) (G .nowhere) (z .1)) e)
-    deps-before pre rf (fresh n) c h d e =
-        let k = B .each n (formAt L G rf) d (h .fine) e in
-        let z = nth-has rf (k .0) (h .lower (k .0) (k .1)) in
-        subst (λ (y : Form). member (L .same) y pre ≡ true) (sym (getD-nth rf (k .0) (z .0) (G .nowhere) (z .1)) ∙ k .2) (c (k .0) (z .0) (z .1) .0)
-
-    ordered-from : (pre rf : List Form) (xs : List (Record Node)) → Covers pre rf → Valid (length rf) xs → Ordered L pre (recordForms rf xs)
-    unfolding recordForms
-    ordered-from pre rf [] c v = tt
-    ordered-from pre rf (x ∷ xs) c v =
-        let f = recordForm rf x in
-        let n = sym (length-snoc rf f) in
-        let tail = member-tail (T .equality) f in (
-          deps-before pre rf x c (v .0),
-          ordered-from (f ∷ pre) (rf ++ (f ∷ [])) xs
-              (λ k g e. ⊎-elim
-              (λ o. let z = c k g (o .1) in (tail g pre (z .0), λ d y. tail d pre (z .1 d y)))
-              (λ o. (
-                subst (λ (y : Form). member (L .same) y (f ∷ pre) ≡ true) (o .1) (member-self (T .equality) f pre),
-                λ d y. tail d pre (deps-before pre rf x c (v .0) d (subst (λ (u : Form). L .dependency d u ≡ true) (sym (o .1)) y)),
-              ))
-              (old-or-last rf f k g e))
-              (rw n at (v .1)),
-        )
-
-    pub ordered-records : (xs : List (Record Node)) → Valid 0 xs → Ordered L [] (recordForms [] xs)
-    ordered-records xs v = ordered-from [] [] xs (λ k f e. impossible (let l = nth-below [] k f e in absurd (omega arith))) v
 
   -- Binding: a node's links are changed from records to numbers.
   module _ (relink : Node → (ℕ → ℕ) → Node) where

@@ -161,14 +161,6 @@ module _ {A : Type 0} (p : A → Bool) (g : A → A) where
   on-none zero (x ∷ xs) h = refl
   on-none (suc n) (x ∷ xs) h = rw (h 0 x refl) (ap (λ (l : List A). x ∷ l) (on-none (suc n) xs (λ i. h (suc i))))
 
-  -- an element that fails the test stays
-  pub on-nth : (n : ℕ) (xs : List A) (i : ℕ) (x : A) → p x ≡ false → getElem? xs i ≡ some x → getElem? (onFirsts p g n xs) i ≡ some x
-  unfolding onFirsts
-  on-nth n [] i x f e = e
-  on-nth zero (y ∷ ys) i x f e = e
-  on-nth (suc n) (y ∷ ys) zero x f e = let q : p y ≡ false = subst (λ (z : A). p z ≡ false) (let w : x ≡ y = cc in w) f in rw q e
-  on-nth (suc n) (y ∷ ys) (suc i) x f e = split (p y) (λ q. rw q (on-nth n ys i x f e)) (λ q. rw q (on-nth (suc n) ys i x f e))
-
   -- the changed elements pass no longer
   pub on-count : ((x : A) → p (g x) ≡ false) → (n : ℕ) (xs : List A) → countIf p (onFirsts p g n xs) ≡ countIf p xs - n
   unfolding onFirsts countIf

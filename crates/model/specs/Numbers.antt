@@ -7,12 +7,12 @@ use mathlib.Core.List.{List, [], _∷_, _++_, map, List·Memᴰ}
 use mathlib.Core.Option.{some}
 use Prim.Native.Nat.{ℕ, suc, _+_, _≤_}
 use native.Mathlib.Omega.{arith}
-use lib.ListN.{length, drop, getElem?, length-map, length-append, length-drop}
+use lib.ListN.{length, getElem?}
 use Rattle.model.specs.Limits.{textBytes}
 use Rattle.model.specs.Lists.{All, member, index, insertAll}
 use Rattle.model.specs.ListLaws.{all-append, all-in, member-tail, member-nth, nth-index, index-one, member-insertAll, insertAll-has, index-insertAll}
 use Rattle.model.specs.Language.{Language, parts}
-use Rattle.model.specs.Model.{State, forms, start, Request, Open, Edit, Preview, Call, Answer, notYet, finished, refused, written, holdAll, answer, next}
+use Rattle.model.specs.Model.{State, forms, start, Request, Open, Edit, Preview, Call, Answer, notYet, finished, refused, holdAll, answer, next}
 use Rattle.model.specs.Since.{isOpening, Part, partsFrom, formsByPlace, numbersIn, partsIn, partsGiven}
 use Rattle.model.specs.Runs.{model, answers, after}
 use Rattle.model.specs.Laws.{Laws}
@@ -79,25 +79,6 @@ module _ (L : Language) where
           },
           known-more gs fs xs (k .1),
         )
-
-    -- the lent places keep their number
-    pub written-length : (s : State L) (c : Call L) (ps t : List ℕ) → c .request ≡ Edit ps t → length (written L (answer L s c) ps) ≡ length ps
-    unfolding written
-    written-length s c ps t r = go (step L H s c)
-      where
-        go : Step L s c → length (written L (answer L s c) ps) ≡ length ps
-        go (declines n at four e) = rw (e, answer)
-        go (opens r′ q z e) = rw (e, answer)
-        go (edits ps′ t′ order places whole q l room rd z e) =
-            let same-ps : ps ≡ ps′ = cc in
-            let few = H .readable t′ order places whole l rd .placed in
-            let numbers = map (λ (f : Form). index same f (forms L (holdAll L order (s .entries)))) places in
-            let n : length numbers ≡ length places = length-map places _ in
-            let m = length-append numbers (drop (length numbers) ps) in
-            let d = length-drop (length numbers) ps in
-            let u = ap length same-ps in
-            rw (e, answer) (omega arith)
-        go (previews n a f q z e) = rw (e, answer) (rw (of-preview (λ (x : Answer L). written L x ps) ps _ _ _ refl refl))
 
     abbrev since : State L → Call L → List (Part L) → List (Part L)
     since s c xs = cond (isOpening L (answer L s c)) [] (partsIn L (c .request) (answer L s c) ++ xs)

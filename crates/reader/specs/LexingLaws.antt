@@ -165,9 +165,6 @@ module _ (text : List ℕ) (at : ℕ) (x : Lexed) (e : x ≡ lexAt text at) wher
   pub lex-some : (x .kind ≡ 0 → ⊥) → Stands text at x
   lex-some n = lexed .some n
 
-  pub lex-falls : (x .kind ≡ 0 → ⊥) → length text - x .end < length text - at
-  lex-falls n = let s : Stands text at x = lex-some n in omega arith
-
   -- the next token by its kind; tokenFor computes at a numeral
   pub lex-kind : (k : ℕ) → x .kind ≡ suc k
       → tokensFrom text at ≡ record { token = tokenFor (suc k) (bytesAt text (x .start) (x .end)); place = x .start } ∷ tokensFrom text (x .end)

@@ -34,13 +34,13 @@ use Rattle.values.specs.Tallies as Tallies
 use Rattle.values.specs.TallyLaws.{finished-is}
 use Rattle.values.specs.Windows.{readingsIn}
 use Rattle.meaning.specs.Forms.{Form, variable, ask, call, function}
-use Rattle.meaning.specs.Evaluation.{Result, plain, runs, valueOf, runOf, Environment, nowhere, bind, lookup, settled, functionOf, evaluate, awaited, hasName}
+use Rattle.meaning.specs.Evaluation.{Result, plain, runs, valueOf, runOf, Environment, bind, lookup, settled, functionOf, evaluate, awaited, hasName}
 use Rattle.table.specs.Nodes.{memberKind, memberOfKind}
 use Rattle.evaluator.specs.Links.{kindAt, firstAt, secondAt, keyAt}
 use Rattle.evaluator.specs.Waits.{slotA, slotB, holds, awaits, ownOf}
 use Rattle.evaluator.specs.Reach.{gathered}
 use Rattle.evaluator.specs.Frames as Code
-use Rattle.evaluator.specs.Working.{graph, Go, boundedOf, askOf, callOf, doneOf, taskOf, judgeOf, runOf as taskRun, followOf, planOf, fillOf, overOf, concludeOf, finishOf, applyAt, Applies}
+use Rattle.evaluator.specs.Working.{graph, Go, boundedOf, askOf, callOf, doneOf, taskOf, judgeOf, runOf as taskRun, followOf, planOf, fillOf, overOf, concludeOf, finishOf, applyAt}
 use Rattle.refine.specs.Free.{free, never, split, both, either, or-left, or-right, decEq, free-variable, free-call, free-function, unbound-same, settled-no, settled-find}
 use Rattle.refine.specs.Tables.{EntryAt, is-number, is-variable, is-unbound, is-readings, is-function, is-ask, is-call, Good, PlainValue, Plain, plain-lookup, kept-entry, Link, Sees, here, down, sees-free, sees-below}
 use Rattle.refine.specs.Kinds.{isFunction, ask-none, call-none}
@@ -573,8 +573,3 @@ module _ (links cells waits : List ℕ) (xs : List ℤ) (n : ℕ) (φ : ℕ → 
   unfolding applyAt
   apply-right zero ρ ps frame i i-n i-f k len below = absurd (omega arith)
   apply-right (suc f) ρ ps frame i i-n i-f k len below = step ρ ps frame i i-n below (applyAt (graph links waits xs) f) f (apply-right f) (omega arith) len k (good .entries i i-n)
-
-  -- what the code's contract says of its answer, for a member or a function whose frame is right at what it sees: what the form comes to
-  pub worked-right : (frame : List ℕ) (i c : ℕ) → i < n → 4 ≤ kindAt links i → length frame ≡ 512 → ((m : ℕ) → m < i → Sees links φ i m → getD frame m 0 ≡ packOf (valueOf (evaluate xs nowhere (φ m))))
-      → Applies (graph links waits xs) frame i c → c ≡ packOf (valueOf (evaluate xs nowhere (φ i)))
-  worked-right frame i c h k len below a = sym (a 512 (omega (arith, good .most))) ∙ apply-right 512 nowhere tt frame i h (omega (arith, good .most)) k len below

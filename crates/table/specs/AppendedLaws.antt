@@ -2,8 +2,8 @@
 -- each new entry is right, new, and awaits two names at most. Assumes nothing.
 use mathlib.Core.Path.{_≡_, refl, sym, ap, _∙_, subst}
 use mathlib.Core.Bool.{Bool, true, false, _&&_}
-use mathlib.Core.List.{List, [], _∷_, _++_, map, append-assoc, append-nil}
-use Prim.Native.Nat.{ℕ, zero, suc, _+_, _-_, _*_, _≤_, _<_}
+use mathlib.Core.List.{List, [], _∷_, _++_}
+use Prim.Native.Nat.{ℕ, zero, suc, _+_, _*_, _≤_, _<_}
 use native.Mathlib.Decide.{decLt}
 use native.Mathlib.Omega.{arith}
 use borrow.Author.Tests.{leb-true, le-leb}
@@ -134,16 +134,6 @@ module _ (m : Memory) (n : Node) where
       where
         at-count : entriesFrom (append m n .links) (append m n .cells) 0 (suc (entryCount m)) ≡ entriesFrom (linksWith (m .links) (entryCount m) n) (cellsWith (m .cells) (entryCount m) (n .key)) 0 (suc (entryCount m))
         at-count = append-as m n (suc (entryCount m))
-
--- The memory with several more.
-pub append-all : (m : Memory) (ns : List Node) → fits m ≡ true → entryCount m + length ns ≤ 512 → entriesOf (appendAll m ns) ≡ entriesOf m ++ map newEntry ns
-unfolding appendAll
-append-all m [] f h = sym (append-nil (entriesOf m))
-append-all m (n ∷ ns) f h =
-    let c = append-count m n f in
-    append-all (append m n) ns (append-fits m n ∙ f) (omega arith)
-    ∙ ap (λ (es : List Entry). es ++ map newEntry ns) (append-entries m n f (omega arith))
-    ∙ append-assoc (entriesOf m) (newEntry n ∷ []) (map newEntry ns)
 
 pub append-all-fits : (m : Memory) (ns : List Node) → fits (appendAll m ns) ≡ fits m
 unfolding appendAll

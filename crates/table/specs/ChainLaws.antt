@@ -296,11 +296,6 @@ module _ (ν : ℕ → Node) where
 
 -- chains and searches hang on the nodes below n alone
 module _ (ν μ : ℕ → Node) where
-  pub last-agree : (x : Node) (n : ℕ) → ((j : ℕ) → j < n → ν j ≡ μ j) → lastSame ν x n ≡ lastSame μ x n
-  unfolding lastSame
-  last-agree x zero h = refl
-  last-agree x (suc n) h = rw (h n (omega arith), last-agree x n (λ j l. h j (omega arith)))
-
   latest-agree : (k n : ℕ) → ((j : ℕ) → j < n → ν j ≡ μ j) → latest ν k n ≡ latest μ k n
   unfolding latest
   latest-agree k zero h = refl

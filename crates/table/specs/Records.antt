@@ -13,10 +13,6 @@ use Rattle.table.specs.Right.{node, numbered}
 use Rattle.table.specs.Held.{heldAt}
 use Rattle.table.specs.Chain.{Chained}
 
--- the word of a kind below 32 and links of at most 128
-abbrev pub recordWord : ℕ → ℕ → ℕ → ℕ
-recordWord kind first second = kind + (32 * first + 8192 * second)
-
 unfoldable pub recordAt : List ℕ → ℕ → Node
 recordAt records r = node (getD records (2 * r) 0 % 32) (getD records (2 * r + 1) 0) (getD records (2 * r) 0 / 32 % 256) (getD records (2 * r) 0 / 8192 % 256)
 

@@ -11,7 +11,6 @@ use borrow.Author.Tests.{eq-eqb, ne-eqb, lt-ltb, le-ltb}
 use lib.Dec.{eqb, ltb}
 use lib.ListN.{length, getD, set, take, drop, length-set, List·getD-eq-default}
 use lib.Seq.{getD-set-same, getD-set-other, getD-take, take-suc-set, length-take-le, drop-at}
-use Rattle.language.specs.Limits.{tableEntries}
 use Rattle.table.specs.Memory.{Node, nodeAt}
 use Rattle.table.specs.WellFormed.{distinct}
 use Rattle.table.specs.Bind.{find, relinked, relink, Bound, bindOne, bindAll}
@@ -20,7 +19,7 @@ use Rattle.table.specs.RightLaws.{left-suc}
 use Rattle.table.specs.Held.{shaped, wordOf, freshAt, heldAt, withFresh}
 use Rattle.table.specs.Chain.{hashOf, lastSame, Chained, linked}
 use Rattle.table.specs.ChainLaws.{numbered-zero, numbered-last, numbered-agree, length-numbered, distinct-snoc, has-last, last-le, find-last, hash-low, chained-more, chained-agree, held-front}
-use Rattle.table.specs.Records.{recordWord, recordAt, bound, boundNow, Ready, BoundOne, BoundAll, isFull}
+use Rattle.table.specs.Records.{recordAt, bound, boundNow, Ready, BoundOne, BoundAll}
 use Rattle.table.specs.declared.nodes.Shape.{Shape}
 
 -- the words of a node that waits, taken apart again
@@ -32,23 +31,6 @@ word-first k f s hk hf hs = omega arith
 
 word-second : (k f s : ℕ) → k < 32 → f < 1024 → s < 1024 → wordOf k f s / 32768 % 1024 ≡ s
 word-second k f s hk hf hs = omega arith
-
--- the words of a record, taken apart again
-pub record-kind : (k f s : ℕ) → k < 32 → f < 256 → s < 256 → recordWord k f s % 32 ≡ k
-record-kind k f s hk hf hs = omega arith
-
-pub record-first : (k f s : ℕ) → k < 32 → f < 256 → s < 256 → recordWord k f s / 32 % 256 ≡ f
-record-first k f s hk hf hs = omega arith
-
-pub record-second : (k f s : ℕ) → k < 32 → f < 256 → s < 256 → recordWord k f s / 8192 % 256 ≡ s
-record-second k f s hk hf hs = omega arith
-
--- a record that was written is read: its node
-pub record-again : (records : List ℕ) (r : ℕ) (n : Node) → n .kind < 32 → n .first < 256 → n .second < 256
-    → getD records (2 * r) 0 ≡ recordWord (n .kind) (n .first) (n .second) → getD records (2 * r + 1) 0 ≡ n .key → recordAt records r ≡ n
-unfolding recordAt
-record-again records r n hk hf hs p q =
-    rw (p, q, record-kind (n .kind) (n .first) (n .second) hk hf hs, record-first (n .kind) (n .first) (n .second) hk hf hs, record-second (n .kind) (n .first) (n .second) hk hf hs)
 
 -- nodes that wait
 module _ (fresh : List ℕ) (i : ℕ) (n : Node) where
@@ -306,9 +288,6 @@ module _ (links cells : List ℕ) (count : ℕ) (records : List ℕ) (n total : 
   -- 01, refusal 13, by the definition
   pub bound-total : total ≡ length (after .nodes)
   bound-total = sym (length-numbered (heldAt links cells count fresh) 0 total) ∙ ap (λ (b : Bound). length (b .nodes)) (all .is)
-
-  pub bound-full : isFull total ≡ ltb tableEntries (length (after .nodes))
-  bound-full = ap isFull bound-total
 
 pub ready-next : (links cells : List ℕ) (count total : ℕ) (records : List ℕ) (r : ℕ) (numbers fresh : List ℕ) (total′ : ℕ) (numbers′ fresh′ chain′ : List ℕ)
     → BoundOne links cells count total records r numbers fresh total′ numbers′ fresh′ chain′ → Ready links cells count total′ (r + 1) numbers′ fresh′ chain′

@@ -85,5 +85,3 @@ module _ (numbers parts places₀ : List ℕ) where
       rw (e, add-one p, take-suc parts p 0 hp, map-append f (take p parts) (getD parts p 0 ∷ []), length-append (take p parts) (getD parts p 0 ∷ []), n, drop-cons places₀ p 0 hl)
       (set-at (map f (take p parts)) (getD places₀ p 0) (drop (suc p) places₀) v p (length-map (take p parts) f ∙ n)
       ∙ rw (append-assoc, add-one p, q))
-
-pub ruleset writes = (append-is, append-start, append-go, append-end, count-go, placed-start, placed-go, placed-end)

@@ -1,21 +1,18 @@
--- A member's value up to the runs, completed by them, is apply1; and a run is over the receiver's own window. Both make the same tests in the
--- same order, so they differ only in how the two delays and the two kinds are joined. Assumes nothing.
+-- A member's value up to the runs, completed by them, is apply1. Both make the same tests in the same order, so they differ only in how the two
+-- delays and the two kinds are joined. Assumes nothing.
 use mathlib.Core.Path.{_≡_, refl}
 use mathlib.Core.Bool.{Bool, true, false, _&&_, _||_}
 use mathlib.Core.List.{List}
 use Prim.Native.Nat.{ℕ}
 use lib.IntN.{ℤ}
-use Rattle.language.specs.Members.{row}
 use Rattle.language.specs.declared.members.Member.{Member}
 use Rattle.values.specs.declared.Value.{Value}
 use Rattle.values.specs.declared.Value.the-variants.{Number, Window, Function, Delayed, Missing}
 use Rattle.values.specs.declared.apply.Applied.{Applied}
-use Rattle.values.specs.declared.apply.Applied.the-variants.{Done, Run}
+use Rattle.values.specs.declared.apply.Applied.the-variants.{Done}
 use Rattle.values.specs.Values.{pick}
-use Rattle.values.specs.Apply.{isKind, rule1, isMissing, isDelayed, apply1}
+use Rattle.values.specs.Apply.{rule1, apply1}
 use Rattle.values.specs.Applied.{choose, ruledWindow, ruled1, applied1, completed}
-
--- ---- the tests
 
 pick-or : (a b : Bool) (v w : Value) → pick (a || b) v w ≡ pick a v (pick b v w)
 pick-or true b v w = refl
@@ -53,41 +50,3 @@ module _ (m : Member) (xs : List ℤ) (run : ℤ → Value) where
   pub completed-is : (v w : Value) → completed m xs run (applied1 m xs v w) ≡ apply1 m xs v w run
   unfolding applied1 apply1
   completed-is v w = simp (completed-choose, completed-done, completed-rule, pick-or, pick-and)
-
--- ---- a run is over the receiver's window
-
-abbrev RunsOver : Value → Applied → Type 0
-RunsOver v (Done u) = Unit {0}
-RunsOver v (Run s l) = v ≡ Window s l
-
-chosen : (v : Value) (b : Bool) (x y : Applied) → RunsOver v x → RunsOver v y → RunsOver v (choose b x y)
-chosen v true x y p q = p
-chosen v false x y p q = q
-
-over-window : (m : Member) (xs : List ℤ) (s l : ℕ) (w : Value) → RunsOver (Window s l) (ruledWindow m xs s l w)
-unfolding ruledWindow
-over-window m xs s l (Number n) = tt
-over-window m xs s l Function = refl
-over-window m xs s l (Window s′ l′) = tt
-over-window m xs s l Delayed = tt
-over-window m xs s l (Missing r) = tt
-
-over-rule : (m : Member) (xs : List ℤ) (v w : Value) → RunsOver v (ruled1 m xs v w)
-unfolding ruled1
-over-rule m xs (Number a) w = tt
-over-rule m xs (Window s l) w = over-window m xs s l w
-over-rule m xs Function w = tt
-over-rule m xs Delayed w = tt
-over-rule m xs (Missing r) w = tt
-
-over : (m : Member) (xs : List ℤ) (v w : Value) → RunsOver v (applied1 m xs v w)
-unfolding applied1
-over m xs v w =
-    chosen v (isMissing v) _ _ tt
-    (chosen v (isMissing w) _ _ tt
-    (chosen v (isDelayed v) _ _ tt
-    (chosen v (isDelayed w) _ _ tt
-    (chosen v (isKind v (row m .receiver)) _ _ (chosen v (isKind w (row m .argument)) _ _ (over-rule m xs v w) tt) tt))))
-
-pub run-window : (m : Member) (xs : List ℤ) (v w : Value) (s l : ℕ) → applied1 m xs v w ≡ Run s l → v ≡ Window s l
-run-window m xs v w s l e = rw e at (over m xs v w)

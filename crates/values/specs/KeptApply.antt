@@ -18,7 +18,7 @@ use Rattle.values.specs.Apply.{isKind, rule0, isMissing, isDelayed, appl
 use Rattle.values.specs.Applied.{choose, ruledWindow, ruled1, applied1, completed}
 use Rattle.values.specs.ApplyLaws.{completed-is}
 use Rattle.values.specs.WindowLaws.{readings-short}
-use Rattle.values.specs.Kept.{Inside, Bounded, Kept}
+use Rattle.values.specs.Kept.{Kept}
 use Rattle.values.specs.KeptLaws.{Closed, Readings, Each, picked, wrong, readings-of, readings-small, closed-numbers, closed-of, closed-on, closed-runs}
 
 -- the property of what a member comes to, or of the window that it runs over
@@ -93,27 +93,6 @@ module _ (P : Value → Type 0) (C : Closed P) (m : Member) (xs : List ℤ) (R :
     pub closed-apply1 : (v w : Value) → P v → P w → P (apply1 m xs v w run)
     closed-apply1 v w p q = rw (← completed-is m xs run v w) (closed-completed (applied1 m xs v w) (closed-applied1 v w p q))
 
--- ---- a window within k readings: in particular, whose end can be counted in 16 bits
-
-pub inside-closed : (k : ℕ) → Closed (Inside k)
-inside-closed k = record {
-  small = λ z h. tt;
-  reason = λ r h q. tt;
-  delay = tt;
-  part = λ s l s′ l′ h w. omega arith;
-  count = λ s l j h w. tt;
-}
-
-module _ (k : ℕ) (m : Member) (xs : List ℤ) where
-  pub inside-apply0 : (v : Value) → Inside k v → Inside k (apply0 m xs v)
-  inside-apply0 = closed-apply0 (Inside k) (inside-closed k) m xs (λ i h. tt)
-
-  pub inside-applied1 : (v w : Value) → Inside k v → Inside k w → Settled (Inside k) (applied1 m xs v w)
-  inside-applied1 = closed-applied1 (Inside k) (inside-closed k) m xs (λ i h. tt)
-
-  pub inside-apply1 : (run : ℤ → Value) → ((x : ℤ) → Inside k (run x)) → (v w : Value) → Inside k v → Inside k w → Inside k (apply1 m xs v w run)
-  inside-apply1 run h = closed-apply1 (Inside k) (inside-closed k) m xs (λ i h. tt) run (λ x p. h x)
-
 -- ---- what may be kept
 
 pub kept-closed : (n : ℕ) → n ≤ 65535 → Closed (Kept n)
@@ -137,10 +116,3 @@ module _ (n : ℕ) (b : n ≤ 65535) (m : Member) (xs : List ℤ) (small : (i : 
 
   pub kept-apply1 : (run : ℤ → Value) → ((x : ℤ) → Kept n (Number x) → Kept n (run x)) → (v w : Value) → Kept n v → Kept n w → Kept n (apply1 m xs v w run)
   kept-apply1 = closed-apply1 (Kept n) (kept-closed n b) m xs readings
-
-pub kept-bounded : (n : ℕ) (v : Value) → n ≤ 65535 → Kept n v → Bounded v
-kept-bounded n (Number z) h k = tt
-kept-bounded n (Window s l) h k = omega (arith, k .inside)
-kept-bounded n Function h k = tt
-kept-bounded n Delayed h k = tt
-kept-bounded n (Missing r) h k = tt

@@ -2,11 +2,10 @@
 -- so far, and one that has stopped stays. By induction on the results. Assumes nothing.
 use mathlib.Core.Path.{_≡_, refl, sym, ap, _∙_}
 use mathlib.Core.Bool.{Bool, true, false, cond}
-use mathlib.Core.List.{List, [], _∷_, map}
+use mathlib.Core.List.{List, [], _∷_}
 use Prim.Native.Nat.{ℕ, suc, _+_, max, _≤_, _<_}
 use native.Mathlib.Omega.{arith}
 use lib.IntN.{ℤ, pos, _+ℤ_, +ℤ-idl, +ℤ-idr, +ℤ-assoc}
-use lib.ListN.{length, drop, getD, drop-of-length-le}
 use lib.Signed.{mag}
 use Rattle.language.specs.declared.members.Member.{Member}
 use Rattle.language.specs.declared.members.Member.the-variants.{Add, Sub, Mul, Div, Gt, Eq, Skip, Take, Count, Sum, Min, Max, At, CountWhere, LongestRun, SumBy}
@@ -16,7 +15,6 @@ use Rattle.values.specs.declared.runs.Tally.{Tally}
 use Rattle.values.specs.Values.{pick, ranged, wrongKind}
 use Rattle.values.specs.Windows.{total}
 use Rattle.values.specs.Runs.{Results, numbers, because, with, results, holds, countOf, stretch, longest, ofNumbers, concluded, ofRuns}
-use Rattle.values.specs.WindowLaws.{drop-next}
 use Rattle.values.specs.Ranges.{total-range}
 use Rattle.values.specs.Tallies.{begun, noted, halted, entered, choose, stepped, gathered, ofTally, finished, Within}
 
@@ -34,17 +32,6 @@ stopped-stays t (v ∷ vs) h = ap (λ (u : Tally). gathered u vs) (stopped-steps
 pub going-steps : (t : Tally) (v : Value) → t .stopped ≡ false → stepped t v ≡ entered t v
 unfolding stepped
 going-steps t v h = ap (λ (b : Bool). choose b t (entered t v)) h
-
--- ---- a loop over readings: from i on, one more, and no more
-
-module _ (t : Tally) (run : ℤ → Value) (ys : List ℤ) (i : ℕ) where
-  pub gathered-next : i < length ys → gathered t (map run (drop i ys)) ≡ gathered (stepped t (run (getD ys i (pos 0)))) (map run (drop (i + 1) ys))
-  unfolding gathered
-  gathered-next h = ap (λ (zs : List ℤ). gathered t (map run zs)) (sym (drop-next ys i h))
-
-  pub gathered-end : length ys ≤ i → gathered t (map run (drop i ys)) ≡ t
-  unfolding gathered
-  gathered-end h = ap (λ (zs : List ℤ). gathered t (map run zs)) (drop-of-length-le ys h)
 
 -- ---- the numbers alone
 

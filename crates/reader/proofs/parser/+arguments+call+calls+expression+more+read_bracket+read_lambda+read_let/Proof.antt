@@ -220,344 +220,59 @@ calls-loop-again t c = L.chain-on _ _ _ _ _ _ _ _ _ _ _ (c .before .before .befo
 calls-returns-2 : (t : ℕ) → calls-lts.Need-returns-2 (calls-claims t) (calls-at t) calls.Post calls-Inv-loop calls-μ-loop
 calls-returns-2 t c = L.chain-over _ _ _ _ _ _ _ _ _ _ _ (c .before .before .loop .inv) _ (c .before .is-call .ensures) (c .if1 .left)
 
-expression-token-requires : (t : ℕ) → expression-lts.Need-token-requires (
-  token-reads.Asked,
-  token-reads.Learnt,
-  read-let-below t,
-  read-let.Post,
-  read-lambda-below t,
-  read-lambda.Post,
-  read-bracket-below t,
-  read-bracket.Post,
-  read-name-reads.Asked,
-  read-name-reads.Learnt,
-  calls-below t,
-  calls.Post,
-  read-number-reads.Asked,
-  read-number-reads.Learnt,
-  refused-reads.Asked,
-  refused-reads.Learnt,
-) (expression-at t) expression.Post
+abbrev expression-claims : ℕ → expression-lts.Claims
+expression-claims t =
+    (token-reads.Asked, token-reads.Learnt, read-let-below t, read-let.Post, read-lambda-below t, read-lambda.Post, read-bracket-below t, read-bracket.Post, read-name-reads.Asked, read-name-reads.Learnt, calls-below t, calls.Post, read-number-reads.Asked, read-number-reads.Learnt, refused-reads.Asked, refused-reads.Learnt)
+
+expression-token-requires : (t : ℕ) → expression-lts.Need-token-requires (expression-claims t) (expression-at t) expression.Post
 expression-token-requires t c κs = search needs
 
-expression-read-let-requires : (t : ℕ) → expression-lts.Need-read-let-requires (
-  token-reads.Asked,
-  token-reads.Learnt,
-  read-let-below t,
-  read-let.Post,
-  read-lambda-below t,
-  read-lambda.Post,
-  read-bracket-below t,
-  read-bracket.Post,
-  read-name-reads.Asked,
-  read-name-reads.Learnt,
-  calls-below t,
-  calls.Post,
-  read-number-reads.Asked,
-  read-number-reads.Learnt,
-  refused-reads.Asked,
-  refused-reads.Learnt,
-) (expression-at t) expression.Post
+expression-read-let-requires : (t : ℕ) → expression-lts.Need-read-let-requires (expression-claims t) (expression-at t) expression.Post
 expression-read-let-requires t c κs = (omega (arith, c .before .before .before .before .before .before .pre .0), L.ready-at _ _ _ _ _ _ _ _ _ (c .before .before .before .before .token .ensures) _ (c .before .before .before .if1 .taken) (c .before .before .before .before .before .before .pre .1))
 
-expression-returns : (t : ℕ) → expression-lts.Need-returns (
-  token-reads.Asked,
-  token-reads.Learnt,
-  read-let-below t,
-  read-let.Post,
-  read-lambda-below t,
-  read-lambda.Post,
-  read-bracket-below t,
-  read-bracket.Post,
-  read-name-reads.Asked,
-  read-name-reads.Learnt,
-  calls-below t,
-  calls.Post,
-  read-number-reads.Asked,
-  read-number-reads.Learnt,
-  refused-reads.Asked,
-  refused-reads.Learnt,
-) (expression-at t) expression.Post
+expression-returns : (t : ℕ) → expression-lts.Need-returns (expression-claims t) (expression-at t) expression.Post
 expression-returns t c = c .read-let .ensures
 
-expression-read-lambda-requires : (t : ℕ) → expression-lts.Need-read-lambda-requires (
-  token-reads.Asked,
-  token-reads.Learnt,
-  read-let-below t,
-  read-let.Post,
-  read-lambda-below t,
-  read-lambda.Post,
-  read-bracket-below t,
-  read-bracket.Post,
-  read-name-reads.Asked,
-  read-name-reads.Learnt,
-  calls-below t,
-  calls.Post,
-  read-number-reads.Asked,
-  read-number-reads.Learnt,
-  refused-reads.Asked,
-  refused-reads.Learnt,
-) (expression-at t) expression.Post
+expression-read-lambda-requires : (t : ℕ) → expression-lts.Need-read-lambda-requires (expression-claims t) (expression-at t) expression.Post
 expression-read-lambda-requires t c κs = (omega (arith, c .before .before .before .before .before .before .before .pre .0), L.ready-at _ _ _ _ _ _ _ _ _ (c .before .before .before .before .before .token .ensures) _ (c .before .before .before .if2 .taken) (c .before .before .before .before .before .before .before .pre .1))
 
-expression-returns-2 : (t : ℕ) → expression-lts.Need-returns-2 (
-  token-reads.Asked,
-  token-reads.Learnt,
-  read-let-below t,
-  read-let.Post,
-  read-lambda-below t,
-  read-lambda.Post,
-  read-bracket-below t,
-  read-bracket.Post,
-  read-name-reads.Asked,
-  read-name-reads.Learnt,
-  calls-below t,
-  calls.Post,
-  read-number-reads.Asked,
-  read-number-reads.Learnt,
-  refused-reads.Asked,
-  refused-reads.Learnt,
-) (expression-at t) expression.Post
+expression-returns-2 : (t : ℕ) → expression-lts.Need-returns-2 (expression-claims t) (expression-at t) expression.Post
 expression-returns-2 t c = c .read-lambda .ensures
 
-expression-read-bracket-requires : (t : ℕ) → expression-lts.Need-read-bracket-requires (
-  token-reads.Asked,
-  token-reads.Learnt,
-  read-let-below t,
-  read-let.Post,
-  read-lambda-below t,
-  read-lambda.Post,
-  read-bracket-below t,
-  read-bracket.Post,
-  read-name-reads.Asked,
-  read-name-reads.Learnt,
-  calls-below t,
-  calls.Post,
-  read-number-reads.Asked,
-  read-number-reads.Learnt,
-  refused-reads.Asked,
-  refused-reads.Learnt,
-) (expression-at t) expression.Post
+expression-read-bracket-requires : (t : ℕ) → expression-lts.Need-read-bracket-requires (expression-claims t) (expression-at t) expression.Post
 expression-read-bracket-requires t c κs = (omega (arith, c .before .before .before .before .before .before .before .before .pre .0), L.ready-at _ _ _ _ _ _ _ _ _ (c .before .before .before .before .before .before .token .ensures) _ (c .before .before .before .if3 .taken) (c .before .before .before .before .before .before .before .before .pre .1))
 
-expression-returns-3 : (t : ℕ) → expression-lts.Need-returns-3 (
-  token-reads.Asked,
-  token-reads.Learnt,
-  read-let-below t,
-  read-let.Post,
-  read-lambda-below t,
-  read-lambda.Post,
-  read-bracket-below t,
-  read-bracket.Post,
-  read-name-reads.Asked,
-  read-name-reads.Learnt,
-  calls-below t,
-  calls.Post,
-  read-number-reads.Asked,
-  read-number-reads.Learnt,
-  refused-reads.Asked,
-  refused-reads.Learnt,
-) (expression-at t) expression.Post
+expression-returns-3 : (t : ℕ) → expression-lts.Need-returns-3 (expression-claims t) (expression-at t) expression.Post
 expression-returns-3 t c = c .read-bracket .ensures
 
-expression-read-name-requires : (t : ℕ) → expression-lts.Need-read-name-requires (
-  token-reads.Asked,
-  token-reads.Learnt,
-  read-let-below t,
-  read-let.Post,
-  read-lambda-below t,
-  read-lambda.Post,
-  read-bracket-below t,
-  read-bracket.Post,
-  read-name-reads.Asked,
-  read-name-reads.Learnt,
-  calls-below t,
-  calls.Post,
-  read-number-reads.Asked,
-  read-number-reads.Learnt,
-  refused-reads.Asked,
-  refused-reads.Learnt,
-) (expression-at t) expression.Post
+expression-read-name-requires : (t : ℕ) → expression-lts.Need-read-name-requires (expression-claims t) (expression-at t) expression.Post
 expression-read-name-requires t c κs = L.name-ahead _ _ _ _ _ _ _ _ _ (c .before .before .before .before .before .before .before .token .ensures) (c .before .before .before .if4 .taken) (c .before .before .before .before .before .before .before .before .before .pre .1)
 
-expression-calls-requires : (t : ℕ) → expression-lts.Need-calls-requires (
-  token-reads.Asked,
-  token-reads.Learnt,
-  read-let-below t,
-  read-let.Post,
-  read-lambda-below t,
-  read-lambda.Post,
-  read-bracket-below t,
-  read-bracket.Post,
-  read-name-reads.Asked,
-  read-name-reads.Learnt,
-  calls-below t,
-  calls.Post,
-  read-number-reads.Asked,
-  read-number-reads.Learnt,
-  refused-reads.Asked,
-  refused-reads.Learnt,
-) (expression-at t) expression.Post
+expression-calls-requires : (t : ℕ) → expression-lts.Need-calls-requires (expression-claims t) (expression-at t) expression.Post
 expression-calls-requires t c κs = (omega (arith, c .before .before .before .before .before .before .before .before .before .before .before .before .before .before .before .pre .0, L.name-less _ _ _ _ _ _ _ _ _ _ _ (c .before .before .before .before .before .before .before .before .before .before .before .before .before .token .ensures) (c .before .before .before .before .before .before .before .before .before .if4 .taken) (c .before .before .before .before .before .read-name .ensures) (c .before .before .before .if5 .taken)), L.name-fit _ _ _ _ _ _ _ _ _ (c .before .before .before .before .before .before .before .before .before .before .before .before .before .token .ensures) _ _ _ (c .before .before .before .before .before .before .before .before .before .if4 .taken) (c .before .before .before .before .before .read-name .ensures) (c .before .before .before .if5 .taken) (c .before .before .before .before .before .before .before .before .before .before .before .before .before .before .before .pre .1))
 
-expression-returns-4 : (t : ℕ) → expression-lts.Need-returns-4 (
-  token-reads.Asked,
-  token-reads.Learnt,
-  read-let-below t,
-  read-let.Post,
-  read-lambda-below t,
-  read-lambda.Post,
-  read-bracket-below t,
-  read-bracket.Post,
-  read-name-reads.Asked,
-  read-name-reads.Learnt,
-  calls-below t,
-  calls.Post,
-  read-number-reads.Asked,
-  read-number-reads.Learnt,
-  refused-reads.Asked,
-  refused-reads.Learnt,
-) (expression-at t) expression.Post
+expression-returns-4 : (t : ℕ) → expression-lts.Need-returns-4 (expression-claims t) (expression-at t) expression.Post
 expression-returns-4 t c = L.name-read _ _ _ _ _ _ _ _ _ (c .before .before .before .before .before .before .before .before .before .before .before .before .before .before .token .ensures) _ _ _ (c .before .before .before .before .before .before .before .before .before .before .if4 .taken) (c .before .before .before .before .before .before .read-name .ensures) (c .before .before .before .before .if5 .taken) (c .calls .ensures)
 
-expression-returns-5 : (t : ℕ) → expression-lts.Need-returns-5 (
-  token-reads.Asked,
-  token-reads.Learnt,
-  read-let-below t,
-  read-let.Post,
-  read-lambda-below t,
-  read-lambda.Post,
-  read-bracket-below t,
-  read-bracket.Post,
-  read-name-reads.Asked,
-  read-name-reads.Learnt,
-  calls-below t,
-  calls.Post,
-  read-number-reads.Asked,
-  read-number-reads.Learnt,
-  refused-reads.Asked,
-  refused-reads.Learnt,
-) (expression-at t) expression.Post
+expression-returns-5 : (t : ℕ) → expression-lts.Need-returns-5 (expression-claims t) (expression-at t) expression.Post
 expression-returns-5 t c = L.name-refused _ _ _ _ _ _ _ _ _ (c .before .before .before .before .before .before .before .before .before .before .token .ensures) _ _ _ (c .before .before .before .before .before .before .if4 .taken) (c .before .before .read-name .ensures) (c .if5 .left)
 
-expression-read-number-requires : (t : ℕ) → expression-lts.Need-read-number-requires (
-  token-reads.Asked,
-  token-reads.Learnt,
-  read-let-below t,
-  read-let.Post,
-  read-lambda-below t,
-  read-lambda.Post,
-  read-bracket-below t,
-  read-bracket.Post,
-  read-name-reads.Asked,
-  read-name-reads.Learnt,
-  calls-below t,
-  calls.Post,
-  read-number-reads.Asked,
-  read-number-reads.Learnt,
-  refused-reads.Asked,
-  refused-reads.Learnt,
-) (expression-at t) expression.Post
+expression-read-number-requires : (t : ℕ) → expression-lts.Need-read-number-requires (expression-claims t) (expression-at t) expression.Post
 expression-read-number-requires t c κs = L.number-ahead _ _ _ _ _ _ _ _ _ (c .before .before .before .before .before .before .before .token .ensures) (c .before .before .if6 .taken) (c .before .before .before .before .before .before .before .before .before .pre .1)
 
-expression-calls-requires-2 : (t : ℕ) → expression-lts.Need-calls-requires-2 (
-  token-reads.Asked,
-  token-reads.Learnt,
-  read-let-below t,
-  read-let.Post,
-  read-lambda-below t,
-  read-lambda.Post,
-  read-bracket-below t,
-  read-bracket.Post,
-  read-name-reads.Asked,
-  read-name-reads.Learnt,
-  calls-below t,
-  calls.Post,
-  read-number-reads.Asked,
-  read-number-reads.Learnt,
-  refused-reads.Asked,
-  refused-reads.Learnt,
-) (expression-at t) expression.Post
+expression-calls-requires-2 : (t : ℕ) → expression-lts.Need-calls-requires-2 (expression-claims t) (expression-at t) expression.Post
 expression-calls-requires-2 t c κs = (omega (arith, c .before .before .before .before .before .before .before .before .before .before .before .before .before .before .before .pre .0, L.number-less _ _ _ _ _ _ _ _ _ (c .before .before .before .before .before .before .before .before .before .before .before .before .before .token .ensures) (c .before .before .before .before .before .before .before .before .if6 .taken) (c .before .before .before .before .before .read-number .ensures) (c .before .before .before .if7 .taken)), L.number-fit _ _ _ _ _ _ _ _ _ (c .before .before .before .before .before .before .before .before .before .before .before .before .before .token .ensures) _ _ _ (c .before .before .before .before .before .before .before .before .if6 .taken) (c .before .before .before .before .before .read-number .ensures) (c .before .before .before .if7 .taken) (c .before .before .before .before .before .before .before .before .before .before .before .before .before .before .before .pre .1))
 
-expression-returns-6 : (t : ℕ) → expression-lts.Need-returns-6 (
-  token-reads.Asked,
-  token-reads.Learnt,
-  read-let-below t,
-  read-let.Post,
-  read-lambda-below t,
-  read-lambda.Post,
-  read-bracket-below t,
-  read-bracket.Post,
-  read-name-reads.Asked,
-  read-name-reads.Learnt,
-  calls-below t,
-  calls.Post,
-  read-number-reads.Asked,
-  read-number-reads.Learnt,
-  refused-reads.Asked,
-  refused-reads.Learnt,
-) (expression-at t) expression.Post
+expression-returns-6 : (t : ℕ) → expression-lts.Need-returns-6 (expression-claims t) (expression-at t) expression.Post
 expression-returns-6 t c = L.number-read _ _ _ _ _ _ _ _ _ (c .before .before .before .before .before .before .before .before .before .before .before .before .before .before .token .ensures) _ _ _ (c .before .before .before .before .before .before .before .before .before .if6 .taken) (c .before .before .before .before .before .before .read-number .ensures) (c .before .before .before .before .if7 .taken) (c .calls2 .ensures)
 
-expression-returns-7 : (t : ℕ) → expression-lts.Need-returns-7 (
-  token-reads.Asked,
-  token-reads.Learnt,
-  read-let-below t,
-  read-let.Post,
-  read-lambda-below t,
-  read-lambda.Post,
-  read-bracket-below t,
-  read-bracket.Post,
-  read-name-reads.Asked,
-  read-name-reads.Learnt,
-  calls-below t,
-  calls.Post,
-  read-number-reads.Asked,
-  read-number-reads.Learnt,
-  refused-reads.Asked,
-  refused-reads.Learnt,
-) (expression-at t) expression.Post
+expression-returns-7 : (t : ℕ) → expression-lts.Need-returns-7 (expression-claims t) (expression-at t) expression.Post
 expression-returns-7 t c = L.number-refused _ _ _ _ _ _ _ _ _ (c .before .before .before .before .before .before .before .before .before .before .token .ensures) _ _ _ (c .before .before .before .before .before .if6 .taken) (c .before .before .read-number .ensures) (c .if7 .left)
 
-expression-refused-requires : (t : ℕ) → expression-lts.Need-refused-requires (
-  token-reads.Asked,
-  token-reads.Learnt,
-  read-let-below t,
-  read-let.Post,
-  read-lambda-below t,
-  read-lambda.Post,
-  read-bracket-below t,
-  read-bracket.Post,
-  read-name-reads.Asked,
-  read-name-reads.Learnt,
-  calls-below t,
-  calls.Post,
-  read-number-reads.Asked,
-  read-number-reads.Learnt,
-  refused-reads.Asked,
-  refused-reads.Learnt,
-) (expression-at t) expression.Post
+expression-refused-requires : (t : ℕ) → expression-lts.Need-refused-requires (expression-claims t) (expression-at t) expression.Post
 expression-refused-requires t c κs = search needs
 
-expression-returns-8 : (t : ℕ) → expression-lts.Need-returns-8 (
-  token-reads.Asked,
-  token-reads.Learnt,
-  read-let-below t,
-  read-let.Post,
-  read-lambda-below t,
-  read-lambda.Post,
-  read-bracket-below t,
-  read-bracket.Post,
-  read-name-reads.Asked,
-  read-name-reads.Learnt,
-  calls-below t,
-  calls.Post,
-  read-number-reads.Asked,
-  read-number-reads.Learnt,
-  refused-reads.Asked,
-  refused-reads.Learnt,
-) (expression-at t) expression.Post
+expression-returns-8 : (t : ℕ) → expression-lts.Need-returns-8 (expression-claims t) (expression-at t) expression.Post
 expression-returns-8 t c = L.expression-refused _ _ _ _ _ _ _ _ _ (c .before .before .before .before .before .before .token .ensures) _ (c .before .before .before .before .before .if1 .left) (c .before .before .before .before .if2 .left) (c .before .before .before .if3 .left) (c .before .before .if4 .left) (c .before .if6 .left) (c .refused .ensures)
 
 abbrev more-claims : ℕ → more-lts.Claims
@@ -606,474 +321,121 @@ more-refused-requires t c κs = search needs
 more-returns-5 : (t : ℕ) → more-lts.Need-returns-5 (more-claims t) (more-at t) more.Post
 more-returns-5 t c = L.more-refused _ _ _ _ _ _ _ _ _ _ (c .before .before .before .token .ensures) (c .before .before .if1 .left) (c .before .if2 .left) (c .refused .ensures)
 
-read-bracket-at-bracket-requires : (t : ℕ) → read-bracket-lts.Need-at-bracket-requires (
-  at-bracket-reads.Asked,
-  at-bracket-reads.Learnt,
-  judged-reads.Asked,
-  judged-reads.Learnt,
-  expression-below t,
-  expression.Post,
-  need-reads.Asked,
-  need-reads.Learnt,
-  calls-below t,
-  calls.Post,
-) (read-bracket-at t) read-bracket.Post
+abbrev read-bracket-claims : ℕ → read-bracket-lts.Claims
+read-bracket-claims t =
+    (at-bracket-reads.Asked, at-bracket-reads.Learnt, judged-reads.Asked, judged-reads.Learnt, expression-below t, expression.Post, need-reads.Asked, need-reads.Learnt, calls-below t, calls.Post)
+
+read-bracket-at-bracket-requires : (t : ℕ) → read-bracket-lts.Need-at-bracket-requires (read-bracket-claims t) (read-bracket-at t) read-bracket.Post
 read-bracket-at-bracket-requires t c κs = search needs
 
-read-bracket-judged-requires : (t : ℕ) → read-bracket-lts.Need-judged-requires (
-  at-bracket-reads.Asked,
-  at-bracket-reads.Learnt,
-  judged-reads.Asked,
-  judged-reads.Learnt,
-  expression-below t,
-  expression.Post,
-  need-reads.Asked,
-  need-reads.Learnt,
-  calls-below t,
-  calls.Post,
-) (read-bracket-at t) read-bracket.Post
+read-bracket-judged-requires : (t : ℕ) → read-bracket-lts.Need-judged-requires (read-bracket-claims t) (read-bracket-at t) read-bracket.Post
 read-bracket-judged-requires t c κs = search needs
 
-read-bracket-add-expression : (t : ℕ) → read-bracket-lts.Need-add-expression (
-  at-bracket-reads.Asked,
-  at-bracket-reads.Learnt,
-  judged-reads.Asked,
-  judged-reads.Learnt,
-  expression-below t,
-  expression.Post,
-  need-reads.Asked,
-  need-reads.Learnt,
-  calls-below t,
-  calls.Post,
-) (read-bracket-at t) read-bracket.Post
+read-bracket-add-expression : (t : ℕ) → read-bracket-lts.Need-add-expression (read-bracket-claims t) (read-bracket-at t) read-bracket.Post
 read-bracket-add-expression t c = omega (arith, c .before .before .before .before .before .pre .1 .fit .marks)
 
-read-bracket-expression-requires : (t : ℕ) → read-bracket-lts.Need-expression-requires (
-  at-bracket-reads.Asked,
-  at-bracket-reads.Learnt,
-  judged-reads.Asked,
-  judged-reads.Learnt,
-  expression-below t,
-  expression.Post,
-  need-reads.Asked,
-  need-reads.Learnt,
-  calls-below t,
-  calls.Post,
-) (read-bracket-at t) read-bracket.Post
+read-bracket-expression-requires : (t : ℕ) → read-bracket-lts.Need-expression-requires (read-bracket-claims t) (read-bracket-at t) read-bracket.Post
 read-bracket-expression-requires t c κs = (omega (arith, c .before .before .before .before .before .before .before .before .pre .0, L.bracket-less _ _ _ _ _ _ _ _ _ _ (c .before .before .before .before .before .before .before .before .pre .1) (c .before .before .before .before .before .before .at-bracket .ensures) (c .before .before .before .before .before .judged .ensures) (c .before .before .before .if1 .taken)), L.bracket-fit _ _ _ _ _ _ _ _ _ _ (c .before .before .before .before .before .before .before .before .pre .1) (c .before .before .before .before .before .before .at-bracket .ensures) (c .before .before .before .before .before .judged .ensures) (c .before .before .before .if1 .taken))
 
-read-bracket-need-requires : (t : ℕ) → read-bracket-lts.Need-need-requires (
-  at-bracket-reads.Asked,
-  at-bracket-reads.Learnt,
-  judged-reads.Asked,
-  judged-reads.Learnt,
-  expression-below t,
-  expression.Post,
-  need-reads.Asked,
-  need-reads.Learnt,
-  calls-below t,
-  calls.Post,
-) (read-bracket-at t) read-bracket.Post
+read-bracket-need-requires : (t : ℕ) → read-bracket-lts.Need-need-requires (read-bracket-claims t) (read-bracket-at t) read-bracket.Post
 read-bracket-need-requires t c κs = search needs
 
-read-bracket-calls-requires : (t : ℕ) → read-bracket-lts.Need-calls-requires (
-  at-bracket-reads.Asked,
-  at-bracket-reads.Learnt,
-  judged-reads.Asked,
-  judged-reads.Learnt,
-  expression-below t,
-  expression.Post,
-  need-reads.Asked,
-  need-reads.Learnt,
-  calls-below t,
-  calls.Post,
-) (read-bracket-at t) read-bracket.Post
+read-bracket-calls-requires : (t : ℕ) → read-bracket-lts.Need-calls-requires (read-bracket-claims t) (read-bracket-at t) read-bracket.Post
 read-bracket-calls-requires t c κs = (omega (arith, c .before .before .before .before .before .before .before .before .before .before .before .before .before .before .before .before .before .pre .0, L.bracket-less _ _ _ _ _ _ _ _ _ _ (c .before .before .before .before .before .before .before .before .before .before .before .before .before .before .before .before .before .pre .1) (c .before .before .before .before .before .before .before .before .before .before .before .before .before .before .before .at-bracket .ensures) (c .before .before .before .before .before .before .before .before .before .before .before .before .before .before .judged .ensures) (c .before .before .before .before .before .before .before .before .before .before .before .before .if1 .taken), L.read-less _ _ _ _ _ _ _ _ _ _ (c .before .before .before .before .before .before .before .before .expression .ensures) (c .before .before .before .before .before .before .if2 .taken), L.need-less _ _ _ _ (omega arith) (c .before .before .before .before .before .need .ensures) (c .before .before .before .if3 .taken)), L.bracket-calls-fit _ _ _ _ _ _ _ _ _ _ (c .before .before .before .before .before .before .before .before .before .before .before .before .before .before .before .before .before .pre .1) (c .before .before .before .before .before .before .before .before .before .before .before .before .before .before .before .at-bracket .ensures) (c .before .before .before .before .before .before .before .before .before .before .before .before .before .before .judged .ensures) (c .before .before .before .before .before .before .before .before .before .before .before .before .if1 .taken) _ _ _ _ (c .before .before .before .before .before .before .before .before .expression .ensures) _ (c .before .before .before .before .before .before .if2 .taken) (c .before .before .before .before .before .need .ensures))
 
-read-bracket-returns : (t : ℕ) → read-bracket-lts.Need-returns (
-  at-bracket-reads.Asked,
-  at-bracket-reads.Learnt,
-  judged-reads.Asked,
-  judged-reads.Learnt,
-  expression-below t,
-  expression.Post,
-  need-reads.Asked,
-  need-reads.Learnt,
-  calls-below t,
-  calls.Post,
-) (read-bracket-at t) read-bracket.Post
+read-bracket-returns : (t : ℕ) → read-bracket-lts.Need-returns (read-bracket-claims t) (read-bracket-at t) read-bracket.Post
 read-bracket-returns t c = L.bracket-read _ _ _ _ _ _ _ _ _ _ (c .before .before .before .before .before .before .before .before .before .before .before .before .before .before .before .before .before .before .pre .1) (c .before .before .before .before .before .before .before .before .before .before .before .before .before .before .before .before .at-bracket .ensures) (c .before .before .before .before .before .before .before .before .before .before .before .before .before .before .before .judged .ensures) (c .before .before .before .before .before .before .before .before .before .before .before .before .before .if1 .taken) _ _ _ _ (c .before .before .before .before .before .before .before .before .before .expression .ensures) _ (c .before .before .before .before .before .before .before .if2 .taken) (c .before .before .before .before .before .before .need .ensures) (c .before .before .before .before .if3 .taken) (c .calls .ensures)
 
-read-bracket-returns-2 : (t : ℕ) → read-bracket-lts.Need-returns-2 (
-  at-bracket-reads.Asked,
-  at-bracket-reads.Learnt,
-  judged-reads.Asked,
-  judged-reads.Learnt,
-  expression-below t,
-  expression.Post,
-  need-reads.Asked,
-  need-reads.Learnt,
-  calls-below t,
-  calls.Post,
-) (read-bracket-at t) read-bracket.Post
+read-bracket-returns-2 : (t : ℕ) → read-bracket-lts.Need-returns-2 (read-bracket-claims t) (read-bracket-at t) read-bracket.Post
 read-bracket-returns-2 t c = L.bracket-shut-refused _ _ _ _ _ _ _ _ _ _ (c .before .before .before .before .before .before .before .before .before .before .before .before .before .before .pre .1) (c .before .before .before .before .before .before .before .before .before .before .before .before .at-bracket .ensures) (c .before .before .before .before .before .before .before .before .before .before .before .judged .ensures) (c .before .before .before .before .before .before .before .before .before .if1 .taken) _ _ _ _ (c .before .before .before .before .before .expression .ensures) _ (c .before .before .before .if2 .taken) (c .before .before .need .ensures) (c .if3 .left)
 
-read-bracket-returns-3 : (t : ℕ) → read-bracket-lts.Need-returns-3 (
-  at-bracket-reads.Asked,
-  at-bracket-reads.Learnt,
-  judged-reads.Asked,
-  judged-reads.Learnt,
-  expression-below t,
-  expression.Post,
-  need-reads.Asked,
-  need-reads.Learnt,
-  calls-below t,
-  calls.Post,
-) (read-bracket-at t) read-bracket.Post
+read-bracket-returns-3 : (t : ℕ) → read-bracket-lts.Need-returns-3 (read-bracket-claims t) (read-bracket-at t) read-bracket.Post
 read-bracket-returns-3 t c = L.bracketed-refused _ _ _ _ _ _ _ _ _ _ (c .before .before .before .before .before .before .before .before .before .before .before .pre .1) (c .before .before .before .before .before .before .before .before .before .at-bracket .ensures) (c .before .before .before .before .before .before .before .before .judged .ensures) (c .before .before .before .before .before .before .if1 .taken) _ _ _ _ (c .before .before .expression .ensures) (c .if2 .left)
 
-read-bracket-returns-4 : (t : ℕ) → read-bracket-lts.Need-returns-4 (
-  at-bracket-reads.Asked,
-  at-bracket-reads.Learnt,
-  judged-reads.Asked,
-  judged-reads.Learnt,
-  expression-below t,
-  expression.Post,
-  need-reads.Asked,
-  need-reads.Learnt,
-  calls-below t,
-  calls.Post,
-) (read-bracket-at t) read-bracket.Post
+read-bracket-returns-4 : (t : ℕ) → read-bracket-lts.Need-returns-4 (read-bracket-claims t) (read-bracket-at t) read-bracket.Post
 read-bracket-returns-4 t c = L.bracket-refused _ _ _ _ _ _ _ _ _ _ (c .before .before .before .before .before .pre .1) (c .before .before .before .at-bracket .ensures) (c .before .before .judged .ensures) (c .if1 .left)
 
-read-lambda-lambda-head-requires : (t : ℕ) → read-lambda-lts.Need-lambda-head-requires (
-  lambda-head-reads.Asked,
-  lambda-head-reads.Learnt,
-  enter-reads.Asked,
-  enter-reads.Learnt,
-  expression-below t,
-  expression.Post,
-  put-reads.Asked,
-  put-reads.Learnt,
-) (read-lambda-at t) read-lambda.Post
+abbrev read-lambda-claims : ℕ → read-lambda-lts.Claims
+read-lambda-claims t =
+    (lambda-head-reads.Asked, lambda-head-reads.Learnt, enter-reads.Asked, enter-reads.Learnt, expression-below t, expression.Post, put-reads.Asked, put-reads.Learnt)
+
+read-lambda-lambda-head-requires : (t : ℕ) → read-lambda-lts.Need-lambda-head-requires (read-lambda-claims t) (read-lambda-at t) read-lambda.Post
 read-lambda-lambda-head-requires t c κs = (c .before .before .pre .1 .fit .parts, omega (arith, c .before .before .pre .1 .fit .depth, c .before .before .pre .1 .fit .marks))
 
-read-lambda-enter-requires : (t : ℕ) → read-lambda-lts.Need-enter-requires (
-  lambda-head-reads.Asked,
-  lambda-head-reads.Learnt,
-  enter-reads.Asked,
-  enter-reads.Learnt,
-  expression-below t,
-  expression.Post,
-  put-reads.Asked,
-  put-reads.Learnt,
-) (read-lambda-at t) read-lambda.Post
+read-lambda-enter-requires : (t : ℕ) → read-lambda-lts.Need-enter-requires (read-lambda-claims t) (read-lambda-at t) read-lambda.Post
 read-lambda-enter-requires t c κs = L.lambda-deep _ _ _ _ _ _ _ _ _ (c .before .before .before .before .before .before .pre .1) (c .before .before .before .lambda-head .ensures) (c .before .if1 .taken)
 
-read-lambda-add-expression : (t : ℕ) → read-lambda-lts.Need-add-expression (
-  lambda-head-reads.Asked,
-  lambda-head-reads.Learnt,
-  enter-reads.Asked,
-  enter-reads.Learnt,
-  expression-below t,
-  expression.Post,
-  put-reads.Asked,
-  put-reads.Learnt,
-) (read-lambda-at t) read-lambda.Post
+read-lambda-add-expression : (t : ℕ) → read-lambda-lts.Need-add-expression (read-lambda-claims t) (read-lambda-at t) read-lambda.Post
 read-lambda-add-expression t c = omega (arith, c .before .before .before .before .before .before .before .pre .1 .fit .marks)
 
-read-lambda-add-expression-2 : (t : ℕ) → read-lambda-lts.Need-add-expression-2 (
-  lambda-head-reads.Asked,
-  lambda-head-reads.Learnt,
-  enter-reads.Asked,
-  enter-reads.Learnt,
-  expression-below t,
-  expression.Post,
-  put-reads.Asked,
-  put-reads.Learnt,
-) (read-lambda-at t) read-lambda.Post
+read-lambda-add-expression-2 : (t : ℕ) → read-lambda-lts.Need-add-expression-2 (read-lambda-claims t) (read-lambda-at t) read-lambda.Post
 read-lambda-add-expression-2 t c = omega (arith, c .before .before .before .before .before .before .before .pre .1 .fit .depth, c .before .before .before .before .before .before .before .pre .1 .fit .marks)
 
-read-lambda-expression-requires : (t : ℕ) → read-lambda-lts.Need-expression-requires (
-  lambda-head-reads.Asked,
-  lambda-head-reads.Learnt,
-  enter-reads.Asked,
-  enter-reads.Learnt,
-  expression-below t,
-  expression.Post,
-  put-reads.Asked,
-  put-reads.Learnt,
-) (read-lambda-at t) read-lambda.Post
+read-lambda-expression-requires : (t : ℕ) → read-lambda-lts.Need-expression-requires (read-lambda-claims t) (read-lambda-at t) read-lambda.Post
 read-lambda-expression-requires t c κs = (omega (arith, c .before .before .before .before .before .before .before .before .before .before .pre .0, L.lambda-less _ _ _ _ _ _ _ _ _ (c .before .before .before .before .before .before .before .before .before .before .pre .1) (c .before .before .before .before .before .before .before .lambda-head .ensures) (c .before .before .before .before .before .if1 .taken)), L.lambda-fit _ _ _ _ _ _ _ _ _ (c .before .before .before .before .before .before .before .before .before .before .pre .1) (c .before .before .before .before .before .before .before .lambda-head .ensures) (c .before .before .before .before .before .if1 .taken) _ (c .before .before .before .enter .ensures))
 
-read-lambda-add-put : (t : ℕ) → read-lambda-lts.Need-add-put (
-  lambda-head-reads.Asked,
-  lambda-head-reads.Learnt,
-  enter-reads.Asked,
-  enter-reads.Learnt,
-  expression-below t,
-  expression.Post,
-  put-reads.Asked,
-  put-reads.Learnt,
-) (read-lambda-at t) read-lambda.Post
+read-lambda-add-put : (t : ℕ) → read-lambda-lts.Need-add-put (read-lambda-claims t) (read-lambda-at t) read-lambda.Post
 read-lambda-add-put t c = omega (arith, L.lambda-root _ _ _ _ _ _ _ _ _ (c .before .before .before .before .before .before .before .before .before .before .before .before .before .before .pre .1) (c .before .before .before .before .before .before .before .before .before .before .before .lambda-head .ensures) (c .before .before .before .before .before .before .before .before .before .if1 .taken) _ (c .before .before .before .before .before .before .before .enter .ensures) _ _ _ _ (c .before .before .before .expression .ensures) (c .before .if2 .taken))
 
-read-lambda-put-requires : (t : ℕ) → read-lambda-lts.Need-put-requires (
-  lambda-head-reads.Asked,
-  lambda-head-reads.Learnt,
-  enter-reads.Asked,
-  enter-reads.Learnt,
-  expression-below t,
-  expression.Post,
-  put-reads.Asked,
-  put-reads.Learnt,
-) (read-lambda-at t) read-lambda.Post
+read-lambda-put-requires : (t : ℕ) → read-lambda-lts.Need-put-requires (read-lambda-claims t) (read-lambda-at t) read-lambda.Post
 read-lambda-put-requires t c κs = L.lambda-room _ _ _ _ _ _ _ _ _ (c .before .before .before .before .before .before .before .before .before .before .before .before .before .before .before .before .pre .1) (c .before .before .before .before .before .before .before .before .before .before .before .before .before .lambda-head .ensures) (c .before .before .before .before .before .before .before .before .before .before .before .if1 .taken) _ (c .before .before .before .before .before .before .before .before .before .enter .ensures) _ _ _ _ (c .before .before .before .before .before .expression .ensures) (c .before .before .before .if2 .taken)
 
-read-lambda-returns : (t : ℕ) → read-lambda-lts.Need-returns (
-  lambda-head-reads.Asked,
-  lambda-head-reads.Learnt,
-  enter-reads.Asked,
-  enter-reads.Learnt,
-  expression-below t,
-  expression.Post,
-  put-reads.Asked,
-  put-reads.Learnt,
-) (read-lambda-at t) read-lambda.Post
+read-lambda-returns : (t : ℕ) → read-lambda-lts.Need-returns (read-lambda-claims t) (read-lambda-at t) read-lambda.Post
 read-lambda-returns t c = L.lambda-read _ _ _ _ _ _ _ _ _ (c .before .before .before .before .before .before .before .before .before .before .before .before .before .before .before .before .before .pre .1) (c .before .before .before .before .before .before .before .before .before .before .before .before .before .before .lambda-head .ensures) (c .before .before .before .before .before .before .before .before .before .before .before .before .if1 .taken) _ (c .before .before .before .before .before .before .before .before .before .before .enter .ensures) _ _ _ _ (c .before .before .before .before .before .before .expression .ensures) (c .before .before .before .before .if2 .taken) (c .put .ensures)
 
-read-lambda-returns-2 : (t : ℕ) → read-lambda-lts.Need-returns-2 (
-  lambda-head-reads.Asked,
-  lambda-head-reads.Learnt,
-  enter-reads.Asked,
-  enter-reads.Learnt,
-  expression-below t,
-  expression.Post,
-  put-reads.Asked,
-  put-reads.Learnt,
-) (read-lambda-at t) read-lambda.Post
+read-lambda-returns-2 : (t : ℕ) → read-lambda-lts.Need-returns-2 (read-lambda-claims t) (read-lambda-at t) read-lambda.Post
 read-lambda-returns-2 t c = L.lambda-body-refused _ _ _ _ _ _ _ _ _ (c .before .before .before .before .before .before .before .before .before .before .before .before .before .pre .1) (c .before .before .before .before .before .before .before .before .before .before .lambda-head .ensures) (c .before .before .before .before .before .before .before .before .if1 .taken) _ (c .before .before .before .before .before .before .enter .ensures) _ _ _ _ (c .before .before .expression .ensures) (c .if2 .left)
 
-read-lambda-returns-3 : (t : ℕ) → read-lambda-lts.Need-returns-3 (
-  lambda-head-reads.Asked,
-  lambda-head-reads.Learnt,
-  enter-reads.Asked,
-  enter-reads.Learnt,
-  expression-below t,
-  expression.Post,
-  put-reads.Asked,
-  put-reads.Learnt,
-) (read-lambda-at t) read-lambda.Post
+read-lambda-returns-3 : (t : ℕ) → read-lambda-lts.Need-returns-3 (read-lambda-claims t) (read-lambda-at t) read-lambda.Post
 read-lambda-returns-3 t c = L.lambda-head-refused _ _ _ _ _ _ _ _ _ (c .before .before .before .before .before .pre .1) (c .before .before .lambda-head .ensures) (c .if1 .left)
 
-read-let-let-head-requires : (t : ℕ) → read-let-lts.Need-let-head-requires (
-  let-head-reads.Asked,
-  let-head-reads.Learnt,
-  expression-below t,
-  expression.Post,
-  need-reads.Asked,
-  need-reads.Learnt,
-  enter-reads.Asked,
-  enter-reads.Learnt,
-  mark-reads.Asked,
-  mark-reads.Learnt,
-) (read-let-at t) read-let.Post
+abbrev read-let-claims : ℕ → read-let-lts.Claims
+read-let-claims t =
+    (let-head-reads.Asked, let-head-reads.Learnt, expression-below t, expression.Post, need-reads.Asked, need-reads.Learnt, enter-reads.Asked, enter-reads.Learnt, mark-reads.Asked, mark-reads.Learnt)
+
+read-let-let-head-requires : (t : ℕ) → read-let-lts.Need-let-head-requires (read-let-claims t) (read-let-at t) read-let.Post
 read-let-let-head-requires t c κs = c .before .pre .1 .fit .parts
 
-read-let-add-expression : (t : ℕ) → read-let-lts.Need-add-expression (
-  let-head-reads.Asked,
-  let-head-reads.Learnt,
-  expression-below t,
-  expression.Post,
-  need-reads.Asked,
-  need-reads.Learnt,
-  enter-reads.Asked,
-  enter-reads.Learnt,
-  mark-reads.Asked,
-  mark-reads.Learnt,
-) (read-let-at t) read-let.Post
+read-let-add-expression : (t : ℕ) → read-let-lts.Need-add-expression (read-let-claims t) (read-let-at t) read-let.Post
 read-let-add-expression t c = omega (arith, c .before .before .before .before .pre .1 .fit .marks)
 
-read-let-expression-requires : (t : ℕ) → read-let-lts.Need-expression-requires (
-  let-head-reads.Asked,
-  let-head-reads.Learnt,
-  expression-below t,
-  expression.Post,
-  need-reads.Asked,
-  need-reads.Learnt,
-  enter-reads.Asked,
-  enter-reads.Learnt,
-  mark-reads.Asked,
-  mark-reads.Learnt,
-) (read-let-at t) read-let.Post
+read-let-expression-requires : (t : ℕ) → read-let-lts.Need-expression-requires (read-let-claims t) (read-let-at t) read-let.Post
 read-let-expression-requires t c κs = (omega (arith, c .before .before .before .before .before .before .before .pre .0, L.let-less _ _ _ _ _ _ _ _ _ (c .before .before .before .before .before .before .before .pre .1) (c .before .before .before .before .before .let-head .ensures) (c .before .before .before .if1 .taken)), L.let-value-fit _ _ _ _ _ _ _ _ _ (c .before .before .before .before .before .before .before .pre .1) (c .before .before .before .before .before .let-head .ensures) (c .before .before .before .if1 .taken))
 
-read-let-need-requires : (t : ℕ) → read-let-lts.Need-need-requires (
-  let-head-reads.Asked,
-  let-head-reads.Learnt,
-  expression-below t,
-  expression.Post,
-  need-reads.Asked,
-  need-reads.Learnt,
-  enter-reads.Asked,
-  enter-reads.Learnt,
-  mark-reads.Asked,
-  mark-reads.Learnt,
-) (read-let-at t) read-let.Post
+read-let-need-requires : (t : ℕ) → read-let-lts.Need-need-requires (read-let-claims t) (read-let-at t) read-let.Post
 read-let-need-requires t c κs = search needs
 
-read-let-add-enter : (t : ℕ) → read-let-lts.Need-add-enter (
-  let-head-reads.Asked,
-  let-head-reads.Learnt,
-  expression-below t,
-  expression.Post,
-  need-reads.Asked,
-  need-reads.Learnt,
-  enter-reads.Asked,
-  enter-reads.Learnt,
-  mark-reads.Asked,
-  mark-reads.Learnt,
-) (read-let-at t) read-let.Post
+read-let-add-enter : (t : ℕ) → read-let-lts.Need-add-enter (read-let-claims t) (read-let-at t) read-let.Post
 read-let-add-enter t c = omega (arith, L.root-few _ _ _ _ _ _ _ _ _ _ (c .before .before .before .before .before .expression .ensures) (c .before .before .before .if2 .taken) ((L.let-value-fit _ _ _ _ _ _ _ _ _ (c .before .before .before .before .before .before .before .before .before .before .before .before .before .pre .1) (c .before .before .before .before .before .before .before .before .before .before .before .let-head .ensures) (c .before .before .before .before .before .before .before .before .before .if1 .taken)) .fit))
 
-read-let-enter-requires : (t : ℕ) → read-let-lts.Need-enter-requires (
-  let-head-reads.Asked,
-  let-head-reads.Learnt,
-  expression-below t,
-  expression.Post,
-  need-reads.Asked,
-  need-reads.Learnt,
-  enter-reads.Asked,
-  enter-reads.Learnt,
-  mark-reads.Asked,
-  mark-reads.Learnt,
-) (read-let-at t) read-let.Post
+read-let-enter-requires : (t : ℕ) → read-let-lts.Need-enter-requires (read-let-claims t) (read-let-at t) read-let.Post
 read-let-enter-requires t c κs = L.let-deep _ _ _ _ _ _ _ _ _ (c .before .before .before .before .before .before .before .before .before .before .before .before .before .before .pre .1) (c .before .before .before .before .before .before .before .before .before .before .before .before .let-head .ensures) (c .before .before .before .before .before .before .before .before .before .before .if1 .taken)
 
-read-let-add-expression-2 : (t : ℕ) → read-let-lts.Need-add-expression-2 (
-  let-head-reads.Asked,
-  let-head-reads.Learnt,
-  expression-below t,
-  expression.Post,
-  need-reads.Asked,
-  need-reads.Learnt,
-  enter-reads.Asked,
-  enter-reads.Learnt,
-  mark-reads.Asked,
-  mark-reads.Learnt,
-) (read-let-at t) read-let.Post
+read-let-add-expression-2 : (t : ℕ) → read-let-lts.Need-add-expression-2 (read-let-claims t) (read-let-at t) read-let.Post
 read-let-add-expression-2 t c = omega (arith, c .before .before .before .before .before .before .before .before .before .before .before .before .before .before .before .pre .1 .fit .marks)
 
-read-let-add-expression-3 : (t : ℕ) → read-let-lts.Need-add-expression-3 (
-  let-head-reads.Asked,
-  let-head-reads.Learnt,
-  expression-below t,
-  expression.Post,
-  need-reads.Asked,
-  need-reads.Learnt,
-  enter-reads.Asked,
-  enter-reads.Learnt,
-  mark-reads.Asked,
-  mark-reads.Learnt,
-) (read-let-at t) read-let.Post
+read-let-add-expression-3 : (t : ℕ) → read-let-lts.Need-add-expression-3 (read-let-claims t) (read-let-at t) read-let.Post
 read-let-add-expression-3 t c = omega (arith, c .before .before .before .before .before .before .before .before .before .before .before .before .before .before .before .pre .1 .fit .depth, c .before .before .before .before .before .before .before .before .before .before .before .before .before .before .before .pre .1 .fit .marks)
 
-read-let-expression-requires-2 : (t : ℕ) → read-let-lts.Need-expression-requires-2 (
-  let-head-reads.Asked,
-  let-head-reads.Learnt,
-  expression-below t,
-  expression.Post,
-  need-reads.Asked,
-  need-reads.Learnt,
-  enter-reads.Asked,
-  enter-reads.Learnt,
-  mark-reads.Asked,
-  mark-reads.Learnt,
-) (read-let-at t) read-let.Post
+read-let-expression-requires-2 : (t : ℕ) → read-let-lts.Need-expression-requires-2 (read-let-claims t) (read-let-at t) read-let.Post
 read-let-expression-requires-2 t c κs = (omega (arith, c .before .before .before .before .before .before .before .before .before .before .before .before .before .before .before .before .before .before .pre .0, L.let-less _ _ _ _ _ _ _ _ _ (c .before .before .before .before .before .before .before .before .before .before .before .before .before .before .before .before .before .before .pre .1) (c .before .before .before .before .before .before .before .before .before .before .before .before .before .before .before .before .let-head .ensures) (c .before .before .before .before .before .before .before .before .before .before .before .before .before .before .if1 .taken), L.read-less _ _ _ _ _ _ _ _ _ _ (c .before .before .before .before .before .before .before .before .before .before .expression .ensures) (c .before .before .before .before .before .before .before .before .if2 .taken), L.need-less _ _ _ _ (omega arith) (c .before .before .before .before .before .before .before .need .ensures) (c .before .before .before .before .before .if3 .taken)), L.let-body-fit _ _ _ _ _ _ _ _ _ (c .before .before .before .before .before .before .before .before .before .before .before .before .before .before .before .before .before .before .pre .1) (c .before .before .before .before .before .before .before .before .before .before .before .before .before .before .before .before .let-head .ensures) (c .before .before .before .before .before .before .before .before .before .before .before .before .before .before .if1 .taken) _ _ _ _ (c .before .before .before .before .before .before .before .before .before .before .expression .ensures) _ (c .before .before .before .before .before .before .before .before .if2 .taken) (c .before .before .before .before .before .before .before .need .ensures) (c .before .before .before .before .before .if3 .taken) _ (c .before .before .before .enter .ensures))
 
-read-let-mark-requires : (t : ℕ) → read-let-lts.Need-mark-requires (
-  let-head-reads.Asked,
-  let-head-reads.Learnt,
-  expression-below t,
-  expression.Post,
-  need-reads.Asked,
-  need-reads.Learnt,
-  enter-reads.Asked,
-  enter-reads.Learnt,
-  mark-reads.Asked,
-  mark-reads.Learnt,
-) (read-let-at t) read-let.Post
+read-let-mark-requires : (t : ℕ) → read-let-lts.Need-mark-requires (read-let-claims t) (read-let-at t) read-let.Post
 read-let-mark-requires t c κs = (L.let-place _ _ _ _ _ _ _ _ _ (c .before .before .before .before .before .before .before .before .before .before .before .before .before .before .before .before .before .before .before .before .before .before .pre .1) (c .before .before .before .before .before .before .before .before .before .before .before .before .before .before .before .before .before .before .before .before .let-head .ensures) (c .before .before .before .before .before .before .before .before .before .before .before .before .before .before .before .before .before .before .if1 .taken), omega (arith, L.let-root _ _ _ _ _ _ _ _ _ (c .before .before .before .before .before .before .before .before .before .before .before .before .before .before .before .before .before .before .before .before .before .before .pre .1) (c .before .before .before .before .before .before .before .before .before .before .before .before .before .before .before .before .before .before .before .before .let-head .ensures) (c .before .before .before .before .before .before .before .before .before .before .before .before .before .before .before .before .before .before .if1 .taken) _ _ _ _ (c .before .before .before .before .before .before .before .before .before .before .before .before .before .before .expression .ensures) _ (c .before .before .before .before .before .before .before .before .before .before .before .before .if2 .taken) (c .before .before .before .before .before .before .before .before .before .before .before .need .ensures) (c .before .before .before .before .before .before .before .before .before .if3 .taken) _ (c .before .before .before .before .before .before .before .enter .ensures) _ _ _ _ (c .before .before .before .expression2 .ensures) (c .before .if4 .taken)))
 
-read-let-returns : (t : ℕ) → read-let-lts.Need-returns (
-  let-head-reads.Asked,
-  let-head-reads.Learnt,
-  expression-below t,
-  expression.Post,
-  need-reads.Asked,
-  need-reads.Learnt,
-  enter-reads.Asked,
-  enter-reads.Learnt,
-  mark-reads.Asked,
-  mark-reads.Learnt,
-) (read-let-at t) read-let.Post
+read-let-returns : (t : ℕ) → read-let-lts.Need-returns (read-let-claims t) (read-let-at t) read-let.Post
 read-let-returns t c = L.let-read _ _ _ _ _ _ _ _ _ (c .before .before .before .before .before .before .before .before .before .before .before .before .before .before .before .before .before .before .before .before .before .before .before .pre .1) (c .before .before .before .before .before .before .before .before .before .before .before .before .before .before .before .before .before .before .before .before .before .let-head .ensures) (c .before .before .before .before .before .before .before .before .before .before .before .before .before .before .before .before .before .before .before .if1 .taken) _ _ _ _ (c .before .before .before .before .before .before .before .before .before .before .before .before .before .before .before .expression .ensures) _ (c .before .before .before .before .before .before .before .before .before .before .before .before .before .if2 .taken) (c .before .before .before .before .before .before .before .before .before .before .before .before .need .ensures) (c .before .before .before .before .before .before .before .before .before .before .if3 .taken) _ (c .before .before .before .before .before .before .before .before .enter .ensures) _ _ _ _ (c .before .before .before .before .expression2 .ensures) (c .before .before .if4 .taken) _ (c .mark .ensures)
 
-read-let-returns-2 : (t : ℕ) → read-let-lts.Need-returns-2 (
-  let-head-reads.Asked,
-  let-head-reads.Learnt,
-  expression-below t,
-  expression.Post,
-  need-reads.Asked,
-  need-reads.Learnt,
-  enter-reads.Asked,
-  enter-reads.Learnt,
-  mark-reads.Asked,
-  mark-reads.Learnt,
-) (read-let-at t) read-let.Post
+read-let-returns-2 : (t : ℕ) → read-let-lts.Need-returns-2 (read-let-claims t) (read-let-at t) read-let.Post
 read-let-returns-2 t c = L.let-body-refused _ _ _ _ _ _ _ _ _ (c .before .before .before .before .before .before .before .before .before .before .before .before .before .before .before .before .before .before .before .before .before .pre .1) (c .before .before .before .before .before .before .before .before .before .before .before .before .before .before .before .before .before .before .before .let-head .ensures) (c .before .before .before .before .before .before .before .before .before .before .before .before .before .before .before .before .before .if1 .taken) _ _ _ _ (c .before .before .before .before .before .before .before .before .before .before .before .before .before .expression .ensures) _ (c .before .before .before .before .before .before .before .before .before .before .before .if2 .taken) (c .before .before .before .before .before .before .before .before .before .before .need .ensures) (c .before .before .before .before .before .before .before .before .if3 .taken) _ (c .before .before .before .before .before .before .enter .ensures) _ _ _ _ (c .before .before .expression2 .ensures) (c .if4 .left)
 
-read-let-returns-3 : (t : ℕ) → read-let-lts.Need-returns-3 (
-  let-head-reads.Asked,
-  let-head-reads.Learnt,
-  expression-below t,
-  expression.Post,
-  need-reads.Asked,
-  need-reads.Learnt,
-  enter-reads.Asked,
-  enter-reads.Learnt,
-  mark-reads.Asked,
-  mark-reads.Learnt,
-) (read-let-at t) read-let.Post
+read-let-returns-3 : (t : ℕ) → read-let-lts.Need-returns-3 (read-let-claims t) (read-let-at t) read-let.Post
 read-let-returns-3 t c = L.let-in-refused _ _ _ _ _ _ _ _ _ (c .before .before .before .before .before .before .before .before .before .before .before .before .before .pre .1) (c .before .before .before .before .before .before .before .before .before .before .before .let-head .ensures) (c .before .before .before .before .before .before .before .before .before .if1 .taken) _ _ _ _ (c .before .before .before .before .before .expression .ensures) _ (c .before .before .before .if2 .taken) (c .before .before .need .ensures) (c .if3 .left)
 
-read-let-returns-4 : (t : ℕ) → read-let-lts.Need-returns-4 (
-  let-head-reads.Asked,
-  let-head-reads.Learnt,
-  expression-below t,
-  expression.Post,
-  need-reads.Asked,
-  need-reads.Learnt,
-  enter-reads.Asked,
-  enter-reads.Learnt,
-  mark-reads.Asked,
-  mark-reads.Learnt,
-) (read-let-at t) read-let.Post
+read-let-returns-4 : (t : ℕ) → read-let-lts.Need-returns-4 (read-let-claims t) (read-let-at t) read-let.Post
 read-let-returns-4 t c = L.let-value-refused _ _ _ _ _ _ _ _ _ (c .before .before .before .before .before .before .before .before .before .before .pre .1) (c .before .before .before .before .before .before .before .before .let-head .ensures) (c .before .before .before .before .before .before .if1 .taken) _ _ _ _ (c .before .before .expression .ensures) (c .if2 .left)
 
-read-let-returns-5 : (t : ℕ) → read-let-lts.Need-returns-5 (
-  let-head-reads.Asked,
-  let-head-reads.Learnt,
-  expression-below t,
-  expression.Post,
-  need-reads.Asked,
-  need-reads.Learnt,
-  enter-reads.Asked,
-  enter-reads.Learnt,
-  mark-reads.Asked,
-  mark-reads.Learnt,
-) (read-let-at t) read-let.Post
+read-let-returns-5 : (t : ℕ) → read-let-lts.Need-returns-5 (read-let-claims t) (read-let-at t) read-let.Post
 read-let-returns-5 t c = L.let-head-refused _ _ _ _ _ _ _ _ _ (c .before .before .before .before .pre .1) (c .before .before .let-head .ensures) (c .if1 .left)
 
 pub +arguments+call+calls+expression+more+read-bracket+read-lambda+read-let-spec :
@@ -1119,24 +481,7 @@ pub +arguments+call+calls+expression+more+read-bracket+read-lambda+read-let-spec
     (calls-loop-less t)
     (calls-loop-again t)
     (calls-returns-2 t))
-    (λ t. expression-lts.spec (
-      token-reads.Asked,
-      token-reads.Learnt,
-      read-let-below t,
-      read-let.Post,
-      read-lambda-below t,
-      read-lambda.Post,
-      read-bracket-below t,
-      read-bracket.Post,
-      read-name-reads.Asked,
-      read-name-reads.Learnt,
-      calls-below t,
-      calls.Post,
-      read-number-reads.Asked,
-      read-number-reads.Learnt,
-      refused-reads.Asked,
-      refused-reads.Learnt,
-    )
+    (λ t. expression-lts.spec (expression-claims t)
     (expression-at t)
     expression.Post
     (expression-token-requires t)
@@ -1173,18 +518,7 @@ pub +arguments+call+calls+expression+more+read-bracket+read-lambda+read-let-spec
     (more-returns-4 t)
     (more-refused-requires t)
     (more-returns-5 t))
-    (λ t. read-bracket-lts.spec (
-      at-bracket-reads.Asked,
-      at-bracket-reads.Learnt,
-      judged-reads.Asked,
-      judged-reads.Learnt,
-      expression-below t,
-      expression.Post,
-      need-reads.Asked,
-      need-reads.Learnt,
-      calls-below t,
-      calls.Post,
-    )
+    (λ t. read-bracket-lts.spec (read-bracket-claims t)
     (read-bracket-at t)
     read-bracket.Post
     (read-bracket-at-bracket-requires t)
@@ -1197,16 +531,7 @@ pub +arguments+call+calls+expression+more+read-bracket+read-lambda+read-let-spec
     (read-bracket-returns-2 t)
     (read-bracket-returns-3 t)
     (read-bracket-returns-4 t))
-    (λ t. read-lambda-lts.spec (
-      lambda-head-reads.Asked,
-      lambda-head-reads.Learnt,
-      enter-reads.Asked,
-      enter-reads.Learnt,
-      expression-below t,
-      expression.Post,
-      put-reads.Asked,
-      put-reads.Learnt,
-    )
+    (λ t. read-lambda-lts.spec (read-lambda-claims t)
     (read-lambda-at t)
     read-lambda.Post
     (read-lambda-lambda-head-requires t)
@@ -1219,18 +544,7 @@ pub +arguments+call+calls+expression+more+read-bracket+read-lambda+read-let-spec
     (read-lambda-returns t)
     (read-lambda-returns-2 t)
     (read-lambda-returns-3 t))
-    λ t. read-let-lts.spec (
-      let-head-reads.Asked,
-      let-head-reads.Learnt,
-      expression-below t,
-      expression.Post,
-      need-reads.Asked,
-      need-reads.Learnt,
-      enter-reads.Asked,
-      enter-reads.Learnt,
-      mark-reads.Asked,
-      mark-reads.Learnt,
-    )
+    λ t. read-let-lts.spec (read-let-claims t)
     (read-let-at t)
     read-let.Post
     (read-let-let-head-requires t)
