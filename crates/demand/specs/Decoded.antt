@@ -23,7 +23,7 @@ use Rattle.table.specs.WellFormed.{keyRight, hasNode, distinct}
 use Rattle.table.specs.Right.{nodeRight}
 use Rattle.table.specs.RightLaws.{right-kind, right-key, first-low, second-low, first-given}
 use Rattle.table.specs.CheckedLaws.{nodes-are}
-use Rattle.table.specs.AppendedLaws.{Well}
+use Rattle.binder.specs.AppendedLaws.{Well}
 use Rattle.records.specs.Records.{node}
 use Rattle.refine.specs.Waiting.{of-kind, no-links, no-second, a-second}
 use Rattle.formulas.specs.Formulas.{formulas}

@@ -35,7 +35,7 @@ use Rattle.formulas.specs.Formulas.{formulas, parsed}
 use Rattle.bridge.specs.Graphs.{nodes, graph-laws}
 use Rattle.bridge.specs.Recorded.{formsOf, formIn, length-forms, decode-append, Unfolds, unfolds}
 use Rattle.bridge.specs.FormulaLaws.{formula-laws}
-use Rattle.engine.specs.Calls.{held, boundTo, editedAs, editedMemory, readAnswer, readMemory, editAnswer, editMemory}
+use Rattle.interface.specs.Calls.{held, boundTo, editedAs, editedMemory, readAnswer, readMemory, editAnswer, editMemory}
 use Rattle.demand.specs.Holds.{joined, holds, Ok, Written}
 use Rattle.demand.specs.Bound.{relinkBy, relinks, asBound, all-same, forms-same, valid-same}
 use Rattle.demand.specs.Appended.{lengths, long-enough, entries-length, unworked, grown}

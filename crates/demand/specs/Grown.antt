@@ -27,14 +27,14 @@ use Rattle.table.specs.WellFormed.{hasNode, awaitedBy, awaitedAfter, wellFormed
 use Rattle.table.specs.Bind.{Bound, append, appendAll}
 use Rattle.table.specs.Right.{nodeRight}
 use Rattle.table.specs.CheckedLaws.{nodes-are as numbered-are}
-use Rattle.table.specs.AppendedLaws.{newEntry, append-fits, append-count, append-entries, append-all-fits, well-parts, append-well}
+use Rattle.binder.specs.AppendedLaws.{newEntry, append-fits, append-count, append-entries, append-all-fits, well-parts, append-well}
 use Rattle.records.specs.Records.{recordsOf}
 use Rattle.formulas.specs.Formulas.{formulas, parsed}
 use Rattle.bridge.specs.Graphs.{nodes, graph-laws, equality}
 use Rattle.bridge.specs.Recorded.{formsOf, length-forms}
 use Rattle.bridge.specs.Proper.{Proper}
 use Rattle.bridge.specs.FormulaLaws.{readable}
-use Rattle.engine.specs.Calls.{boundTo, tooMany, editedMemory, readMemory}
+use Rattle.interface.specs.Calls.{boundTo, tooMany, editedMemory, readMemory}
 use Rattle.demand.specs.Standing.{stands-placed, count-nodes}
 use Rattle.demand.specs.Accepted.{kind-right, key-right, arity-right, lower-by, has-at, awaited-by, awaited-after}
 use Rattle.demand.specs.Decoded.{one-number, nodes-apart, all-placed, forms-distinct}

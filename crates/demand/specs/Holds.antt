@@ -21,7 +21,7 @@ use Rattle.table.specs.Memory.{Memory, Kept, Entry, fits, readingCount, recordi
 use Rattle.formulas.specs.Formulas.{formulas}
 use Rattle.bridge.specs.Graphs.{nodes}
 use Rattle.bridge.specs.Recorded.{formsOf}
-use Rattle.engine.specs.Answers.{namesOf}
+use Rattle.interface.specs.Answers.{namesOf}
 
 -- what a kept result shows
 abbrev pub shownBy : Kept → Value → Shown

@@ -14,7 +14,7 @@ use Rattle.model.specs.Model as Model
 use Rattle.model.specs.Model.{refused, opened}
 use Rattle.table.specs.Memory.{Memory, fits, entryCount, readingCount, recordingOf, entriesFrom, entriesOf}
 use Rattle.formulas.specs.Formulas.{formulas}
-use Rattle.engine.specs.Calls.{openedMemory, openAnswer, openMemory}
+use Rattle.interface.specs.Calls.{openedMemory, openAnswer, openMemory}
 use Rattle.demand.specs.Holds.{joined, holds}
 use Rattle.demand.specs.Appended.{Lengths, lengths, long-enough}
 use Rattle.demand.specs.Editing.{Done}

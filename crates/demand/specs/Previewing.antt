@@ -29,12 +29,12 @@ use Rattle.table.specs.Nodes.{memberKind, kids, build}
 use Rattle.table.specs.Right.{numbered, nodeRight}
 use Rattle.table.specs.WellFormed.{wellFormed}
 use Rattle.table.specs.CheckedLaws.{nodes-are}
-use Rattle.table.specs.AppendedLaws.{well-parts}
+use Rattle.binder.specs.AppendedLaws.{well-parts}
 use Rattle.evaluator.specs.Links.{kindAt, keyAt}
 use Rattle.evaluator.specs.Waits.{waitsFrom}
 use Rattle.evaluator.specs.Frames.{startAt, startFrom}
 use Rattle.evaluator.specs.Working.{graph, applyAt}
-use Rattle.evaluator.specs.Works.{Work, needOf, worked, showOf}
+use Rattle.scheduler.specs.Works.{Work, needOf, worked, showOf}
 use Rattle.refine.specs.Tables.{Link}
 use Rattle.refine.specs.Waiting.{waits-names, waits-full, good}
 use Rattle.refine.specs.Counts.{chosenIn, work-count, work-left}
@@ -43,8 +43,8 @@ use Rattle.bridge.specs.Graphs.{Fine, aNumber, aVariable, anUnbound, theReading
 use Rattle.bridge.specs.Recorded.{formsOf}
 use Rattle.bridge.specs.Proper.{Proper}
 use Rattle.bridge.specs.FormulaLaws.{formula-laws}
-use Rattle.engine.specs.Answers.{shownOf, previewReply}
-use Rattle.engine.specs.Calls.{workOn, workedMemory, previewedAs, previewed, previewAnswer, previewMemory}
+use Rattle.interface.specs.Answers.{shownOf, previewReply}
+use Rattle.interface.specs.Calls.{workOn, workedMemory, previewedAs, previewed, previewAnswer, previewMemory}
 use Rattle.demand.specs.Holds.{joined, holds, markOf, keptFor, Ok, Written}
 use Rattle.demand.specs.Bound.{among-by}
 use Rattle.demand.specs.Appended.{lengths, long-enough, entries-length}

@@ -39,10 +39,10 @@ use Rattle.bridge.specs.FormulaLaws.{formula-laws}
 use Rattle.evaluator.specs.Links.{kindAt, keyAt}
 use Rattle.evaluator.specs.Waits.{slotA, slotB}
 use Rattle.evaluator.specs.Frames.{leafOf, startAt, startFrom}
-use Rattle.evaluator.specs.declared.works.View.{View}
-use Rattle.evaluator.specs.Works.{nameFor, otherFor, view, pickV, showOf}
+use Rattle.scheduler.specs.declared.works.View.{View}
+use Rattle.scheduler.specs.Works.{nameFor, otherFor, view, pickV, showOf}
 use Rattle.refine.specs.Shows.{viewOf, slotNames, kept-shows}
-use Rattle.engine.specs.Answers.{shownOf}
+use Rattle.interface.specs.Answers.{shownOf}
 use Rattle.demand.specs.Holds.{shownBy, shownIn, markOf, holds, keptFor, Ok}
 use Rattle.demand.specs.Appended.{lengths}
 use Rattle.demand.specs.Cells.{name-some}

@@ -22,19 +22,19 @@ use Rattle.table.specs.Right.{numbered, nodeRight}
 use Rattle.table.specs.RightLaws.{right-key, first-low, second-low, first-given, variable-named}
 use Rattle.table.specs.Checked.{keptOk}
 use Rattle.table.specs.CheckedLaws.{done-is}
-use Rattle.table.specs.AppendedLaws.{Well, and-true, settled-later}
+use Rattle.binder.specs.AppendedLaws.{Well, and-true, settled-later}
 use Rattle.evaluator.specs.Links.{kindAt, firstAt, secondAt, keyAt, isBelow}
 use Rattle.evaluator.specs.Waits.{waitsFrom}
 use Rattle.evaluator.specs.Frames.{startAt, startFrom}
 use Rattle.evaluator.specs.Working.{graph, applyAt}
-use Rattle.evaluator.specs.Works.{needOf, chosen, nameFor, otherFor, kept, Work, workFrom, worked}
+use Rattle.scheduler.specs.Works.{needOf, chosen, nameFor, otherFor, kept, Work, workFrom, worked}
 use Rattle.refine.specs.Packed.{Cell, Cells, set-cells, Right, apply-packed, leaf-packed, zeros, start-cells}
 use Rattle.refine.specs.Slots.{slots}
 use Rattle.refine.specs.Named.{names-right}
 use Rattle.refine.specs.Waiting.{a-second}
 use Rattle.refine.specs.Needed.{Flagged, needed-link}
 use Rattle.formulas.specs.Formulas.{IsReading}
-use Rattle.engine.specs.Calls.{workOn, workedMemory}
+use Rattle.interface.specs.Calls.{workOn, workedMemory}
 use Rattle.demand.specs.Appended.{lengths}
 use Rattle.demand.specs.Accepted.{reading-small}
 use Rattle.demand.specs.WorkedOut.{isKept, workedOut, count-more}

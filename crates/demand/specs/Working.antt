@@ -25,7 +25,7 @@ use Rattle.table.specs.Memory.{Kept, keptAt, entriesFrom, nothingKept}
 use Rattle.evaluator.specs.Links.{kindAt, keyAt}
 use Rattle.evaluator.specs.Waits.{slotA, slotB}
 use Rattle.evaluator.specs.Working.{graph, applyAt}
-use Rattle.evaluator.specs.Works.{chosen, nameFor, otherFor, keepOf, kept, workFrom}
+use Rattle.scheduler.specs.Works.{chosen, nameFor, otherFor, keepOf, kept, workFrom}
 use Rattle.refine.specs.Shows.{slotNames}
 use Rattle.refine.specs.Tables.{Good, Link, Sees, here, down, kept-entry}
 use Rattle.refine.specs.Meaning.{apply-right}

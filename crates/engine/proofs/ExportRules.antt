@@ -17,20 +17,20 @@ use Rattle.model.specs.Cases.{split}
 use Rattle.model.specs.Model.{refused, opened, edited, notYet, finished}
 use Rattle.table.specs.Memory.{Memory, fits}
 use Rattle.table.specs.WellFormed.{wellFormed}
-use Rattle.evaluator.specs.declared.works.View.{View}
+use Rattle.scheduler.specs.declared.works.View.{View}
 use Rattle.records.specs.Records.{recordsOf}
 use Rattle.formulas.specs.Formulas.{parsed}
 use Rattle.bridge.specs.FormulaLaws.{formula-laws}
-use Rattle.engine.specs.declared.answers.Opened.{Opened}
-use Rattle.engine.specs.declared.answers.Edited.{Edited}
-use Rattle.engine.specs.declared.answers.Edited.the-variants as E
-use Rattle.engine.specs.declared.answers.Previewed.{Previewed}
-use Rattle.engine.specs.declared.answers.Previewed.the-variants as P
-use Rattle.engine.specs.declared.answers.EditAnswer.{EditAnswer}
-use Rattle.engine.specs.declared.answers.PreviewAnswer.{PreviewAnswer}
-use Rattle.engine.specs.Answers.{Reply, openNumber, editNumbers, previewNumbers}
-use Rattle.engine.specs.Calls.{tooMany, boundTo, readAnswer, editAnswer}
-use Rattle.engine.specs.Contracts.{Opens, Edits, Previews, OpensForC, EditsForC, PreviewsForC, PlaceFits}
+use Rattle.interface.specs.declared.answers.Opened.{Opened}
+use Rattle.interface.specs.declared.answers.Edited.{Edited}
+use Rattle.interface.specs.declared.answers.Edited.the-variants as E
+use Rattle.interface.specs.declared.answers.Previewed.{Previewed}
+use Rattle.interface.specs.declared.answers.Previewed.the-variants as P
+use Rattle.interface.specs.declared.answers.EditAnswer.{EditAnswer}
+use Rattle.interface.specs.declared.answers.PreviewAnswer.{PreviewAnswer}
+use Rattle.interface.specs.Answers.{Reply, openNumber, editNumbers, previewNumbers}
+use Rattle.interface.specs.Calls.{tooMany, boundTo, readAnswer, editAnswer}
+use Rattle.interface.specs.Effects.{Opens, Edits, Previews, OpensForC, EditsForC, PreviewsForC, PlaceFits}
 
 module _ (x : Edited) where
   pub edit-done : (w p a : ℕ) → x ≡ E.Done w p a → editNumbers (E.Done w p a) ≡ editNumbers x

@@ -1,2 +1,1 @@
-mod EditLaws
 mod ExportRules

@@ -1,18 +1,18 @@
 // The calls for programs in C: the same calls under names of their own, with the answers as plain numbers.
-use crate::answers::EditAnswer;
-use crate::answers::Edited;
-use crate::answers::Opened;
-use crate::answers::PreviewAnswer;
-use crate::answers::Previewed;
-use crate::edit::edit;
-use crate::open::open;
-use crate::preview::preview;
-use evaluator::works::View;
+use interface::answers::EditAnswer;
+use interface::answers::Edited;
+use interface::answers::Opened;
+use interface::answers::PreviewAnswer;
+use interface::answers::Previewed;
+use calls::edit::edit;
+use calls::open::open;
+use calls::preview::preview;
+use scheduler::works::View;
 ghost use mathlib.Core.Path.{_≡_};
 ghost use Rattle.table.specs.Checked.{memory};
-ghost use Rattle.engine.specs.declared.answers.Previewed.the-variants.{Finished};
-ghost use Rattle.engine.specs.Answers.{openNumber, editNumbers, previewNumbers};
-ghost use Rattle.engine.specs.Contracts.{PlaceFits, OpensForC, EditsForC, PreviewsForC};
+ghost use Rattle.interface.specs.declared.answers.Previewed.the-variants.{Finished};
+ghost use Rattle.interface.specs.Answers.{openNumber, editNumbers, previewNumbers};
+ghost use Rattle.interface.specs.Effects.{PlaceFits, OpensForC, EditsForC, PreviewsForC};
 
 fn open_number(x: Opened) -> u32
     ensures { λ r. ⌜ r ≡ openNumber x ⌝ }

@@ -1,8 +1,2 @@
-// The engine: open, edit, preview and fetch, and the first three for programs in C.
-pub mod answers;
-pub mod edit;
+// The engine for programs in C: open, edit and preview under names of their own, with the answers as plain numbers.
 pub mod exports;
-pub mod fetch;
-pub mod lent;
-pub mod open;
-pub mod preview;

@@ -4,4 +4,3 @@ pub mod Reaching
 pub mod Numbers
 pub mod Planning
 pub mod Running
-pub mod Choosing

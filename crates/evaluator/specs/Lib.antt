@@ -1,6 +1,5 @@
-pub mod Links
-pub mod Waits
-pub mod Reach
 pub mod Frames
+pub mod Links
+pub mod Reach
+pub mod Waits
 pub mod Working
-pub mod Works

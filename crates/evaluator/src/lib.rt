@@ -1,7 +1,6 @@
-// Working out entries: an entry's packed value from the values of those below it, and the work of one preview.
+// Working out one entry: its packed value from the values of those below it.
 pub mod frames;
 pub mod links;
 pub mod reach;
 pub mod waits;
 pub mod working;
-pub mod works;

@@ -11,3 +11,4 @@ pub mod KeptLimitsLaws
 pub mod Places
 pub mod ReadingLaws
 pub mod Theorems
+pub mod Refusals

@@ -16,9 +16,9 @@ use Rattle.table.specs.WellFormed.{distinct}
 use Rattle.table.specs.Bind.{Bound}
 use Rattle.table.specs.Right.{numbered}
 use Rattle.table.specs.Held.{heldAt}
-use Rattle.table.specs.Records.{BoundAll}
+use Rattle.binder.specs.Records.{BoundAll}
 use Rattle.table.specs.ChainLaws.{length-numbered}
-use Rattle.evaluator.specs.Works.{workOf, Lent, Works}
+use Rattle.scheduler.specs.Works.{workOf, Lent, Works}
 use Rattle.reader.specs.declared.answer.Read.{Read}
 use Rattle.reader.specs.Reading.{Reading}
 use Rattle.measured.specs.Measures.{readNumber, ReadInto, canBind, boundAll, boundNumber, bindNumber, packedWork, canWork, workMeasured, Worked}

@@ -11,8 +11,8 @@ use Rattle.table.specs.Memory.{nodeAt}
 use Rattle.table.specs.WellFormed.{distinct}
 use Rattle.table.specs.Right.{numbered}
 use Rattle.table.specs.Bind.{Bound, bindAll}
-use Rattle.table.specs.Records.{recordAt, bound}
-use Rattle.evaluator.specs.Works.{Work, workOf, worked}
+use Rattle.binder.specs.Records.{recordAt, bound}
+use Rattle.scheduler.specs.Works.{Work, workOf, worked}
 use Rattle.descent.specs.Descent.{readInto}
 use Rattle.reader.specs.Reading.{answerOf, noBinders}
 use Rattle.reader.specs.declared.answer.Read.{Read}

@@ -1,8 +1,8 @@
 // The parts of the engine that benchmarks measure by themselves, exported under plain names. The watch links none of this.
-use evaluator::works;
+use scheduler::works;
 use reader::answer::Read;
 use reader::parser;
-use table::bind;
+use binder::bind;
 use table::cells::at16;
 use table::chain;
 use table::check;

@@ -16,12 +16,12 @@ use Rattle.model.specs.Cases.{impossible, split, both}
 use Rattle.model.specs.Model.{refused, opened}
 use Rattle.table.specs.Memory.{Memory, fits, entryCount, recordingOf}
 use Rattle.table.specs.WellFormed.{wellFormed}
-use Rattle.table.specs.AppendedLaws.{well-parts, well-from, well-empty}
+use Rattle.binder.specs.AppendedLaws.{well-parts, well-from, well-empty}
 use Rattle.formulas.specs.Formulas.{IsReading}
-use Rattle.evaluator.specs.Works.{Work}
-use Rattle.engine.specs.declared.answers.Previewed.{Previewed}
-use Rattle.engine.specs.declared.answers.Previewed.the-variants.{NotYet, Finished, Refused}
-use Rattle.engine.specs.Calls.{openAnswer, openMemory, openedMemory, editMemory, workOn, workedMemory, previewedAs, previewed, previewMemory}
+use Rattle.scheduler.specs.Works.{Work}
+use Rattle.interface.specs.declared.answers.Previewed.{Previewed}
+use Rattle.interface.specs.declared.answers.Previewed.the-variants.{NotYet, Finished, Refused}
+use Rattle.interface.specs.Calls.{openAnswer, openMemory, openedMemory, editMemory, workOn, workedMemory, previewedAs, previewed, previewMemory}
 use Rattle.demand.specs.Appended.{lengths, long-enough}
 use Rattle.demand.specs.Opening.{count-zero, count-readings, longer}
 use Rattle.demand.specs.Grown.{read-well, read-fits}

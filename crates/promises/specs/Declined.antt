@@ -15,10 +15,10 @@ use Rattle.table.specs.Memory.{Memory, fits, entryCount}
 use Rattle.table.specs.WellFormed.{wellFormed}
 use Rattle.records.specs.Records.{recordsOf}
 use Rattle.formulas.specs.Formulas.{formulas}
-use Rattle.evaluator.specs.Works.{Work}
-use Rattle.engine.specs.declared.answers.Previewed.the-variants.{NotYet, Refused}
-use Rattle.engine.specs.Answers.{Reply}
-use Rattle.engine.specs.Calls.{tooMany, boundTo, readAnswer, readMemory, openAnswer, openMemory, editAnswer, editMemory, editPlaces, workOn, previewedAs, previewed, previewMemory}
+use Rattle.scheduler.specs.Works.{Work}
+use Rattle.interface.specs.declared.answers.Previewed.the-variants.{NotYet, Refused}
+use Rattle.interface.specs.Answers.{Reply}
+use Rattle.interface.specs.Calls.{tooMany, boundTo, readAnswer, readMemory, openAnswer, openMemory, editAnswer, editMemory, editPlaces, workOn, previewedAs, previewed, previewMemory}
 
 pub open-declined : (m : Memory) (r : List ℤ) (n at : ℕ) → openAnswer m r ≡ refused n at → openMemory m r ≡ m
 unfolding openAnswer openMemory

@@ -20,12 +20,12 @@ use Rattle.table.specs.Memory.{Memory, fits, entryCount, readingCount, recordin
 use Rattle.table.specs.WellFormed.{doneAt, wellFormed}
 use Rattle.evaluator.specs.Links.{kindAt, keyAt}
 use Rattle.evaluator.specs.Frames.{startAt}
-use Rattle.evaluator.specs.declared.works.View.{View}
-use Rattle.evaluator.specs.Works.{view, showOf}
-use Rattle.engine.specs.declared.answers.Previewed.the-variants.{Finished}
-use Rattle.engine.specs.Answers.{shownOf}
-use Rattle.engine.specs.Calls.{workOn, workedMemory, previewed, previewMemory, windowIn, partOf, fetched}
-use Rattle.engine.specs.Previewing.{part-held}
+use Rattle.scheduler.specs.declared.works.View.{View}
+use Rattle.scheduler.specs.Works.{view, showOf}
+use Rattle.interface.specs.declared.answers.Previewed.the-variants.{Finished}
+use Rattle.interface.specs.Answers.{shownOf}
+use Rattle.interface.specs.Calls.{workOn, workedMemory, previewed, previewMemory, windowIn, partOf, fetched}
+use Rattle.interface.specs.CallsLaws.{part-held}
 use Rattle.promises.specs.Finishing.{finished-by}
 
 -- the readings of what is shown

@@ -10,10 +10,10 @@ use Rattle.model.specs.Lists.{All}
 use Rattle.formulas.specs.Formulas.{IsReading}
 use Rattle.table.specs.Memory.{Memory, fits, entryCount, readingCount, recordingOf}
 use Rattle.table.specs.WellFormed.{wellFormed}
-use Rattle.evaluator.specs.declared.works.View.{View}
-use Rattle.evaluator.specs.Works.{showOf}
-use Rattle.engine.specs.declared.answers.Previewed.the-variants.{Finished}
-use Rattle.engine.specs.Calls.{workOn, workedMemory, previewed, previewMemory}
+use Rattle.scheduler.specs.declared.works.View.{View}
+use Rattle.scheduler.specs.Works.{showOf}
+use Rattle.interface.specs.declared.answers.Previewed.the-variants.{Finished}
+use Rattle.interface.specs.Calls.{workOn, workedMemory, previewed, previewMemory}
 use Rattle.promises.specs.Accepting.{preview-fits, preview-well}
 
 pub record FinishedBy (m : Memory) (n a : ℕ) (v : View) : Type 0 where

@@ -11,7 +11,7 @@ use Rattle.model.specs.Engine.{Engine, Lent, whole, part, says, leaves, Sent, i
 use Rattle.formulas.specs.Formulas.{formulas}
 use Rattle.bridge.specs.FormulaLaws.{formula-laws}
 use Rattle.table.specs.Memory.{Memory, fits}
-use Rattle.engine.specs.Calls.{openAnswer, openMemory, editAnswer, editMemory, editPlaces, previewed, previewAnswer, previewMemory}
+use Rattle.interface.specs.Calls.{openAnswer, openMemory, editAnswer, editMemory, editPlaces, previewed, previewAnswer, previewMemory}
 use Rattle.demand.specs.Holds.{holds, Ok}
 use Rattle.demand.specs.Editing.{Done, editing}
 use Rattle.demand.specs.Opening.{opening, too-long}

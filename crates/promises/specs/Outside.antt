@@ -17,9 +17,9 @@ use Rattle.model.specs.Cases.{impossible, split}
 use Rattle.table.specs.Memory.{Memory, Node, fits, entryCount}
 use Rattle.table.specs.WellFormed.{wellFormed}
 use Rattle.table.specs.Bind.{Bound, append, appendAll}
-use Rattle.evaluator.specs.Works.{chosen, nameFor, otherFor, keepOf, kept, workFrom, worked}
+use Rattle.scheduler.specs.Works.{chosen, nameFor, otherFor, keepOf, kept, workFrom, worked}
 use Rattle.records.specs.Records.{recordsOf}
-use Rattle.engine.specs.Calls.{openedMemory, openMemory, boundTo, tooMany, editedMemory, readMemory, editMemory, workOn, workedMemory, previewMemory}
+use Rattle.interface.specs.Calls.{openedMemory, openMemory, boundTo, tooMany, editedMemory, readMemory, editMemory, workOn, workedMemory, previewMemory}
 use Rattle.demand.specs.Appended.{lengths}
 
 pub record Outside (m n : Memory) : Type 0 where

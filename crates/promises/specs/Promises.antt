@@ -28,16 +28,16 @@ use Rattle.bridge.specs.FormulaLaws.{formula-laws}
 use Rattle.bridge.specs.LetLaws.{text-lets}
 use Rattle.table.specs.Memory.{Memory, fits, entryCount, readingCount, recordingOf, entriesOf}
 use Rattle.table.specs.WellFormed.{doneAt, wellFormed}
-use Rattle.evaluator.specs.declared.works.View.{View}
-use Rattle.evaluator.specs.Works.{showOf}
+use Rattle.scheduler.specs.declared.works.View.{View}
+use Rattle.scheduler.specs.Works.{showOf}
 use Rattle.refine.specs.Shows.{viewOf}
-use Rattle.engine.specs.declared.answers.Opened.{Opened}
-use Rattle.engine.specs.declared.answers.Edited.{Edited}
-use Rattle.engine.specs.declared.answers.Previewed.{Previewed}
-use Rattle.engine.specs.declared.answers.Previewed.the-variants.{Finished, Refused}
-use Rattle.engine.specs.Answers.{openReply, editReply, previewReply, shownOf}
-use Rattle.engine.specs.Calls.{openAnswer, openMemory, editAnswer, editMemory, editPlaces, previewed, previewAnswer, previewMemory, partOf, fetched}
-use Rattle.engine.specs.Contracts.{Opens, Edits, Previews}
+use Rattle.interface.specs.declared.answers.Opened.{Opened}
+use Rattle.interface.specs.declared.answers.Edited.{Edited}
+use Rattle.interface.specs.declared.answers.Previewed.{Previewed}
+use Rattle.interface.specs.declared.answers.Previewed.the-variants.{Finished, Refused}
+use Rattle.interface.specs.Answers.{openReply, editReply, previewReply, shownOf}
+use Rattle.interface.specs.Calls.{openAnswer, openMemory, editAnswer, editMemory, editPlaces, previewed, previewAnswer, previewMemory, partOf, fetched}
+use Rattle.interface.specs.Effects.{Opens, Edits, Previews}
 use Rattle.demand.specs.WorkedOut.{workedOut}
 use Rattle.promises.specs.Implementing as Implementing
 use Rattle.promises.specs.Implementing.{engine, implements}

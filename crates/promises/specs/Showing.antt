@@ -18,16 +18,16 @@ use Rattle.meaning.specs.FormsLaws.{and-left, and-right}
 use Rattle.table.specs.Memory.{Memory, Kept, entryCount, readingCount, recordingOf, keptAt}
 use Rattle.table.specs.Nodes.{isName}
 use Rattle.table.specs.WellFormed.{nameless, namesRight, wellFormed}
-use Rattle.evaluator.specs.declared.works.View.{View}
+use Rattle.scheduler.specs.declared.works.View.{View}
 use Rattle.evaluator.specs.Links.{kindAt, keyAt}
 use Rattle.evaluator.specs.Frames.{leafOf, startAt}
-use Rattle.evaluator.specs.Works.{view, showOf}
+use Rattle.scheduler.specs.Works.{view, showOf}
 use Rattle.refine.specs.Shows.{viewOf}
 use Rattle.formulas.specs.Formulas.{IsReading}
-use Rattle.engine.specs.declared.answers.Previewed.the-variants.{Finished}
-use Rattle.engine.specs.Answers.{shownOf}
-use Rattle.engine.specs.Calls.{workOn, workedMemory, previewed}
-use Rattle.engine.specs.Previewing.{kept-names}
+use Rattle.interface.specs.declared.answers.Previewed.the-variants.{Finished}
+use Rattle.interface.specs.Answers.{shownOf}
+use Rattle.interface.specs.Calls.{workOn, workedMemory, previewed}
+use Rattle.interface.specs.CallsLaws.{kept-names}
 use Rattle.demand.specs.Cells.{name-some}
 use Rattle.promises.specs.Finishing.{finished-by}
 

@@ -1,5 +1,1 @@
-mod CursorPaths
 mod ParserPaths
-mod ScratchPaths
-mod TokenPaths
-mod ValuePaths

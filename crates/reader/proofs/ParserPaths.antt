@@ -22,15 +22,15 @@ use Rattle.descent.specs.Moves.{Moved, behind-some, moved-need, moved-let}
 use Rattle.descent.specs.Paths as Paths
 use Rattle.descent.specs.Paths.{Reads}
 use Rattle.descent.specs.PathsCalls as PathsCalls
-use Rattle.reader.specs.declared.cursor.Cursor.{Cursor}
-use Rattle.reader.specs.declared.scratch.Call.{Call}
-use Rattle.reader.specs.declared.tokens.Lexed.{Lexed}
+use Rattle.steps.specs.declared.cursor.Cursor.{Cursor}
+use Rattle.steps.specs.declared.scratch.Call.{Call}
+use Rattle.lexer.specs.declared.tokens.Lexed.{Lexed}
 use Rattle.reader.specs.declared.answer.Read.{Read}
 use Rattle.reader.specs.declared.answer.Read.the-variants.{Done, Refused}
-use Rattle.reader.specs.Lexing.{lexAt, tokensFrom}
-use Rattle.reader.specs.Cursors.{cursorOf, stateOf, refusing, passing}
-use Rattle.reader.specs.CursorsLaws.{head-place, at-kind, not-kind}
-use Rattle.reader.specs.Scratch.{Wrote, WroteFor, NameAhead, NumberAhead, ShutAhead, Recorded, callOf}
+use Rattle.lexer.specs.Lexing.{lexAt, tokensFrom}
+use Rattle.steps.specs.Cursors.{cursorOf, stateOf, refusing, passing}
+use Rattle.steps.specs.CursorsLaws.{head-place, at-kind, not-kind}
+use Rattle.steps.specs.Scratch.{Wrote, WroteFor, NameAhead, NumberAhead, ShutAhead, Recorded, callOf}
 use Rattle.reader.specs.Parsing.{Ready, ReadyAt, Parses, Continues}
 use Rattle.reader.specs.Reading.{answerOf, noBinders, Reading}
 

@@ -1,10 +1,2 @@
-pub mod Cursors
-pub mod CursorsLaws
-pub mod Lexing
-pub mod LexingLaws
-pub mod Loops
-pub mod LoopsLaws
 pub mod Parsing
 pub mod Reading
-pub mod Scratch
-pub mod TokenLaws

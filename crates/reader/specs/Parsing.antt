@@ -9,9 +9,9 @@ use Rattle.descent.specs.Cursor.{isAt}
 use Rattle.descent.specs.Descent.{Mode, inCalls}
 use Rattle.descent.specs.Fit.{Fit}
 use Rattle.descent.specs.Paths.{Reads}
-use Rattle.reader.specs.declared.cursor.Cursor.{Cursor}
-use Rattle.reader.specs.Lexing.{tokensFrom}
-use Rattle.reader.specs.Cursors.{stateOf}
+use Rattle.steps.specs.declared.cursor.Cursor.{Cursor}
+use Rattle.lexer.specs.Lexing.{tokensFrom}
+use Rattle.steps.specs.Cursors.{stateOf}
 
 pub record Ready (m : Mode) (text : List ℕ) (c : Cursor) (records places scope : List ℕ) : Type 0 where
   pub fit : Fit m (stateOf text c records places scope)

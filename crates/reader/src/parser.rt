@@ -7,18 +7,18 @@
 // Each function is the reader of its name in descent's Descent, run with any fuel that is enough. Of a call, though, they read up to the bracket
 // that ends it, where descent's arguments and more go on with the calls: those are the next turn of the loop in calls.
 use crate::answer::Read;
-use crate::cursor;
-use crate::cursor::Cursor;
-use crate::scratch;
-use crate::scratch::Call;
-use crate::tokens;
-use crate::tokens::Lexed;
+use steps::cursor;
+use steps::cursor::Cursor;
+use steps::scratch;
+use steps::scratch::Call;
+use lexer::tokens;
+use lexer::tokens::Lexed;
 ghost use mathlib.Core.Path.{_≡_};
 ghost use Prim.Native.Nat.{_-_, _≤_};
 ghost use Rattle.descent.specs.Cursor.{isAt, letKind, lambdaKind, dotKind, openKind};
 ghost use Rattle.descent.specs.Descent.{firstGiven, nextGiven, inExpression, inCalls, inArguments, inMore};
-ghost use Rattle.reader.specs.Lexing.{tokensFrom};
-ghost use Rattle.reader.specs.Scratch.{callOf};
+ghost use Rattle.lexer.specs.Lexing.{tokensFrom};
+ghost use Rattle.steps.specs.Scratch.{callOf};
 ghost use Rattle.reader.specs.Parsing.{Ready, ReadyAt, Parses, Continues};
 ghost use Rattle.reader.specs.Reading.{Reading};
 

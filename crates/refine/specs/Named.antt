@@ -13,7 +13,7 @@ use Rattle.table.specs.Nodes.{isName}
 use Rattle.table.specs.WellFormed.{namesRight}
 use Rattle.evaluator.specs.Links.{kindAt, keyAt}
 use Rattle.evaluator.specs.Waits.{slotA, slotB}
-use Rattle.evaluator.specs.Works.{slotName, nameFor, otherFor}
+use Rattle.scheduler.specs.Works.{slotName, nameFor, otherFor}
 use Rattle.refine.specs.Free.{split}
 use Rattle.refine.specs.Tables.{Slot}
 use Rattle.refine.specs.Slots.{Slots}

@@ -3,10 +3,10 @@
 // The file `stdout` is written by hand from 01.
 mod say;
 
-use engine::edit::edit;
-use engine::fetch::fetch;
-use engine::open::open;
-use engine::preview::preview;
+use calls::edit::edit;
+use calls::fetch::fetch;
+use calls::open::open;
+use calls::preview::preview;
 ghost use Prim.Native.Nat.{_≤_};
 ghost use lib.ListN.{length};
 

@@ -1,8 +1,8 @@
 // Writes numbers, names and the answers of the calls to standard output.
-use engine::answers::Edited;
-use engine::answers::Opened;
-use engine::answers::Previewed;
-use evaluator::works::View;
+use interface::answers::Edited;
+use interface::answers::Opened;
+use interface::answers::Previewed;
+use scheduler::works::View;
 use libc::STDOUT_FILENO;
 
 // The entry of a text that is declined: a number that no entry has.

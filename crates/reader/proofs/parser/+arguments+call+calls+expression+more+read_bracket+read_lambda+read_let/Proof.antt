@@ -32,24 +32,24 @@ use Rattle.reader.proofs.parser.+arguments+call+calls+expression+more+r
 use Rattle.reader.proofs.parser.read_let.Reads as read-let
 use Rattle.reader.proofs.parser.read_let.Kinds as read-let-kinds
 use Rattle.reader.proofs.parser.+arguments+call+calls+expression+more+read_bracket+read_lambda+read_let.Lts-read_let as read-let-lts
-use Rattle.reader.proofs.cursor.at_bracket.Reads as at-bracket-reads
-use Rattle.reader.proofs.cursor.at_comma.Reads as at-comma-reads
-use Rattle.reader.proofs.cursor.call_head.Reads as call-head-reads
-use Rattle.reader.proofs.cursor.judged.Reads as judged-reads
-use Rattle.reader.proofs.cursor.lambda_head.Reads as lambda-head-reads
-use Rattle.reader.proofs.cursor.let_head.Reads as let-head-reads
-use Rattle.reader.proofs.cursor.need.Reads as need-reads
-use Rattle.reader.proofs.cursor.refused.Reads as refused-reads
+use Rattle.steps.proofs.cursor.at_bracket.Reads as at-bracket-reads
+use Rattle.steps.proofs.cursor.at_comma.Reads as at-comma-reads
+use Rattle.steps.proofs.cursor.call_head.Reads as call-head-reads
+use Rattle.steps.proofs.cursor.judged.Reads as judged-reads
+use Rattle.steps.proofs.cursor.lambda_head.Reads as lambda-head-reads
+use Rattle.steps.proofs.cursor.let_head.Reads as let-head-reads
+use Rattle.steps.proofs.cursor.need.Reads as need-reads
+use Rattle.steps.proofs.cursor.refused.Reads as refused-reads
 use Rattle.reader.proofs.parser.first_given.Reads as first-given-reads
 use Rattle.reader.proofs.parser.is_call.Reads as is-call-reads
 use Rattle.reader.proofs.parser.next_given.Reads as next-given-reads
-use Rattle.reader.proofs.scratch.enter.Reads as enter-reads
-use Rattle.reader.proofs.scratch.mark.Reads as mark-reads
-use Rattle.reader.proofs.scratch.put.Reads as put-reads
-use Rattle.reader.proofs.scratch.read_name.Reads as read-name-reads
-use Rattle.reader.proofs.scratch.read_number.Reads as read-number-reads
-use Rattle.reader.proofs.scratch.read_shut.Reads as read-shut-reads
-use Rattle.reader.proofs.tokens.token.Reads as token-reads
+use Rattle.steps.proofs.scratch.enter.Reads as enter-reads
+use Rattle.steps.proofs.scratch.mark.Reads as mark-reads
+use Rattle.steps.proofs.scratch.put.Reads as put-reads
+use Rattle.steps.proofs.scratch.read_name.Reads as read-name-reads
+use Rattle.steps.proofs.scratch.read_number.Reads as read-number-reads
+use Rattle.steps.proofs.scratch.read_shut.Reads as read-shut-reads
+use Rattle.lexer.proofs.tokens.token.Reads as token-reads
 use Rattle.reader.proofs.parser.+arguments+call+calls+expression+more+read_bracket+read_lambda+read_let.{
   statement,
 }

@@ -1,7 +1,7 @@
 -- The token at the place has the kind of a dot, or has not, as the first of the tokens from there. Assumes nothing.
 use mathlib.Core.Path.{sym}
 use borrow.Author.Needs.{needs}
-use Rattle.reader.specs.CursorsLaws.{is-at}
+use Rattle.steps.specs.CursorsLaws.{is-at}
 use Rattle.reader.proofs.parser.is_call.Statement.{statement}
 use Rattle.reader.proofs.parser.is_call.Tie as tie
 

@@ -1,0 +1,294 @@
+-- A cache after entries are appended: those held stay as they are, the new ones have nothing kept, and the cache stays well-formed where
+-- each new entry is right, new, and awaits two names at most. Assumes nothing.
+use mathlib.Core.Path.{_≡_, refl, sym, ap, _∙_, subst}
+use mathlib.Core.Bool.{Bool, true, false, _&&_}
+use mathlib.Core.List.{List, [], _∷_, _++_}
+use Prim.Native.Nat.{ℕ, zero, suc, _+_, _*_, _≤_, _<_}
+use native.Mathlib.Decide.{decLt}
+use native.Mathlib.Omega.{arith}
+use borrow.Author.Tests.{leb-true, le-leb}
+use lib.Dec.{eqb, leb}
+use lib.ListN.{length, getD, set, length-set}
+use lib.Seq.{getD-set-same, getD-set-other}
+use Rattle.meaning.specs.FormsLaws.{no-way, and-left, and-right}
+use Rattle.meaning.specs.EvaluationLaws.{split}
+use Rattle.table.specs.Memory.{Memory, Node, Entry, nothingKept, fits, entryCount, readingCount, nodeAt, keptAt, entryAt, entriesFrom, entriesOf}
+use Rattle.table.specs.Nodes.{kids}
+use Rattle.table.specs.WellFormed.{every, hasNode, distinct, awaitedBy, awaitedAfter, awaitsFew, doneAt, allDone, settled, namesRight, keptRight, wellFormed}
+use Rattle.table.specs.Bind.{append, appendAll}
+use Rattle.table.specs.Right.{allFrom, numbered, nodeRight, rightAt}
+use Rattle.table.specs.RightLaws.{all-at, all-of, right-at}
+use Rattle.binder.specs.Written.{linksWith, cellsWith}
+use Rattle.binder.specs.WrittenLaws.{whole-is}
+use Rattle.table.specs.ChainLaws.{numbered-last, numbered-agree, distinct-snoc}
+use Rattle.table.specs.AwaitsLaws.{after-snoc}
+use Rattle.table.specs.Checked.{keptOk, entriesRight}
+use Rattle.table.specs.CheckedLaws.{well-is}
+
+-- a new entry
+abbrev pub newEntry : Node → Entry
+newEntry n = record { node = n; kept = nothingKept }
+
+module _ (links cells : List ℕ) (k : ℕ) (n : Node) where
+  abbrev links′ : List ℕ
+  links′ = linksWith links k n
+
+  abbrev cells′ : List ℕ
+  cells′ = cellsWith cells k (n .key)
+
+  cell-old : (j : ℕ) → j < 4 * k → getD cells′ j 0 ≡ getD cells j 0
+  unfolding cellsWith
+  cell-old j h =
+      getD-set-other (set (set (set cells (4 * k) (n .key)) (4 * k + 1) 0) (4 * k + 2) 0) (4 * k + 3) j 0 0 (λ e. omega arith)
+      ∙ getD-set-other (set (set cells (4 * k) (n .key)) (4 * k + 1) 0) (4 * k + 2) j 0 0 (λ e. omega arith)
+      ∙ getD-set-other (set cells (4 * k) (n .key)) (4 * k + 1) j 0 0 (λ e. omega arith)
+      ∙ getD-set-other cells (4 * k) j (n .key) 0 (λ e. omega arith)
+
+  link-old : (j : ℕ) → j < 3 * k → getD links′ j 0 ≡ getD links j 0
+  unfolding linksWith
+  link-old j h =
+      getD-set-other (set (set links (3 * k) (n .kind)) (3 * k + 1) (n .first)) (3 * k + 2) j (n .second) 0 (λ e. omega arith)
+      ∙ getD-set-other (set links (3 * k) (n .kind)) (3 * k + 1) j (n .first) 0 (λ e. omega arith)
+      ∙ getD-set-other links (3 * k) j (n .kind) 0 (λ e. omega arith)
+
+  -- entries held stay as they are
+  entry-old : (i : ℕ) → i < k → entryAt links′ cells′ i ≡ entryAt links cells i
+  unfolding nodeAt keptAt
+  entry-old i h =
+      rw (
+        link-old (3 * i) (omega arith),
+        link-old (3 * i + 1) (omega arith),
+        link-old (3 * i + 2) (omega arith),
+        cell-old (4 * i) (omega arith),
+        cell-old (4 * i + 1) (omega arith),
+        cell-old (4 * i + 2) (omega arith),
+        cell-old (4 * i + 3) (omega arith),
+      )
+
+  -- the new one is n, with nothing kept
+  entry-new : 3 * k + 2 < length links → 4 * k + 3 < length cells → entryAt links′ cells′ k ≡ newEntry n
+  unfolding nodeAt keptAt linksWith cellsWith
+  entry-new hl hc =
+      let a = length-set links (3 * k) (n .kind) in
+      let b = length-set (set links (3 * k) (n .kind)) (3 * k + 1) (n .first) in
+      let d = length-set cells (4 * k) (n .key) in
+      let e = length-set (set cells (4 * k) (n .key)) (4 * k + 1) 0 in
+      let f = length-set (set (set cells (4 * k) (n .key)) (4 * k + 1) 0) (4 * k + 2) 0 in
+      rw (
+        getD-set-other (set (set links (3 * k) (n .kind)) (3 * k + 1) (n .first)) (3 * k + 2) (3 * k) (n .second) 0 (λ e. omega arith),
+        getD-set-other (set links (3 * k) (n .kind)) (3 * k + 1) (3 * k) (n .first) 0 (λ e. omega arith),
+        getD-set-same links (3 * k) (n .kind) 0 (omega arith),
+        getD-set-other (set (set links (3 * k) (n .kind)) (3 * k + 1) (n .first)) (3 * k + 2) (3 * k + 1) (n .second) 0 (λ e. omega arith),
+        getD-set-same (set links (3 * k) (n .kind)) (3 * k + 1) (n .first) 0 (omega arith),
+        getD-set-same (set (set links (3 * k) (n .kind)) (3 * k + 1) (n .first)) (3 * k + 2) (n .second) 0 (omega arith),
+        getD-set-other (set (set (set cells (4 * k) (n .key)) (4 * k + 1) 0) (4 * k + 2) 0) (4 * k + 3) (4 * k) 0 0 (λ e. omega arith),
+        getD-set-other (set (set cells (4 * k) (n .key)) (4 * k + 1) 0) (4 * k + 2) (4 * k) 0 0 (λ e. omega arith),
+        getD-set-other (set cells (4 * k) (n .key)) (4 * k + 1) (4 * k) 0 0 (λ e. omega arith),
+        getD-set-same cells (4 * k) (n .key) 0 (omega arith),
+        getD-set-other (set (set (set cells (4 * k) (n .key)) (4 * k + 1) 0) (4 * k + 2) 0) (4 * k + 3) (4 * k + 1) 0 0 (λ e. omega arith),
+        getD-set-other (set (set cells (4 * k) (n .key)) (4 * k + 1) 0) (4 * k + 2) (4 * k + 1) 0 0 (λ e. omega arith),
+        getD-set-same (set cells (4 * k) (n .key)) (4 * k + 1) 0 0 (omega arith),
+        getD-set-other (set (set (set cells (4 * k) (n .key)) (4 * k + 1) 0) (4 * k + 2) 0) (4 * k + 3) (4 * k + 2) 0 0 (λ e. omega arith),
+        getD-set-same (set (set cells (4 * k) (n .key)) (4 * k + 1) 0) (4 * k + 2) 0 0 (omega arith),
+        getD-set-same (set (set (set cells (4 * k) (n .key)) (4 * k + 1) 0) (4 * k + 2) 0) (4 * k + 3) 0 0 (omega arith),
+      )
+
+  entries-old : (i m : ℕ) → i + m ≤ k → entriesFrom links′ cells′ i m ≡ entriesFrom links cells i m
+  unfolding entriesFrom
+  entries-old i zero h = refl
+  entries-old i (suc m) h = rw (entry-old i (omega arith), entries-old (suc i) m (omega arith))
+
+  entries-last : (ls cs : List ℕ) (i m : ℕ) → entriesFrom ls cs i (suc m) ≡ entriesFrom ls cs i m ++ (entryAt ls cs (i + m) ∷ [])
+  unfolding entriesFrom
+  entries-last ls cs i zero = let q : i + 0 ≡ i = omega arith in rw q
+  entries-last ls cs i (suc m) = let q : suc i + m ≡ i + suc m = omega arith in rw (entries-last ls cs (suc i) m, q)
+
+  entries-more : 3 * k + 2 < length links → 4 * k + 3 < length cells → entriesFrom links′ cells′ 0 (suc k) ≡ entriesFrom links cells 0 k ++ (newEntry n ∷ [])
+  entries-more hl hc =
+      let q : 0 + k ≡ k = omega arith in
+      entries-last links′ cells′ 0 k ∙ rw (entries-old 0 k (omega arith), q, entry-new hl hc)
+
+append-as : (m : Memory) (n : Node) (j : ℕ) → entriesFrom (append m n .links) (append m n .cells) 0 j ≡ entriesFrom (linksWith (m .links) (entryCount m) n) (cellsWith (m .cells) (entryCount m) (n .key)) 0 j
+unfolding append linksWith cellsWith
+append-as m n j = refl
+
+-- The memory with one entry more.
+module _ (m : Memory) (n : Node) where
+  pub append-fits : fits (append m n) ≡ fits m
+  unfolding fits append
+  append-fits = simp length-set
+
+  module _ (f : fits m ≡ true) where
+    pub append-count : entryCount (append m n) ≡ suc (entryCount m)
+    unfolding append
+    append-count = let w = whole-is m f in getD-set-same (m .heads) 0 (suc (entryCount m)) 0 (omega arith)
+
+    pub append-readings : readingCount (append m n) ≡ readingCount m
+    unfolding append
+    append-readings = getD-set-other (m .heads) 0 1 (suc (entryCount m)) 0 (λ e. omega arith)
+
+    pub append-entries : entryCount m < 512 → entriesOf (append m n) ≡ entriesOf m ++ (newEntry n ∷ [])
+    append-entries h =
+        let w = whole-is m f in
+        rw append-count (at-count ∙ entries-more (m .links) (m .cells) (entryCount m) n (omega arith) (omega arith))
+      where
+        at-count : entriesFrom (append m n .links) (append m n .cells) 0 (suc (entryCount m)) ≡ entriesFrom (linksWith (m .links) (entryCount m) n) (cellsWith (m .cells) (entryCount m) (n .key)) 0 (suc (entryCount m))
+        at-count = append-as m n (suc (entryCount m))
+
+pub append-all-fits : (m : Memory) (ns : List Node) → fits (appendAll m ns) ≡ fits m
+unfolding appendAll
+append-all-fits m [] = refl
+append-all-fits m (n ∷ ns) = append-all-fits (append m n) ns ∙ append-fits m n
+
+-- What well-formedness says, part by part.
+pub record Well (m : Memory) : Type 0 where
+  pub few : entryCount m ≤ 512
+  pub readings : readingCount m ≤ 1024
+  pub right : (i : ℕ) → i < entryCount m → nodeRight i (nodeAt (m .links) (m .cells) i) ≡ true
+  pub apart : distinct (numbered (nodeAt (m .links) (m .cells)) 0 (entryCount m)) ≡ true
+  pub names : awaitsFew (numbered (nodeAt (m .links) (m .cells)) 0 (entryCount m)) ≡ true
+  pub kept : (i : ℕ) → i < entryCount m → keptOk (m .links) (m .cells) (entryCount m) (readingCount m) i ≡ true
+
+at-zero : (p : ℕ → Bool) (n i : ℕ) → allFrom p n 0 ≡ true → i < n → p i ≡ true
+at-zero p n i h l = let z : 0 + i ≡ i = omega arith in rw z at (all-at p n i 0 h l)
+
+pub well-parts : (m : Memory) → wellFormed m ≡ true → Well m
+unfolding entriesRight
+well-parts m w =
+    let e = sym (well-is (m .readings) (m .heads) (m .links) (m .cells)) ∙ w in
+    let r = and-right (leb (entryCount m) 512) _ e in
+    let a = and-right (leb (readingCount m) 1024) _ r in
+    let b = and-right (allFrom (rightAt (m .links) (m .cells)) (entryCount m) 0) _ a in
+    let c = and-right (distinct (numbered (nodeAt (m .links) (m .cells)) 0 (entryCount m))) _ b in
+    record {
+      few = leb-true (entryCount m) 512 (and-left _ _ e);
+      readings = leb-true (readingCount m) 1024 (and-left _ _ r);
+      right = λ i l. right-at (m .links) (m .cells) (entryCount m) i (and-left _ _ a) l;
+      apart = and-left _ _ b;
+      names = and-left _ _ c;
+      kept = λ i l. at-zero (keptOk (m .links) (m .cells) (entryCount m) (readingCount m)) (entryCount m) i (and-right (awaitsFew (numbered (nodeAt (m .links) (m .cells)) 0 (entryCount m))) _ c) l;
+    }
+
+pub well-from : (m : Memory) → Well m → wellFormed m ≡ true
+unfolding entriesRight rightAt
+well-from m w =
+    well-is (m .readings) (m .heads) (m .links) (m .cells)
+    ∙ rw (
+      le-leb (entryCount m) 512 (w .few),
+      le-leb (readingCount m) 1024 (w .readings),
+      all-of (rightAt (m .links) (m .cells)) (entryCount m) 0 (λ j h l. w .right j (omega arith)),
+      w .apart,
+      w .names,
+      all-of (keptOk (m .links) (m .cells) (entryCount m) (readingCount m)) (entryCount m) 0 (λ j h l. w .kept j (omega arith)),
+    )
+
+-- a cache with no entries
+pub well-empty : (m : Memory) → entryCount m ≡ 0 → readingCount m ≤ 1024 → wellFormed m ≡ true
+unfolding wellFormed entriesFrom every distinct awaitedAfter
+well-empty m e h = rw (e, le-leb (readingCount m) 1024 h)
+
+pub and-true : (a b : Bool) → a ≡ true → b ≡ true → (a && b) ≡ true
+and-true a b p q = rw (p, q)
+
+every-snoc : {A : Type 0} (p : A → Bool) (i : ℕ) (xs : List A) (x : A) → every (λ (k : ℕ) (y : A). p y) i xs ≡ true → p x ≡ true → every (λ (k : ℕ) (y : A). p y) i (xs ++ (x ∷ [])) ≡ true
+unfolding every
+every-snoc p i [] x h e = rw e
+every-snoc p i (y ∷ ys) x h e = and-true (p y) _ (and-left _ _ h) (every-snoc p (suc i) ys x (and-right (p y) _ h) e)
+
+-- what is worked out stays so
+done-more : (es : List Entry) (x : Entry) (i : ℕ) → doneAt es i ≡ true → doneAt (es ++ (x ∷ [])) i ≡ true
+unfolding doneAt
+done-more [] x i h = no-way h
+done-more (e ∷ es) x zero h = h
+done-more (e ∷ es) x (suc i) h = done-more es x i h
+
+-- so an entry that is settled stays so
+module _ (es later : List Entry) (stays : (i : ℕ) → doneAt es i ≡ true → doneAt later i ≡ true) where
+  all-done-later : (is : List ℕ) → allDone es is ≡ true → allDone later is ≡ true
+  unfolding allDone
+  all-done-later [] h = refl
+  all-done-later (i ∷ is) h = rw (stays i (and-left _ _ h), all-done-later is (and-right (doneAt es i) _ h))
+
+  pub settled-later : (e : Entry) → settled es e ≡ true → settled later e ≡ true
+  settled-later e h = split (eqb (e .kept .value) 0) (λ p. rw p) (λ p. rw p (all-done-later (kids (e .node)) (rw p at h)))
+
+new-kept : (readings : ℕ) (n : Node) (es : List Entry) → (settled es (newEntry n) && keptRight readings (newEntry n)) ≡ true
+unfolding keptRight namesRight
+new-kept readings n es = refl
+
+-- THE LAW: a right entry that is new and awaits two names at most keeps the cache well-formed.
+module _ (m : Memory) (n : Node) (f : fits m ≡ true) (w : Well m) (room : entryCount m < 512) where
+  abbrev k : ℕ
+  k = entryCount m
+
+  abbrev held : List Node
+  held = numbered (nodeAt (m .links) (m .cells)) 0 k
+
+  abbrev old : List Entry
+  old = entriesFrom (m .links) (m .cells) 0 k
+
+  abbrev ls : List ℕ
+  ls = linksWith (m .links) k n
+
+  abbrev cs : List ℕ
+  cs = cellsWith (m .cells) k (n .key)
+
+  node-old : (i : ℕ) → i < k → nodeAt ls cs i ≡ nodeAt (m .links) (m .cells) i
+  node-old i h = ap (λ (e : Entry). e .node) (entry-old (m .links) (m .cells) k n i h)
+
+  last-entry : entryAt ls cs k ≡ newEntry n
+  last-entry = let u = whole-is m f in entry-new (m .links) (m .cells) k n (omega arith) (omega arith)
+
+  node-new : nodeAt ls cs k ≡ n
+  node-new = ap (λ (e : Entry). e .node) last-entry
+
+  nodes-more : numbered (nodeAt ls cs) 0 (suc k) ≡ held ++ (n ∷ [])
+  nodes-more =
+      numbered-last (nodeAt ls cs) k
+      ∙ rw (numbered-agree (nodeAt ls cs) (nodeAt (m .links) (m .cells)) 0 k (λ j l. node-old j (omega arith)), node-new)
+
+  all-entries : entriesFrom ls cs 0 (suc k) ≡ entriesFrom (m .links) (m .cells) 0 k ++ (newEntry n ∷ [])
+  all-entries = let u = whole-is m f in entries-more (m .links) (m .cells) k n (omega arith) (omega arith)
+
+  right-more : nodeRight k n ≡ true → (i : ℕ) → i < suc k → nodeRight i (nodeAt ls cs i) ≡ true
+  right-more r i l =
+      elim (decLt i k) [
+        | yes less ↦ rw (node-old i less) (w .right i less)
+        | no most ↦ let q : i ≡ k = omega arith in rw q (rw node-new r)
+      ]
+
+  kept-more : (i : ℕ) → i < suc k → keptOk ls cs (suc k) (readingCount m) i ≡ true
+  unfolding keptOk
+  kept-more i l =
+      subst (λ (es : List Entry). (settled es (entryAt ls cs i) && keptRight (readingCount m) (entryAt ls cs i)) ≡ true) (sym all-entries)
+      (elim (decLt i k) [
+        | yes less ↦
+            let h = w .kept i less in
+            subst (λ (e : Entry). (settled (old ++ (newEntry n ∷ [])) e && keptRight (readingCount m) e) ≡ true) (sym (entry-old (m .links) (m .cells) k n i less))
+            (and-true _ _
+            (settled-later old (old ++ (newEntry n ∷ [])) (done-more old (newEntry n)) (entryAt (m .links) (m .cells) i) (and-left _ _ h))
+            (and-right (settled old (entryAt (m .links) (m .cells) i)) _ h))
+        | no most ↦
+            let q : i ≡ k = omega arith in
+            subst (λ (e : Entry). (settled (old ++ (newEntry n ∷ [])) e && keptRight (readingCount m) e) ≡ true) (sym (ap (entryAt ls cs) q ∙ last-entry))
+            (new-kept (readingCount m) n (old ++ (newEntry n ∷ [])))
+      ])
+
+  module _ (r : nodeRight k n ≡ true) (u : hasNode n held ≡ false) (a : length (awaitedBy (awaitedAfter [] held) n) ≤ 2) where
+    few-more : awaitsFew (held ++ (n ∷ [])) ≡ true
+    few-more = rw (after-snoc (nodeAt ls cs) [] held n) (every-snoc (λ (x : List ℕ). leb (length x) 2) 0 (awaitedAfter [] held) (awaitedBy (awaitedAfter [] held) n) (w .names) (le-leb _ _ a))
+
+    pub append-well : wellFormed (append m n) ≡ true
+    unfolding append linksWith cellsWith
+    append-well =
+        let c = append-count m n f in
+        let d = append-readings m n f in
+        well-from (append m n)
+        record {
+          few = rw c (omega arith);
+          readings = rw d (w .readings);
+          right = λ i l. right-more r i (rw c at l);
+          apart = rw c (ap distinct nodes-more ∙ distinct-snoc n held ∙ rw (w .apart, u));
+          names = rw c (ap (λ (ns : List Node). awaitsFew ns) nodes-more ∙ few-more);
+          kept = λ i l. rw (c, d) (kept-more i (rw c at l));
+        }

@@ -1,0 +1,296 @@
+-- Binding in the call's frame is binding by the definition. Assumes nothing.
+use mathlib.Core.Path.{_≡_, refl, sym, ap, _∙_}
+use mathlib.Core.Bool.{true, cond}
+use mathlib.Core.List.{List, [], _∷_, _++_}
+use Prim.Native.Nat.{ℕ, zero, suc, _+_, _-_, _*_, _/_, _%_, _≤_, _<_}
+use native.Mathlib.Decide.{decLt}
+use native.Mathlib.Nat.{sub-zero}
+use native.Mathlib.Numerals.{add-one}
+use native.Mathlib.Omega.{arith}
+use borrow.Author.Tests.{eq-eqb, ne-eqb, lt-ltb, le-ltb}
+use lib.Dec.{eqb, ltb}
+use lib.ListN.{length, getD, set, take, drop, length-set, List·getD-eq-default}
+use lib.Seq.{getD-set-same, getD-set-other, getD-take, take-suc-set, length-take-le, drop-at}
+use Rattle.table.specs.Memory.{Node, nodeAt}
+use Rattle.table.specs.WellFormed.{distinct}
+use Rattle.table.specs.Bind.{find, relinked, relink, Bound, bindOne, bindAll}
+use Rattle.table.specs.Right.{node, numbered}
+use Rattle.table.specs.RightLaws.{left-suc}
+use Rattle.table.specs.Held.{shaped, wordOf, freshAt, heldAt, withFresh}
+use Rattle.table.specs.Chain.{hashOf, lastSame, Chained, linked}
+use Rattle.table.specs.ChainLaws.{numbered-zero, numbered-last, numbered-agree, length-numbered, distinct-snoc, has-last, last-le, find-last, hash-low, chained-more, chained-agree, held-front}
+use Rattle.binder.specs.Records.{recordAt, bound, boundNow, Ready, BoundOne, BoundAll}
+use Rattle.table.specs.declared.nodes.Shape.{Shape}
+
+-- the words of a node that waits, taken apart again
+word-kind : (k f s : ℕ) → k < 32 → f < 1024 → s < 1024 → wordOf k f s % 32 ≡ k
+word-kind k f s hk hf hs = omega arith
+
+word-first : (k f s : ℕ) → k < 32 → f < 1024 → s < 1024 → wordOf k f s / 32 % 1024 ≡ f
+word-first k f s hk hf hs = omega arith
+
+word-second : (k f s : ℕ) → k < 32 → f < 1024 → s < 1024 → wordOf k f s / 32768 % 1024 ≡ s
+word-second k f s hk hf hs = omega arith
+
+-- nodes that wait
+module _ (fresh : List ℕ) (i : ℕ) (n : Node) where
+  pub fresh-same : n .kind < 32 → n .first < 1024 → n .second < 1024 → 2 * i + 1 < length fresh → freshAt (withFresh fresh i n) i ≡ n
+  unfolding freshAt withFresh
+  fresh-same hk hf hs l =
+      let y = length-set fresh (2 * i) (wordOf (n .kind) (n .first) (n .second)) in
+      rw (
+        getD-set-other (set fresh (2 * i) (wordOf (n .kind) (n .first) (n .second))) (2 * i + 1) (2 * i) (n .key) 0 (λ e. omega arith),
+        getD-set-same (set fresh (2 * i) (wordOf (n .kind) (n .first) (n .second))) (2 * i + 1) (n .key) 0 (omega arith),
+        getD-set-same fresh (2 * i) (wordOf (n .kind) (n .first) (n .second)) 0 (omega arith),
+        word-kind (n .kind) (n .first) (n .second) hk hf hs,
+        word-first (n .kind) (n .first) (n .second) hk hf hs,
+        word-second (n .kind) (n .first) (n .second) hk hf hs,
+      )
+
+  pub fresh-other : (j : ℕ) → (j ≡ i → ⊥) → freshAt (withFresh fresh i n) j ≡ freshAt fresh j
+  unfolding freshAt withFresh
+  fresh-other j u =
+      rw (
+        getD-set-other (set fresh (2 * i) (wordOf (n .kind) (n .first) (n .second))) (2 * i + 1) (2 * j) (n .key) 0 (λ e. u (omega arith)),
+        getD-set-other (set fresh (2 * i) (wordOf (n .kind) (n .first) (n .second))) (2 * i + 1) (2 * j + 1) (n .key) 0 (λ e. u (omega arith)),
+        getD-set-other fresh (2 * i) (2 * j) (wordOf (n .kind) (n .first) (n .second)) 0 (λ e. u (omega arith)),
+        getD-set-other fresh (2 * i) (2 * j + 1) (wordOf (n .kind) (n .first) (n .second)) 0 (λ e. u (omega arith)),
+      )
+
+pub fresh-size : (fresh : List ℕ) (i : ℕ) (n : Node) → length (withFresh fresh i n) ≡ length fresh
+unfolding withFresh
+fresh-size fresh i n = simp length-set
+
+module _ (links cells : List ℕ) (count : ℕ) where
+  held-back : (fresh : List ℕ) (j : ℕ) → count ≤ j → heldAt links cells count fresh j ≡ freshAt fresh (j - count)
+  unfolding heldAt
+  held-back fresh j h = rw (le-ltb j count h)
+
+  held-same : (fresh : List ℕ) (total : ℕ) (n : Node) (j : ℕ) → count ≤ total → j < total → heldAt links cells count fresh j ≡ heldAt links cells count (withFresh fresh (total - count) n) j
+  held-same fresh total n j h l =
+      elim (decLt j count) [
+        | yes less ↦ held-front links cells count fresh j less ∙ sym (held-front links cells count (withFresh fresh (total - count) n) j less)
+        | no most ↦
+            held-back fresh j (omega arith) ∙ sym (fresh-other fresh (total - count) n (j - count) (λ e. omega arith)) ∙ sym (held-back (withFresh fresh (total - count) n) j (omega arith))
+      ]
+
+-- The code's steps.
+module _ (numbers : List ℕ) (r link : ℕ) where
+  pub link-none : link ≡ 0 → 0 ≡ relinked (take r numbers) link
+  link-none e = rw e
+
+  relinked-at : (j : ℕ) → link ≡ suc j → relinked (take r numbers) link ≡ suc (getD (take r numbers) j 0)
+  relinked-at j e = rw e
+
+  pub link-known : (link ≡ 0 → ⊥) → link ≤ r → getD numbers (link - 1) 0 + 1 ≡ relinked (take r numbers) link
+  link-known u h =
+      let z : link ≡ suc (link - 1) = omega arith in
+      let g = getD-take r numbers (link - 1) 0 (omega arith) in
+      sym (relinked-at (link - 1) z ∙ omega arith)
+
+  pub link-late : r < link → r ≤ 128 → length numbers ≡ 128 → 1 ≡ relinked (take r numbers) link
+  link-late h k e =
+      let z : link ≡ suc (link - 1) = omega arith in
+      let l = length-take-le r numbers (omega arith) in
+      let g = List·getD-eq-default (take r numbers) 0 {n = link - 1} (omega arith) in
+      sym (relinked-at (link - 1) z ∙ omega arith)
+
+pub record-is : (records : List ℕ) (r word kind key first second : ℕ) → kind ≡ word % 32 → key ≡ getD records (2 * r + 1) 0 → first ≡ word / 32 % 256
+    → second ≡ word / 8192 % 256 → word ≡ getD records (2 * r) 0 → node kind key first second ≡ recordAt records r
+unfolding recordAt
+record-is records r word kind key first second k y f s w = rw (k, y, f, s, w)
+
+pub relink-is : (numbers : List ℕ) (r : ℕ) (n : Node) (x : Shape) (first second : ℕ) → first ≡ relinked (take r numbers) (x .first) → second ≡ relinked (take r numbers) (x .second)
+    → shaped x ≡ n → node (x .kind) (x .key) first second ≡ relink (take r numbers) n
+unfolding relink
+relink-is numbers r n x first second p q e = rw (← e, p, q)
+
+-- links of bound records are small
+relinked-low : (numbers : List ℕ) (r link : ℕ) → ((j : ℕ) → j < r → getD numbers j 0 < 640) → r ≤ 128 → length numbers ≡ 128 → relinked (take r numbers) link < 1024
+relinked-low numbers r zero h k e = omega arith
+relinked-low numbers r (suc j) h k e =
+    elim (decLt j r) [
+      | yes less ↦ let g = getD-take r numbers j 0 less in let b = h j less in omega arith
+      | no most ↦
+          let l = length-take-le r numbers (omega arith) in
+          let g = List·getD-eq-default (take r numbers) 0 {n = j} (omega arith) in
+          omega arith
+    ]
+
+known-more : (numbers : List ℕ) (r v : ℕ) → ((j : ℕ) → j < r → getD numbers j 0 < 640) → v < 640 → length numbers ≡ 128 → r < 128 → (j : ℕ) → j < r + 1 → getD (set numbers r v) j 0 < 640
+known-more numbers r v h l e k j m =
+    elim (decLt j r) [
+      | yes less ↦ let g = getD-set-other numbers r j v 0 (λ q. omega arith) in let b = h j less in omega arith
+      | no most ↦ let q : j ≡ r = omega arith in let g = getD-set-same numbers r v 0 (omega arith) in rw q (omega arith)
+    ]
+
+module _ (links cells : List ℕ) (count total : ℕ) (records : List ℕ) (r : ℕ) (numbers fresh chain : List ℕ)
+    (ready : Ready links cells count total r numbers fresh chain) (few : r < 128)
+    (m : Node) (qm : m ≡ relink (take r numbers) (recordAt records r))
+    (c : ℕ) (qc : c ≡ lastSame (heldAt links cells count fresh) m total) where
+  abbrev ν : ℕ → Node
+  ν = heldAt links cells count fresh
+
+  abbrev ns : List Node
+  ns = numbered ν 0 total
+
+  -- the number that the definition finds
+  found : find ns m ≡ cond (eqb c 0) total (c - 1)
+  found = find-last ν m total (ready .apart) ∙ rw (← qc)
+
+  bind-as : bindOne (boundNow links cells count total r numbers fresh) (recordAt records r)
+      ≡ bound (cond (ltb (cond (eqb c 0) total (c - 1)) total) ns (ns ++ (m ∷ []))) (take r numbers ++ (cond (eqb c 0) total (c - 1) ∷ []))
+  unfolding bindOne
+  bind-as = rw (← qm) (rw (found, length-numbered ν 0 total))
+
+  numbers-more : (v : ℕ) → take (r + 1) (set numbers r v) ≡ take r numbers ++ (v ∷ [])
+  numbers-more v = let z = ready .places in rw (add-one r) (take-suc-set numbers r v (omega arith))
+
+  pub bound-old : 0 < c → BoundOne links cells count total records r numbers fresh total (set numbers r (c - 1)) fresh chain
+  bound-old h =
+      let l : c ≤ total = (let b = last-le ν m total in omega arith) in
+      let a = ready .low in
+      let b = ready .high in
+      let d = ready .few in
+      record {
+        is = rw (numbers-more (c - 1)) (sym (bind-as ∙ rw (ne-eqb c 0 (λ e. omega arith)) (rw (lt-ltb (c - 1) total (omega arith)))));
+        ready = record {
+          few = d;
+          low = a;
+          high = omega arith;
+          places = length-set numbers r (c - 1) ∙ ready .places;
+          room = ready .room;
+          chained = ready .chained;
+          apart = ready .apart;
+          known = known-more numbers r (c - 1) (ready .known) (omega arith) (ready .places) few;
+        };
+      }
+
+  kind-low : m .kind < 32
+  unfolding relink recordAt
+  kind-low = rw qm (omega arith)
+
+  first-low : m .first < 1024
+  unfolding relink
+  first-low = rw qm (relinked-low numbers r (recordAt records r .first) (ready .known) (omega arith) (ready .places))
+
+  second-low : m .second < 1024
+  unfolding relink
+  second-low = rw qm (relinked-low numbers r (recordAt records r .second) (ready .known) (omega arith) (ready .places))
+
+  pub bound-new : (h : ℕ) (fresh′ chain′ : List ℕ) → c ≤ 0 → h ≡ hashOf m → fresh′ ≡ withFresh fresh (total - count) m → chain′ ≡ linked chain h total
+      → BoundOne links cells count total records r numbers fresh (total + 1) (set numbers r total) fresh′ chain′
+  bound-new h fresh′ chain′ z qh qf qg =
+      let a = ready .low in
+      let b = ready .high in
+      let d = ready .few in
+      let y = ready .room in
+      let last : heldAt links cells count fresh′ total ≡ m =
+      held-back links cells count fresh′ total a ∙ ap (λ (f : List ℕ). freshAt f (total - count)) qf ∙ fresh-same fresh (total - count) m kind-low first-low second-low (omega arith) in
+      let old : (j : ℕ) → j < total → ν j ≡ heldAt links cells count fresh′ j =
+      λ j l. held-same links cells count fresh total m j a l ∙ ap (λ (f : List ℕ). heldAt links cells count f j) (sym qf) in
+      let more : numbered (heldAt links cells count fresh′) 0 (total + 1) ≡ ns ++ (m ∷ []) =
+      ap (numbered (heldAt links cells count fresh′) 0) (add-one total) ∙ numbered-last (heldAt links cells count fresh′) total
+      ∙ ap (λ (l : List Node). l ++ (heldAt links cells count fresh′ total ∷ [])) (sym (numbered-agree ν (heldAt links cells count fresh′) 0 total (λ j l. old j (omega arith))))
+      ∙ ap (λ (x : Node). ns ++ (x ∷ [])) last in
+      let none : eqb c 0 ≡ true = eq-eqb c 0 (omega arith) in
+      record {
+        is = rw (more, numbers-more total) (sym (bind-as ∙ rw none (rw (le-ltb total total (omega arith)))));
+        ready = record {
+          few = d;
+          low = omega arith;
+          high = omega arith;
+          places = length-set numbers r total ∙ ready .places;
+          room = ap length qf ∙ fresh-length ∙ y;
+          chained = chained-more (heldAt links cells count fresh′) chain chain′ total h (chained-agree ν (heldAt links cells count fresh′) chain total (ready .chained) old) qg (qh ∙ ap hashOf (sym last)) (hash-low h m qh) (omega arith);
+          apart = ap distinct more ∙ distinct-snoc m ns ∙ rw (ready .apart, has-last ν m total, ← qc) (rw none);
+          known = known-more numbers r total (ready .known) (omega arith) (ready .places) few;
+        };
+      }
+    where
+      fresh-length : length (withFresh fresh (total - count) m) ≡ length fresh
+      fresh-length = fresh-size fresh (total - count) m
+
+bind-none : (b : Bound) → bindAll b [] ≡ b
+unfolding bindAll
+bind-none b = refl
+
+-- the loop over the records
+module _ (links cells : List ℕ) (count : ℕ) (records : List ℕ) (n : ℕ) where
+  abbrev whole : Bound
+  whole = bindAll (bound (numbered (nodeAt links cells) 0 count) []) (numbered (recordAt records) 0 n)
+
+  same-start : (fresh : List ℕ) → numbered (heldAt links cells count fresh) 0 count ≡ numbered (nodeAt links cells) 0 count
+  same-start fresh = numbered-agree (heldAt links cells count fresh) (nodeAt links cells) 0 count (λ j l. held-front links cells count fresh j (omega arith))
+
+  pub ready-start : (numbers fresh chain : List ℕ) → count ≤ 512 → length numbers ≡ 128 → length fresh ≡ 256 → Chained (heldAt links cells count fresh) chain count
+      → distinct (numbered (nodeAt links cells) 0 count) ≡ true → Ready links cells count count 0 numbers fresh chain
+  ready-start numbers fresh chain h p q ch d =
+      record { few = h; low = omega arith; high = omega arith; places = p; room = q; chained = ch; apart = rw (same-start fresh) d; known = λ j l. absurd (omega arith) }
+
+  pub bind-start : (numbers fresh : List ℕ) → bindAll (boundNow links cells count count 0 numbers fresh) (numbered (recordAt records) 0 (n - 0)) ≡ whole
+  bind-start numbers fresh = rw (sub-zero, same-start fresh)
+
+  module _ (total r : ℕ) (numbers fresh chain : List ℕ)
+      (all : bindAll (boundNow links cells count total r numbers fresh) (numbered (recordAt records) r (n - r)) ≡ whole) where
+    pub bind-go : (total′ : ℕ) (numbers′ fresh′ chain′ : List ℕ) → BoundOne links cells count total records r numbers fresh total′ numbers′ fresh′ chain′ → r < n
+        → bindAll (boundNow links cells count total′ (r + 1) numbers′ fresh′) (numbered (recordAt records) (r + 1) (n - (r + 1))) ≡ whole
+    unfolding bindAll numbered
+    bind-go total′ numbers′ fresh′ chain′ b h = rw (b .is) (sym (rw (left-suc n r h, add-one r)) ∙ all)
+
+    pub bind-end : Ready links cells count total r numbers fresh chain → r ≤ n → n ≤ r → BoundAll links cells count records n total numbers fresh
+    bind-end ready h k =
+        let q : r ≡ n = omega arith in
+        let a = ready .high in
+        record { is = ap (λ (k : ℕ). boundNow links cells count total k numbers fresh) (sym q) ∙ done ∙ all; low = ready .low; high = omega arith; places = ready .places; room = ready .room }
+      where
+        no-more : (b : Bound) (k : ℕ) → k ≡ 0 → bindAll b (numbered (recordAt records) r k) ≡ b
+        no-more b k e = rw (e, numbered-zero (recordAt records) r) (bind-none b)
+
+        done : boundNow links cells count total r numbers fresh ≡ bindAll (boundNow links cells count total r numbers fresh) (numbered (recordAt records) r (n - r))
+        done = sym (no-more (boundNow links cells count total r numbers fresh) (n - r) (omega arith))
+
+-- what binding leaves: the entries held, then those that wait; their number; and the numbers of the records
+numbered-split : (ν μ : ℕ → Node) (i c k : ℕ) → ((j : ℕ) → ν (i + c + j) ≡ μ j) → numbered ν i (c + k) ≡ numbered ν i c ++ numbered μ 0 k
+unfolding numbered
+numbered-split ν μ i zero k h = let z : 0 + k ≡ k = omega arith in rw z (shift i 0 k (λ j. let q : i + j ≡ i + 0 + j = omega arith in let z : 0 + j ≡ j = omega arith in rw (q, z) (h j)))
+  where
+    shift : (a b k : ℕ) → ((j : ℕ) → ν (a + j) ≡ μ (b + j)) → numbered ν a k ≡ numbered μ b k
+    shift a b zero g = refl
+    shift a b (suc k) g =
+        let p : a + 0 ≡ a = omega arith in
+        let q : b + 0 ≡ b = omega arith in
+        rw (rw (p, q) at (g 0), shift (suc a) (suc b) k (λ j. let u : suc a + j ≡ a + suc j = omega arith in let v : suc b + j ≡ b + suc j = omega arith in rw (u, v) (g (suc j))))
+numbered-split ν μ i (suc c) k h =
+    let z : suc c + k ≡ suc (c + k) = omega arith in
+    rw z (ap (λ (l : List Node). ν i ∷ l) (numbered-split ν μ (suc i) c k (λ j. let q : suc i + c + j ≡ i + suc c + j = omega arith in rw q (h j))))
+
+module _ (links cells : List ℕ) (count : ℕ) (records : List ℕ) (n total : ℕ) (numbers fresh : List ℕ) (all : BoundAll links cells count records n total numbers fresh) where
+  abbrev after : Bound
+  after = bindAll (bound (numbered (nodeAt links cells) 0 count) []) (numbered (recordAt records) 0 n)
+
+  pub bound-nodes : after .nodes ≡ numbered (nodeAt links cells) 0 count ++ numbered (freshAt fresh) 0 (total - count)
+  bound-nodes =
+      let l = all .low in
+      let z : count + (total - count) ≡ total = omega arith in
+      sym (ap (λ (b : Bound). b .nodes) (all .is)) ∙ ap (numbered (heldAt links cells count fresh) 0) (sym z)
+      ∙ numbered-split (heldAt links cells count fresh) (freshAt fresh) 0 count (total - count)
+      (λ j. let q : 0 + count + j - count ≡ j = omega arith in held-back links cells count fresh (0 + count + j) (omega arith) ∙ ap (freshAt fresh) q)
+      ∙ ap (λ (ns : List Node). ns ++ numbered (freshAt fresh) 0 (total - count)) (numbered-agree (heldAt links cells count fresh) (nodeAt links cells) 0 count (λ j m. held-front links cells count fresh j (omega arith)))
+
+  -- exactly the new entries wait
+  pub bound-waits : numbered (freshAt fresh) 0 (total - count) ≡ drop count (after .nodes)
+  bound-waits = sym (ap (drop count) bound-nodes ∙ drop-at (numbered (nodeAt links cells) 0 count) (numbered (freshAt fresh) 0 (total - count)) count (length-numbered (nodeAt links cells) 0 count))
+
+  pub bound-numbers : take n numbers ≡ after .numbers
+  bound-numbers = ap (λ (b : Bound). b .numbers) (all .is)
+
+  -- 01, refusal 13, by the definition
+  pub bound-total : total ≡ length (after .nodes)
+  bound-total = sym (length-numbered (heldAt links cells count fresh) 0 total) ∙ ap (λ (b : Bound). length (b .nodes)) (all .is)
+
+pub ready-next : (links cells : List ℕ) (count total : ℕ) (records : List ℕ) (r : ℕ) (numbers fresh : List ℕ) (total′ : ℕ) (numbers′ fresh′ chain′ : List ℕ)
+    → BoundOne links cells count total records r numbers fresh total′ numbers′ fresh′ chain′ → Ready links cells count total′ (r + 1) numbers′ fresh′ chain′
+ready-next links cells count total records r numbers fresh total′ numbers′ fresh′ chain′ b = b .ready
+
+pub ruleset binding = (link-none, link-known, link-late, record-is, relink-is, bound-old, bound-new, ready-start, bind-start, bind-go, bind-end, ready-next)

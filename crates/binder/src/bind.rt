@@ -1,0 +1,135 @@
+// 01, "Binding": a text's records are bound to entries one by one, found or appended, in the call's own frame. No lent cell is written.
+// A record is two words: its kind and its links to earlier records, each 0 or one more than the record's number; and its key.
+use table::cells::at64;
+use table::chain::enter;
+use table::chain::enter_all;
+use table::chain::hash;
+use table::chain::seek;
+use table::nodes::Shape;
+use table::nodes::add_fresh;
+use language::limits::Table;
+ghost use mathlib.Core.Path.{_≡_};
+ghost use mathlib.Core.Bool.{true};
+ghost use Prim.Native.Nat.{ℕ, _≤_, _<_};
+ghost use lib.ListN.{length, getD, take};
+ghost use Rattle.table.specs.Memory.{nodeAt};
+ghost use Rattle.table.specs.WellFormed.{distinct};
+ghost use Rattle.table.specs.Bind.{relinked, relink};
+ghost use Rattle.table.specs.Right.{numbered};
+ghost use Rattle.table.specs.Held.{shaped};
+ghost use Rattle.binder.specs.Records.{recordAt, Ready, BoundOne, BoundAll, isFull};
+
+// The record of number r.
+fn record_at(records: &[u64], r: u16) -> Shape
+    ensures { λ x. ⌜ shaped x ≡ recordAt (now (records .entry)) r ⌝ }
+{
+    let at = r as usize;
+    let word = at64(records, 2 * at);
+    Shape {
+        kind: (word % 32) as u16,
+        key: at64(records, 2 * at + 1),
+        first: (word / 32 % 256) as u16,
+        second: (word / 8192 % 256) as u16,
+    }
+}
+
+// A link to a record, as a link to the record's entry. The first r records have their numbers.
+fn relinked(numbers: &[u16; 128], r: u16, link: u16) -> u16
+    requires { ⌜ (r ≤ 128) × (length (now numbers) ≡ 128) ⌝ }
+    requires { ⌜ ((j : ℕ) → j < r → getD (now numbers) j 0 < 640) ⌝ }
+    ensures { λ x. ⌜ x ≡ relinked (take r (now (numbers .entry))) link ⌝ }
+{
+    if link == 0 {
+        return 0;
+    }
+    if link <= r {
+        return numbers[(link - 1) as usize] + 1;
+    }
+    1
+}
+
+// Record r, its links those of entries.
+fn relink(records: &[u64; 256], numbers: &[u16; 128], r: u16) -> Shape
+    requires { ⌜ (r ≤ 128) × (length (now numbers) ≡ 128) ⌝ }
+    requires { ⌜ ((j : ℕ) → j < r → getD (now numbers) j 0 < 640) ⌝ }
+    ensures { λ x. ⌜ shaped x ≡ relink (take r (now (numbers .entry))) (recordAt (now (records .entry)) r) ⌝ }
+{
+    let x = record_at(records, r);
+    Shape {
+        kind: x.kind,
+        key: x.key,
+        first: relinked(numbers, r, x.first),
+        second: relinked(numbers, r, x.second),
+    }
+}
+
+// Record r is bound: found, or put behind the entries that wait. The answer is how many entries there are then.
+fn bind_one(
+    links: &[u16],
+    cells: &[u64],
+    count: u16,
+    total: u16,
+    records: &[u64; 256],
+    r: u16,
+    numbers: &mut [u16; 128],
+    fresh: &mut [u64; 256],
+    chain: &mut [u16; 1152],
+) -> u16
+    requires { ⌜ Ready (now links) (now cells) count total r (now numbers) (now fresh) (now chain) ⌝ }
+    requires { ⌜ r < 128 ⌝ }
+    ensures { λ t. ⌜ BoundOne (now (links .entry)) (now (cells .entry)) count total (now (records .entry)) r (now (numbers .entry)) (now (fresh .entry)) t (now (numbers .exit)) (now (fresh .exit)) (now (chain .exit)) ⌝ }
+{
+    let x = relink(records, numbers, r);
+    let h = hash(x);
+    let c = seek(links, cells, count, fresh, chain, total, h, x);
+    if 0 < c {
+        numbers[r as usize] = c - 1;
+        return total;
+    }
+    add_fresh(fresh, total - count, x);
+    enter(chain, h, total);
+    numbers[r as usize] = total;
+    total + 1
+}
+
+// The n records are bound: each has its entry's number, the entries to append wait, and the answer is how many entries there are then.
+pub fn bind(
+    links: &[u16],
+    cells: &[u64],
+    count: u16,
+    records: &[u64; 256],
+    n: u16,
+    numbers: &mut [u16; 128],
+    fresh: &mut [u64; 256],
+) -> u16
+    requires { ⌜ (count ≤ 512) × (n ≤ 128) × (length (now numbers) ≡ 128) × (length (now fresh) ≡ 256) ⌝ }
+    requires { ⌜ distinct (numbered (nodeAt (now links) (now cells)) 0 count) ≡ true ⌝ }
+    ensures { λ t. ⌜ BoundAll (now (links .entry)) (now (cells .entry)) count (now (records .entry)) n t (now (numbers .exit)) (now (fresh .exit)) ⌝ }
+{
+    let mut chain = [0u16; 1152];
+    enter_all(links, cells, count, fresh, &mut chain);
+    let mut total = count;
+    let mut r: u16 = 0;
+    while r < n {
+        total = bind_one(
+            links,
+            cells,
+            count,
+            total,
+            records,
+            r,
+            numbers,
+            fresh,
+            &mut chain,
+        );
+        r += 1;
+    }
+    total
+}
+
+// 01, refusal 13: more entries than a table has.
+pub fn is_full(total: u16) -> bool
+    ensures { λ r. ⌜ r ≡ isFull total ⌝ }
+{
+    Table::ENTRIES < total as usize
+}

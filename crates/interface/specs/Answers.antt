@@ -1,0 +1,75 @@
+-- 01's number and values of each case of the enums that the calls answer, and of what is shown. Assumes nothing: these are definitions.
+use mathlib.Core.Bool.{Bool, true, false, cond}
+use mathlib.Core.List.{List, [], _∷_}
+use Prim.Native.Nat.{ℕ}
+use lib.Dec.{eqb}
+use lib.IntN.{ℤ, pos, negsuc}
+use lib.ListN.{take}
+use Rattle.meaning.specs.Evaluation.{Shown, aNumber, aWindow, aFunction, aDelay, aReason}
+use Rattle.model.specs.Model.{Answer, refused, opened, edited, notYet, finished}
+use Rattle.formulas.specs.Formulas.{formulas}
+use Rattle.scheduler.specs.declared.works.View.{View}
+use Rattle.interface.specs.declared.answers.Opened.{Opened}
+use Rattle.interface.specs.declared.answers.Opened.the-variants as O
+use Rattle.interface.specs.declared.answers.Edited.{Edited}
+use Rattle.interface.specs.declared.answers.Edited.the-variants as E
+use Rattle.interface.specs.declared.answers.Previewed.{Previewed}
+use Rattle.interface.specs.declared.answers.Previewed.the-variants as P
+use Rattle.interface.specs.declared.answers.EditAnswer.{EditAnswer}
+use Rattle.interface.specs.declared.answers.PreviewAnswer.{PreviewAnswer}
+
+-- the answers of the reference model
+abbrev pub Reply : Type 0
+Reply = Answer formulas
+
+abbrev pub openReply : Opened → Reply
+openReply O.Done = opened
+openReply (O.Refused n) = refused n 0
+
+-- an accepted edit has written each part's number to the lent places
+abbrev pub editReply : Edited → (places : List ℕ) → Reply
+editReply (E.Done whole parts added) places = edited whole parts added (take parts places)
+editReply (E.Refused n at) places = refused n at
+
+-- what is shown: 1 a number, 2 a window, 3 a function, 4 a delay with its names up to the first that is 0, 5 a reason
+abbrev pub pickShown : Bool → Shown → Shown → Shown
+pickShown true a b = a
+pickShown false a b = b
+
+abbrev pub namesOf : ℕ → ℕ → List ℕ
+namesOf name other = cond (eqb name 0) [] (cond (eqb other 0) (name ∷ []) (name ∷ other ∷ []))
+
+-- a start or a reason; a negative number is none of them, and stands for one that is never shown
+abbrev pub natural : ℤ → ℕ
+natural (pos n) = n
+natural (negsuc n) = 4294967296
+
+-- any other kind is that of no value: there is no reason 0
+unfoldable pub shownOf : View → Shown
+shownOf v =
+    pickShown (eqb (v .kind) 1) (aNumber (v .first))
+    (pickShown (eqb (v .kind) 2) (aWindow (natural (v .first)) (v .second))
+    (pickShown (eqb (v .kind) 3) (aFunction (v .name))
+    (pickShown (eqb (v .kind) 4) (aDelay (namesOf (v .name) (v .other)))
+    (pickShown (eqb (v .kind) 5) (aReason (natural (v .first)))
+    (aReason 0)))))
+
+abbrev pub previewReply : Previewed → Reply
+previewReply (P.NotYet k) = notYet k
+previewReply (P.Finished k v) = finished k (shownOf v)
+previewReply (P.Refused n) = refused n 0
+
+-- the answers as plain numbers, for callers in C: a refusal's number, 0 for an accepted call, and then its values
+abbrev pub openNumber : Opened → ℕ
+openNumber O.Done = 0
+openNumber (O.Refused n) = n
+
+abbrev pub editNumbers : Edited → EditAnswer
+editNumbers (E.Done whole parts added) = record { refusal = 0; place = 0; whole = whole; parts = parts; added = added }
+editNumbers (E.Refused n at) = record { refusal = n; place = at; whole = 0; parts = 0; added = 0 }
+
+abbrev pub previewNumbers : Previewed → PreviewAnswer
+previewNumbers (P.NotYet k) = record { refusal = 0; finished = 0; worked = k; kind = 0; first = pos 0; second = 0; name = 0; other = 0 }
+previewNumbers (P.Finished k v) =
+    record { refusal = 0; finished = 1; worked = k; kind = v .kind; first = v .first; second = v .second; name = v .name; other = v .other }
+previewNumbers (P.Refused n) = record { refusal = n; finished = 0; worked = 0; kind = 0; first = pos 0; second = 0; name = 0; other = 0 }

@@ -1,0 +1,143 @@
+-- 01, "Four calls" and "When a call is declined": what open, edit and preview answer and what they leave in the lent memory, and what fetch
+-- hands out, for every text, recording, number and memory. Assumes nothing: these are definitions.
+use mathlib.Core.Bool.{Bool, true, false, cond, not, _&&_, _||_}
+use mathlib.Core.List.{List, [], _++_, map}
+use Prim.Native.Nat.{ℕ, _-_}
+use lib.Dec.{leb, ltb}
+use lib.IntN.{ℤ}
+use lib.ListN.{length, getD, set, take, drop}
+use Rattle.language.specs.Limits.{textBytes, textParts, tableEntries, tableReadings}
+use Rattle.grammar.specs.Reading.{Reading, tree, refused as refusedAt}
+use Rattle.grammar.specs.Machine.{readText}
+use Rattle.records.specs.Records.{Recorded, recordsOf}
+use Rattle.model.specs.Model.{refused, opened, edited, written}
+use Rattle.formulas.specs.Formulas.{formulas}
+use Rattle.values.specs.declared.Value.{Value}
+use Rattle.values.specs.declared.Value.the-variants.{Number, Window, Function, Delayed, Missing}
+use Rattle.values.specs.Packing.{unpackOf}
+use Rattle.table.specs.Memory.{Memory, fits, entryCount, readingCount, recordingOf, entriesOf, nodesOf}
+use Rattle.table.specs.WellFormed.{doneAt, wellFormed}
+use Rattle.table.specs.Bind.{Bound, bindAll, appendAll}
+use Rattle.evaluator.specs.Frames.{startAt}
+use Rattle.scheduler.specs.Works.{Work, worked, showOf}
+use Rattle.interface.specs.declared.answers.Previewed.{Previewed}
+use Rattle.interface.specs.declared.answers.Previewed.the-variants.{NotYet, Finished, Refused}
+use Rattle.interface.specs.Answers.{Reply, previewReply}
+
+abbrev pub pickMemory : Bool → Memory → Memory → Memory
+pickMemory true m n = m
+pickMemory false m n = n
+
+-- Open: the counts and the recording are written, and nothing else.
+unfoldable pub openAnswer : Memory → List ℤ → Reply
+openAnswer m r = cond (ltb tableReadings (length r)) (refused 2 0) (cond (fits m) opened (refused 3 0))
+
+abbrev pub openedMemory : Memory → List ℤ → Memory
+openedMemory m r =
+    record {
+      readings = r ++ drop (length r) (m .readings);
+      heads = set (set (m .heads) 0 0) 1 (length r);
+      links = m .links;
+      cells = m .cells;
+    }
+
+unfoldable pub openMemory : Memory → List ℤ → Memory
+openMemory m r = pickMemory (not (ltb tableReadings (length r)) && fits m) (openedMemory m r) m
+
+-- Edit: the records of the text are bound to the entries held.
+abbrev pub held : Memory → Bound
+held m = record { nodes = nodesOf (entriesOf m); numbers = [] }
+
+abbrev pub boundTo : Memory → Recorded → Bound
+boundTo m R = bindAll (held m) (R .records)
+
+-- 01, refusal 13: entries held plus new forms exceed 512
+abbrev pub tooMany : Bound → Bool
+tooMany b = ltb tableEntries (length (b .nodes))
+
+abbrev pub editedAs : Memory → Recorded → Bound → Reply
+editedAs m R b =
+    cond (tooMany b) (refused 13 0)
+    (edited (getD (b .numbers) (R .root) 0) (length (R .places)) (length (b .nodes) - entryCount m) (map (λ (j : ℕ). getD (b .numbers) j 0) (R .places)))
+
+abbrev pub editedMemory : Memory → Bound → Memory
+editedMemory m b = pickMemory (tooMany b) m (appendAll m (drop (entryCount m) (b .nodes)))
+
+unfoldable pub readAnswer : Memory → Reading → Reply
+readAnswer m (refusedAt n at) = refused n at
+readAnswer m (tree e) = editedAs m (recordsOf e) (boundTo m (recordsOf e))
+
+unfoldable pub readMemory : Memory → Reading → Memory
+readMemory m (refusedAt n at) = m
+readMemory m (tree e) = editedMemory m (boundTo m (recordsOf e))
+
+-- the refusals before the text is read: 1, 3 and 4 by number
+abbrev pub declines : Memory → List ℕ → List ℕ → Bool
+declines m places text = ltb textBytes (length text) || (not (fits m && leb textParts (length places)) || not (wellFormed m))
+
+unfoldable pub editAnswer : Memory → (places text : List ℕ) → Reply
+editAnswer m places text =
+    cond (ltb textBytes (length text)) (refused 1 0)
+    (cond (not (fits m && leb textParts (length places))) (refused 3 0)
+    (cond (not (wellFormed m)) (refused 4 0)
+    (readAnswer m (readText text))))
+
+unfoldable pub editMemory : Memory → (places text : List ℕ) → Memory
+editMemory m places text = pickMemory (declines m places text) m (readMemory m (readText text))
+
+-- the first parts' places get their numbers, and the others keep their contents
+abbrev pub editPlaces : Memory → (places text : List ℕ) → List ℕ
+editPlaces m places text = written formulas (editAnswer m places text) places
+
+-- Preview: the work on entry n, up to the allowance.
+abbrev pub workOn : Memory → ℕ → ℕ → Work
+workOn m n a = worked (recordingOf m) (m .links) (m .cells) n a
+
+abbrev pub workedMemory : Memory → Work → Memory
+workedMemory m w = record { readings = m .readings; heads = m .heads; links = m .links; cells = w .cells }
+
+abbrev pub pickPreview : Bool → Previewed → Previewed → Previewed
+pickPreview true a b = a
+pickPreview false a b = b
+
+-- what the entry shows, unless some of the work is left
+abbrev pub previewedAs : Memory → ℕ → Work → Previewed
+previewedAs m n w = pickPreview (w .left) (NotYet (w .count)) (Finished (w .count) (showOf (readingCount m) (m .links) (w .cells) n))
+
+unfoldable pub previewed : Memory → (number allowance : ℕ) → Previewed
+previewed m n a =
+    pickPreview (not (fits m)) (Refused 3)
+    (pickPreview (not (wellFormed m)) (Refused 4)
+    (pickPreview (not (ltb n (entryCount m))) (Refused 14)
+    (previewedAs m n (workOn m n a))))
+
+abbrev pub previewAnswer : Memory → (number allowance : ℕ) → Reply
+previewAnswer m n a = previewReply (previewed m n a)
+
+unfoldable pub previewMemory : Memory → (number allowance : ℕ) → Memory
+previewMemory m n a = pickMemory (fits m && (wellFormed m && ltb n (entryCount m))) (workedMemory m (workOn m n a)) m
+
+-- Fetch: the part of the readings that entry n shows. For an entry not worked out, not a window or not existing, or a cache refused under 3
+-- or 4, it is the empty part at the start.
+pub record Part : Type 0 where
+  pub start : ℕ
+  pub length : ℕ
+
+abbrev pub windowIn : Value → Part
+windowIn (Window s l) = record { start = s; length = l }
+windowIn (Number z) = record { start = 0; length = 0 }
+windowIn Function = record { start = 0; length = 0 }
+windowIn Delayed = record { start = 0; length = 0 }
+windowIn (Missing r) = record { start = 0; length = 0 }
+
+abbrev pub pickPart : Bool → Part → Part → Part
+pickPart true a b = a
+pickPart false a b = b
+
+unfoldable pub partOf : Memory → ℕ → Part
+partOf m n =
+    pickPart (fits m && (wellFormed m && doneAt (entriesOf m) n)) (windowIn (unpackOf (startAt (readingCount m) (m .links) (m .cells) n)))
+    (record { start = 0; length = 0 })
+
+abbrev pub fetched : Memory → ℕ → List ℤ
+fetched m n = take (partOf m n .length) (drop (partOf m n .start) (m .readings))

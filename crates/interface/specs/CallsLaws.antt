@@ -1,0 +1,72 @@
+-- Laws of the calls' definitions: the part that fetch hands out, and what a well-formed cache keeps. Assumes nothing.
+use mathlib.Core.Path.{_≡_, refl, sym, _∙_}
+use mathlib.Core.Bool.{Bool, true, false, _&&_}
+use mathlib.Core.List.{List}
+use Prim.Native.Nat.{ℕ, _+_, _*_, _<_}
+use native.Mathlib.Omega.{arith}
+use borrow.Author.Tests.{le-leb, lt-leb, leb-false, ltb-true, ltb-false}
+use lib.Dec.{ltb, leb}
+use lib.ListN.{getD}
+use Rattle.meaning.specs.FormsLaws.{and-left, and-right}
+use Rattle.meaning.specs.EvaluationLaws.{split}
+use Rattle.model.specs.Cases.{impossible}
+use Rattle.table.specs.Memory.{Memory, fits, entryCount, readingCount, keptAt, entryAt, entriesFrom, entriesOf}
+use Rattle.table.specs.WellFormed.{distinct, awaitsFew, doneAt, settled, namesRight, keptRight, wellFormed}
+use Rattle.table.specs.Right.{allFrom}
+use Rattle.table.specs.RightLaws.{all-at}
+use Rattle.table.specs.Checked.{keptOk, entriesRight}
+use Rattle.table.specs.CheckedLaws.{done-is, well-is}
+use Rattle.values.specs.Packing.{unpackOf}
+use Rattle.values.specs.PackingLaws.{unpack-number}
+use Rattle.evaluator.specs.Links.{kindAt}
+use Rattle.evaluator.specs.Frames.{startAt}
+use Rattle.interface.specs.Calls.{Part, windowIn, pickPart, partOf}
+
+-- an entry that is not worked out has the cell 0, which is no window's
+module _ (m : Memory) (n : ℕ) where
+  abbrev shownPart : Part
+  shownPart = windowIn (unpackOf (startAt (readingCount m) (m .links) (m .cells) n))
+
+  abbrev noPart : Part
+  noPart = record { start = 0; length = 0 }
+
+  unworked : doneAt (entriesOf m) n ≡ false → ltb n (entryCount m) ≡ true → shownPart ≡ noPart
+  unfolding startAt
+  unworked d h =
+      let e = done-is (m .links) (m .cells) (entryCount m) n (kindAt (m .links) n) (getD (m .cells) (4 * n + 1) 0) refl refl ∙ d in
+      split (ltb (kindAt (m .links) n) 4)
+      (λ t. impossible (sym e ∙ rw (h, lt-leb 4 (kindAt (m .links) n) (ltb-true (kindAt (m .links) n) 4 t))))
+      (λ t. split (leb 1 (getD (m .cells) (4 * n + 1) 0))
+      (λ v. impossible (sym e ∙ rw (h, le-leb 4 (kindAt (m .links) n) (ltb-false (kindAt (m .links) n) 4 t), v)))
+      (λ v. let z = leb-false 1 (getD (m .cells) (4 * n + 1) 0) v in rw t (rw (unpack-number (getD (m .cells) (4 * n + 1) 0) (omega arith)))))
+
+  pub part-held : partOf m n ≡ pickPart (fits m && (wellFormed m && ltb n (entryCount m))) shownPart noPart
+  unfolding partOf
+  part-held =
+      split (doneAt (entriesOf m) n)
+      (λ d. rw (d, done-held d))
+      (λ d. split (ltb n (entryCount m)) (λ h. rw (d, h) (both-empty (fits m) (wellFormed m) (unworked d h))) (λ h. rw (d, h)))
+    where
+      done-held : doneAt (entriesOf m) n ≡ true → ltb n (entryCount m) ≡ true
+      done-held d = and-left _ _ (done-is (m .links) (m .cells) (entryCount m) n (kindAt (m .links) n) (getD (m .cells) (4 * n + 1) 0) refl refl ∙ d)
+
+      both-empty : (a b : Bool) → shownPart ≡ noPart → pickPart (a && (b && false)) shownPart noPart ≡ pickPart (a && (b && true)) shownPart noPart
+      both-empty true true e = sym e
+      both-empty true false e = refl
+      both-empty false b e = refl
+
+pub kept-right : (links cells : List ℕ) (k count n : ℕ) → entriesRight links cells k count ≡ true → n < count → keptRight k (entryAt links cells n) ≡ true
+unfolding entriesRight keptOk
+kept-right links cells k count n e h =
+    let here : 0 + n ≡ n = omega arith in
+    let all : allFrom (keptOk links cells count k) count 0 ≡ true = and-right (awaitsFew _) _ (and-right (distinct _) _ (and-right (allFrom _ _ _) _ e)) in
+    let right : keptOk links cells count k n ≡ true = rw here at (all-at (keptOk links cells count k) count n 0 all h) in
+    and-right (settled (entriesFrom links cells 0 count) (entryAt links cells n)) _ right
+
+-- what a well-formed cache has beside the kept values
+pub kept-names : (m : Memory) (n : ℕ) → wellFormed m ≡ true → n < entryCount m → namesRight (keptAt (m .cells) n) ≡ true
+unfolding keptRight
+kept-names m n w h =
+    let e = sym (well-is (m .readings) (m .heads) (m .links) (m .cells)) ∙ w in
+    and-left _ _ (kept-right (m .links) (m .cells) (readingCount m) (entryCount m) n (and-right (leb (readingCount m) 1024) _ (and-right (leb (entryCount m) 512) _ e)) h)
+

@@ -1,0 +1,49 @@
+-- What the calls promise: the answer, and every cell of every lent slice. Assumes nothing: these are definitions.
+use mathlib.Core.Path.{_≡_}
+use mathlib.Core.List.{List}
+use Prim.Native.Nat.{ℕ, _<_}
+use lib.IntN.{ℤ}
+use Rattle.table.specs.Memory.{Memory}
+use Rattle.interface.specs.declared.answers.Opened.{Opened}
+use Rattle.interface.specs.declared.answers.Edited.{Edited}
+use Rattle.interface.specs.declared.answers.Edited.the-variants as Edit
+use Rattle.interface.specs.declared.answers.Previewed.{Previewed}
+use Rattle.interface.specs.declared.answers.EditAnswer.{EditAnswer}
+use Rattle.interface.specs.declared.answers.PreviewAnswer.{PreviewAnswer}
+use Rattle.interface.specs.Answers.{openReply, editReply, openNumber, editNumbers, previewNumbers}
+use Rattle.interface.specs.Calls.{openAnswer, openMemory, editAnswer, editMemory, editPlaces, previewed, previewMemory}
+
+-- the memory m before a call and m′ after it
+pub record Opens (m : Memory) (recording : List ℤ) (m′ : Memory) (r : Opened) : Type 0 where
+  pub answer : openReply r ≡ openAnswer m recording
+  pub memory : m′ ≡ openMemory m recording
+
+pub record Edits (m : Memory) (places text : List ℕ) (m′ : Memory) (places′ : List ℕ) (r : Edited) : Type 0 where
+  pub answer : editReply r places′ ≡ editAnswer m places text
+  pub memory : m′ ≡ editMemory m places text
+  pub placed : places′ ≡ editPlaces m places text
+
+pub record Previews (m : Memory) (entry allowance : ℕ) (m′ : Memory) (r : Previewed) : Type 0 where
+  pub answer : r ≡ previewed m entry allowance
+  pub memory : m′ ≡ previewMemory m entry allowance
+
+-- the same for C: the numbers of an answer for which that holds
+pub record OpensForC (m : Memory) (recording : List ℤ) (m′ : Memory) (r : ℕ) : Type 0 where
+  pub answer : Opened
+  pub opens : Opens m recording m′ answer
+  pub numbers : r ≡ openNumber answer
+
+pub record EditsForC (m : Memory) (places text : List ℕ) (m′ : Memory) (places′ : List ℕ) (r : EditAnswer) : Type 0 where
+  pub answer : Edited
+  pub edits : Edits m places text m′ places′ answer
+  pub numbers : r ≡ editNumbers answer
+
+pub record PreviewsForC (m : Memory) (entry allowance : ℕ) (m′ : Memory) (r : PreviewAnswer) : Type 0 where
+  pub answer : Previewed
+  pub previews : Previews m entry allowance m′ answer
+  pub numbers : r ≡ previewNumbers answer
+
+-- a refusal's place is a number of 32 bits
+abbrev pub PlaceFits : Edited → Type 0
+PlaceFits (Edit.Done whole parts added) = Unit {0}
+PlaceFits (Edit.Refused n at) = at < 4294967296

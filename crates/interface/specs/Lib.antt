@@ -1,0 +1,5 @@
+pub mod Answers
+pub mod Calls
+pub mod CallsLaws
+pub mod Effects
+pub mod Examples

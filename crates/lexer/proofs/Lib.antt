@@ -1,0 +1,2 @@
+pub mod TokenPaths
+pub mod ValuePaths

@@ -1,0 +1,5 @@
+pub mod Lexing
+pub mod LexingLaws
+pub mod Loops
+pub mod LoopsLaws
+pub mod TokenLaws

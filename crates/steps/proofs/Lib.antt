@@ -1,0 +1,2 @@
+mod CursorPaths
+mod ScratchPaths

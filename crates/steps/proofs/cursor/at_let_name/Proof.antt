@@ -1,0 +1,20 @@
+-- The number is picked test by test, as the definition picks it. Assumes nothing.
+use borrow.Author.Needs.{needs}
+use Rattle.steps.proofs.CursorPaths.{let-name-fault}
+use Rattle.steps.proofs.cursor.at_let_name.Tie as tie
+use Rattle.steps.proofs.cursor.at_let_name.Statement.{statement}
+
+pick-requires : tie.Need-pick-requires
+pick-requires c κs = search needs
+
+pick-requires-2 : tie.Need-pick-requires-2
+pick-requires-2 c κs = search needs
+
+pick-requires-3 : tie.Need-pick-requires-3
+pick-requires-3 c κs = search needs
+
+returns : tie.Need-returns
+returns c = search let-name-fault
+
+pub at-let-name-spec : {M : Type 1} → statement M
+at-let-name-spec = tie.close (tie.spec pick-requires pick-requires-2 pick-requires-3 returns)

@@ -1,0 +1,42 @@
+-- Token by token, up to the first that is refused. Assumes nothing.
+use borrow.Author.Needs.{needs}
+use Rattle.steps.proofs.CursorPaths.{lambda-goes, lambda-name-stops, lambda-stops}
+use Rattle.steps.proofs.cursor.lambda_head.Tie as tie
+use Rattle.steps.proofs.cursor.lambda_head.Statement.{statement}
+
+lambdas-in-requires : tie.Need-lambdas-in-requires
+lambdas-in-requires c κs = search needs
+
+at-lambda-requires : tie.Need-at-lambda-requires
+at-lambda-requires c κs = search needs
+
+judged-part-requires : tie.Need-judged-part-requires
+judged-part-requires c κs = search needs
+
+lambda-name-requires : tie.Need-lambda-name-requires
+lambda-name-requires c κs = search needs
+
+need-requires : tie.Need-need-requires
+need-requires c κs = search needs
+
+returns : tie.Need-returns
+returns c = search lambda-goes
+
+returns-2 : tie.Need-returns-2
+returns-2 c = search lambda-name-stops
+
+returns-3 : tie.Need-returns-3
+returns-3 c = search lambda-stops
+
+pub lambda-head-spec : {M : Type 1} → statement M
+lambda-head-spec =
+    tie.close
+    (tie.spec
+    lambdas-in-requires
+    at-lambda-requires
+    judged-part-requires
+    lambda-name-requires
+    need-requires
+    returns
+    returns-2
+    returns-3)

@@ -1,0 +1,468 @@
+// The cursor over a text, and what is refused at a token. Each function is the function of its name in descent's Cursor; the tokens that are
+// left are those from the cursor's place on.
+use lexer::tokens;
+use lexer::tokens::Lexed;
+use language::limits::Text;
+use language::members;
+use language::members::Found;
+ghost use mathlib.Core.Path.{_≡_};
+ghost use mathlib.Core.Bool.{cond, _&&_};
+ghost use Prim.Native.Nat.{suc, _≤_, _<_};
+ghost use lib.Dec.{eqb};
+ghost use lib.ListN.{length};
+ghost use Rattle.language.specs.Members.{isUnknown, takes};
+ghost use Rattle.descent.specs.Cursor.{binderName, binderLink, binderOf, lambdasIn, lambdaIn};
+ghost use Rattle.descent.specs.Cursor.{atPart, atLet, atLambda, atBracket, atShut, atComma, need, letHead, lambdaHead, callHead};
+ghost use Rattle.steps.specs.Cursors.{cursorOf, passedTo, partTo, namedTo, refusedAt, refusing, passing, passingPart, letNamed, lambdaNamed, memberNamed, callOpened};
+ghost use Rattle.steps.specs.Cursors.{nameFault, numberFault, letNameFault, lambdaNameFault, memberFault, openFault, kindOfFound};
+
+// Where the text is read from, how many parts and records there are, the record of the expression last read, the packed name read last or the
+// kind of the member read last and how many arguments that takes, and the refusal: its number, 0 for none, and its place.
+pub struct Cursor {
+    pub at: usize,
+    pub parts: usize,
+    pub count: usize,
+    pub root: usize,
+    pub name: u64,
+    pub takes: u8,
+    pub number: u8,
+    pub place: usize,
+}
+
+// The cursor at another place of the text.
+fn moved(c: Cursor, at: usize) -> Cursor
+    ensures { λ r. ⌜ r ≡ passedTo c at ⌝ }
+{
+    Cursor {
+        at,
+        parts: c.parts,
+        count: c.count,
+        root: c.root,
+        name: c.name,
+        takes: c.takes,
+        number: c.number,
+        place: c.place,
+    }
+}
+
+// The same behind the token of a part.
+fn counted(c: Cursor, at: usize) -> Cursor
+    requires { ⌜ c .parts ≤ 128 ⌝ }
+    ensures { λ r. ⌜ r ≡ partTo c at ⌝ }
+{
+    Cursor {
+        at,
+        parts: c.parts + 1,
+        count: c.count,
+        root: c.root,
+        name: c.name,
+        takes: c.takes,
+        number: c.number,
+        place: c.place,
+    }
+}
+
+// The same behind a name that is bound or a member's name.
+fn named(c: Cursor, at: usize, name: u64, takes: u8) -> Cursor
+    ensures { λ r. ⌜ r ≡ namedTo c at name takes ⌝ }
+{
+    Cursor {
+        at,
+        parts: c.parts,
+        count: c.count,
+        root: c.root,
+        name,
+        takes,
+        number: c.number,
+        place: c.place,
+    }
+}
+
+// The cursor with a refusal.
+fn refused_at(c: Cursor, number: u8, place: usize) -> Cursor
+    ensures { λ r. ⌜ r ≡ refusedAt c number place ⌝ }
+{
+    Cursor {
+        at: c.at,
+        parts: c.parts,
+        count: c.count,
+        root: c.root,
+        name: c.name,
+        takes: c.takes,
+        number,
+        place,
+    }
+}
+
+// The token at the cursor is refused.
+pub fn refused(text: &[u8], number: u8, c: Cursor) -> Cursor
+    ensures { λ r. ⌜ cursorOf (now (text .entry)) r ≡ refusing (now (text .entry)) number c ⌝ }
+{
+    let x = tokens::token(text, c.at);
+    refused_at(c, number, x.start)
+}
+
+// The token at the cursor is refused by a number other than 0, or passed.
+pub fn judged(text: &[u8], number: u8, c: Cursor) -> Cursor
+    ensures { λ r. ⌜ cursorOf (now (text .entry)) r ≡ passing (now (text .entry)) number c ⌝ }
+{
+    let x = tokens::token(text, c.at);
+    if number == 0 {
+        moved(c, x.end)
+    } else {
+        refused_at(c, number, x.start)
+    }
+}
+
+// The same, for a token that is a part.
+pub fn judged_part(text: &[u8], number: u8, c: Cursor) -> Cursor
+    requires { ⌜ c .parts ≤ 128 ⌝ }
+    ensures { λ r. ⌜ cursorOf (now (text .entry)) r ≡ passingPart (now (text .entry)) number c ⌝ }
+{
+    let x = tokens::token(text, c.at);
+    if number == 0 {
+        counted(c, x.end)
+    } else {
+        refused_at(c, number, x.start)
+    }
+}
+
+// A token of one kind is due.
+pub fn need(text: &[u8], kind: u8, c: Cursor) -> Cursor
+    ensures { λ r. ⌜ cursorOf (now (text .entry)) r ≡ need (length (now (text .entry))) kind (cursorOf (now (text .entry)) c) ⌝ }
+{
+    let x = tokens::token(text, c.at);
+    if x.kind == kind {
+        moved(c, x.end)
+    } else {
+        refused_at(c, 5, x.start)
+    }
+}
+
+// One of two numbers.
+fn pick(test: bool, yes: u8, no: u8) -> u8
+    ensures { λ r. ⌜ r ≡ cond test yes no ⌝ }
+{
+    if test { yes } else { no }
+}
+
+pub fn at_part(parts: usize) -> u8
+    ensures { λ r. ⌜ r ≡ atPart parts ⌝ }
+{
+    pick(Text::PARTS <= parts, 12, 0)
+}
+
+pub fn at_let(w: bool, marks: usize, parts: usize) -> u8
+    ensures { λ r. ⌜ r ≡ atLet w marks parts ⌝ }
+{
+    pick(w, 9, pick(Text::MARKS <= marks, 12, at_part(parts)))
+}
+
+pub fn at_lambda(w: bool, lambdas: usize, marks: usize, parts: usize) -> u8
+    ensures { λ r. ⌜ r ≡ atLambda w lambdas marks parts ⌝ }
+{
+    pick(
+        w,
+        9,
+        pick(
+            Text::LAMBDAS <= lambdas,
+            10,
+            pick(Text::MARKS <= marks, 12, at_part(parts)),
+        ),
+    )
+}
+
+pub fn at_bracket(w: bool, marks: usize) -> u8
+    ensures { λ r. ⌜ r ≡ atBracket w marks ⌝ }
+{
+    pick(w, 9, pick(Text::MARKS <= marks, 12, 0))
+}
+
+// A name in use.
+pub fn at_name(w: bool, long: bool, parts: usize) -> u8
+    ensures { λ r. ⌜ r ≡ nameFault w long parts ⌝ }
+{
+    pick(long, 7, pick(w, 9, at_part(parts)))
+}
+
+// A number.
+pub fn at_number(w: bool, beyond: bool, parts: usize) -> u8
+    ensures { λ r. ⌜ r ≡ numberFault w beyond parts ⌝ }
+{
+    pick(beyond, 6, pick(w, 9, at_part(parts)))
+}
+
+pub fn at_shut(more: u8) -> u8
+    ensures { λ r. ⌜ r ≡ atShut more ⌝ }
+{
+    pick(1 <= more, 9, 0)
+}
+
+pub fn at_comma(more: u8) -> u8
+    ensures { λ r. ⌜ r ≡ atComma more ⌝ }
+{
+    pick(more == 0, 9, 0)
+}
+
+// Where a name of a let is due.
+fn at_let_name(word: bool, long: bool, reserved: bool) -> u8
+    ensures { λ r. ⌜ r ≡ letNameFault word long reserved ⌝ }
+{
+    pick(word, pick(long, 7, pick(reserved, 8, 0)), 5)
+}
+
+// Where a name of a lambda is due.
+fn at_lambda_name(word: bool, long: bool, reserved: bool, taken: bool) -> u8
+    ensures { λ r. ⌜ r ≡ lambdaNameFault word long reserved taken ⌝ }
+{
+    pick(
+        word,
+        pick(long, 7, pick(reserved, 8, pick(taken, 11, 0))),
+        5,
+    )
+}
+
+// Where a member is due.
+fn at_member(word: bool, unknown: bool) -> u8
+    ensures { λ r. ⌜ r ≡ memberFault word unknown ⌝ }
+{
+    pick(word, pick(unknown, 9, 0), 5)
+}
+
+// Where the bracket of a call is due.
+fn at_call_open(bracket: bool, marks: usize) -> u8
+    ensures { λ r. ⌜ r ≡ openFault bracket marks ⌝ }
+{
+    pick(bracket, pick(Text::MARKS <= marks, 12, 0), 5)
+}
+
+// One more than the number of the innermost binder of the name, 0 for none.
+pub fn binder_of(scope: &[u64; 32], x: u64, depth: usize) -> usize
+    requires { ⌜ depth ≤ 16 ⌝ }
+    ensures { λ r. ⌜ r ≡ binderOf (now (scope .entry)) x depth ⌝ }
+{
+    let mut b = depth;
+    while 0 < b {
+        let i = b - 1;
+        if x == scope[2 * i] {
+            return b;
+        }
+        b = i;
+    }
+    0
+}
+
+// Whether a binder is a lambda's.
+fn is_lambda(scope: &[u64; 32], b: usize) -> bool
+    requires { ⌜ b < 16 ⌝ }
+    ensures { λ r. ⌜ r ≡ eqb (binderLink (now (scope .entry)) b) 0 ⌝ }
+{
+    scope[2 * b + 1] == 0
+}
+
+// Whether it is a lambda's of this name.
+fn is_lambda_of(scope: &[u64; 32], x: u64, b: usize) -> bool
+    requires { ⌜ b < 16 ⌝ }
+    ensures { λ r. ⌜ r ≡ (eqb (binderLink (now (scope .entry)) b) 0 && eqb x (binderName (now (scope .entry)) b)) ⌝ }
+{
+    is_lambda(scope, b) & (x == scope[2 * b])
+}
+
+// One more, where the binder is a lambda's.
+fn with_lambda(scope: &[u64; 32], b: usize, n: usize) -> usize
+    requires { ⌜ (b < 16) × (n ≤ b) ⌝ }
+    ensures { λ r. ⌜ r ≡ cond (eqb (binderLink (now (scope .entry)) b) 0) (suc n) n ⌝ }
+{
+    if is_lambda(scope, b) { n + 1 } else { n }
+}
+
+// How many lambdas are open.
+pub fn lambdas_in(scope: &[u64; 32], depth: usize) -> usize
+    requires { ⌜ depth ≤ 16 ⌝ }
+    ensures { λ r. ⌜ r ≡ lambdasIn (now (scope .entry)) depth ⌝ }
+{
+    let mut n = 0;
+    let mut b = 0;
+    while b < depth {
+        n = with_lambda(scope, b, n);
+        b += 1;
+    }
+    n
+}
+
+// Whether the name is one of an open lambda.
+pub fn lambda_in(scope: &[u64; 32], x: u64, depth: usize) -> bool
+    requires { ⌜ depth ≤ 16 ⌝ }
+    ensures { λ r. ⌜ r ≡ lambdaIn (now (scope .entry)) x depth ⌝ }
+{
+    let mut b = depth;
+    while 0 < b {
+        let i = b - 1;
+        if is_lambda_of(scope, x, i) {
+            return true;
+        }
+        b = i;
+    }
+    false
+}
+
+fn is_unknown(found: Found) -> bool
+    ensures { λ r. ⌜ r ≡ isUnknown found ⌝ }
+{
+    match found {
+        Found::Is(_) => false,
+        Found::Unknown => true,
+    }
+}
+
+// The kind of a member's record.
+fn member_kind(found: Found) -> u64
+    ensures { λ r. ⌜ r ≡ kindOfFound found ⌝ }
+{
+    match found {
+        Found::Is(m) => 5 + members::number_of(m) as u64,
+        Found::Unknown => 13,
+    }
+}
+
+// How many arguments it takes.
+fn takes(found: Found) -> u8
+    ensures { λ r. ⌜ r ≡ takes found ⌝ }
+{
+    match found {
+        Found::Is(m) => members::arguments(m),
+        Found::Unknown => 0,
+    }
+}
+
+// The name of a let.
+fn let_name(text: &[u8], c: Cursor) -> Cursor
+    ensures { λ r. ⌜ cursorOf (now (text .entry)) r ≡ letNamed (now (text .entry)) c ⌝ }
+{
+    let x = tokens::token(text, c.at);
+    let long = tokens::is_long(text, x.start, x.end);
+    let number = at_let_name(
+        x.kind == Lexed::WORD,
+        long,
+        tokens::is_data(text, x.start, x.end),
+    );
+    if number == 0 {
+        named(c, x.end, tokens::name(text, x.start, x.end), c.takes)
+    } else {
+        refused_at(c, number, x.start)
+    }
+}
+
+// The name of a lambda.
+fn lambda_name(text: &[u8], scope: &[u64; 32], depth: usize, c: Cursor) -> Cursor
+    requires { ⌜ depth ≤ 16 ⌝ }
+    ensures { λ r. ⌜ cursorOf (now (text .entry)) r ≡ lambdaNamed (now (text .entry)) (now (scope .entry)) depth c ⌝ }
+{
+    let x = tokens::token(text, c.at);
+    let long = tokens::is_long(text, x.start, x.end);
+    let reserved = tokens::is_data(text, x.start, x.end);
+    let name = tokens::name(text, x.start, x.end);
+    let number = at_lambda_name(
+        x.kind == Lexed::WORD,
+        long,
+        reserved,
+        lambda_in(scope, name, depth),
+    );
+    if number == 0 {
+        named(c, x.end, name, c.takes)
+    } else {
+        refused_at(c, number, x.start)
+    }
+}
+
+// The name of a member.
+fn member_name(text: &[u8], c: Cursor) -> Cursor
+    ensures { λ r. ⌜ cursorOf (now (text .entry)) r ≡ memberNamed (now (text .entry)) c ⌝ }
+{
+    let x = tokens::token(text, c.at);
+    let found = tokens::member(text, x.start, x.end);
+    let number = at_member(x.kind == Lexed::WORD, is_unknown(found));
+    if number == 0 {
+        named(c, x.end, member_kind(found), takes(found))
+    } else {
+        refused_at(c, number, x.start)
+    }
+}
+
+// The bracket of a call.
+fn call_open(text: &[u8], marks: usize, c: Cursor) -> Cursor
+    ensures { λ r. ⌜ cursorOf (now (text .entry)) r ≡ callOpened (now (text .entry)) marks c ⌝ }
+{
+    let x = tokens::token(text, c.at);
+    let number = at_call_open(x.kind == Lexed::OPEN, marks);
+    if number == 0 {
+        moved(c, x.end)
+    } else {
+        refused_at(c, number, x.start)
+    }
+}
+
+// let name =
+pub fn let_head(text: &[u8], w: bool, marks: usize, c: Cursor) -> Cursor
+    requires { ⌜ c .parts ≤ 128 ⌝ }
+    ensures { λ r. ⌜ cursorOf (now (text .entry)) r ≡ letHead (length (now (text .entry))) w marks (cursorOf (now (text .entry)) c) ⌝ }
+{
+    let a = judged_part(text, at_let(w, marks, c.parts), c);
+    if a.number == 0 {
+        let b = let_name(text, a);
+        if b.number == 0 {
+            need(text, Lexed::EQUALS, b)
+        } else {
+            b
+        }
+    } else {
+        a
+    }
+}
+
+// \ name ->
+pub fn lambda_head(
+    text: &[u8],
+    w: bool,
+    marks: usize,
+    depth: usize,
+    scope: &[u64; 32],
+    c: Cursor,
+) -> Cursor
+    requires { ⌜ (c .parts ≤ 128) × (depth ≤ 16) ⌝ }
+    ensures { λ r. ⌜ cursorOf (now (text .entry)) r ≡ lambdaHead (length (now (text .entry))) w marks depth (now (scope .entry)) (cursorOf (now (text .entry)) c) ⌝ }
+{
+    let a = judged_part(
+        text,
+        at_lambda(w, lambdas_in(scope, depth), marks, c.parts),
+        c,
+    );
+    if a.number == 0 {
+        let b = lambda_name(text, scope, depth, a);
+        if b.number == 0 {
+            need(text, Lexed::ARROW, b)
+        } else {
+            b
+        }
+    } else {
+        a
+    }
+}
+
+// . member (
+pub fn call_head(text: &[u8], marks: usize, c: Cursor) -> Cursor
+    requires { ⌜ c .parts ≤ 128 ⌝ }
+    ensures { λ r. ⌜ cursorOf (now (text .entry)) r ≡ callHead (length (now (text .entry))) marks (cursorOf (now (text .entry)) c) ⌝ }
+{
+    let a = judged_part(text, at_part(c.parts), c);
+    if a.number == 0 {
+        let b = member_name(text, a);
+        if b.number == 0 {
+            call_open(text, marks, b)
+        } else {
+            b
+        }
+    } else {
+        a
+    }
+}

@@ -1,0 +1,259 @@
+// The records that a text is read to, written into lent arrays: two words a record, the record of each part by place, and two cells a binder.
+// Each function is the function of its name in descent's Descent.
+use crate::cursor;
+use crate::cursor::Cursor;
+use lexer::tokens;
+use lexer::tokens::Literal;
+ghost use mathlib.Core.Path.{_≡_};
+ghost use Prim.Native.Nat.{_+_, _*_, _≤_, _<_};
+ghost use lib.ListN.{length, set};
+ghost use Rattle.records.specs.Records.{node};
+ghost use Rattle.descent.specs.Descent.{put, putBound, putScoped, putName, readName, readNumber, readShut};
+ghost use Rattle.steps.specs.Cursors.{stateOf};
+ghost use Rattle.steps.specs.Scratch.{Wrote, WroteIn, WroteFor, Linked, Recorded, BoundRoom, ScopedRoom, NameRoom, NameAhead, NumberAhead, ShutAhead, isBeyond, keyOf, callOf};
+
+// A call being read: its member's kind, how many arguments are still to come, the receiver's record, its part's place, and its first
+// argument, 0 for none or one more than a record.
+pub struct Call {
+    pub kind: u64,
+    pub takes: u8,
+    pub receiver: usize,
+    pub place: usize,
+    pub argument: usize,
+}
+
+// A record for the part of place p: its kind, its number or name, and what it depends on, each 0 for none or one more than a record.
+pub fn put(
+    c: Cursor,
+    p: usize,
+    kind: u64,
+    key: u64,
+    first: usize,
+    second: usize,
+    records: &mut [u64; 256],
+    places: &mut [u16; 128],
+) -> Cursor
+    requires { ⌜ Recorded c p kind first second ⌝ }
+    ensures { λ r. ⌜ Wrote (put p (node kind key first second)) c (now (records .entry)) (now (places .entry)) r (now (records .exit)) (now (places .exit)) ⌝ }
+{
+    let n = c.count;
+    records[2 * n] = kind + 32 * first as u64 + 8192 * second as u64;
+    records[2 * n + 1] = key;
+    places[p] = n as u16;
+    Cursor {
+        at: c.at,
+        parts: c.parts,
+        count: n + 1,
+        root: n,
+        name: c.name,
+        takes: c.takes,
+        number: c.number,
+        place: c.place,
+    }
+}
+
+// Record j for the part of place p.
+fn link(c: Cursor, p: usize, j: usize, places: &mut [u16; 128]) -> Cursor
+    requires { ⌜ (p < 128) × (j ≤ 128) ⌝ }
+    ensures { λ r. ⌜ Linked p j c (now (places .entry)) r (now (places .exit)) ⌝ }
+{
+    places[p] = j as u16;
+    Cursor {
+        at: c.at,
+        parts: c.parts,
+        count: c.count,
+        root: j,
+        name: c.name,
+        takes: c.takes,
+        number: c.number,
+        place: c.place,
+    }
+}
+
+// The record last read, for the part of place p.
+pub fn mark(p: usize, root: usize, places: &mut [u16; 128])
+    requires { ⌜ (p < 128) × (root ≤ 128) ⌝ }
+    ensures { λ _. ⌜ now (places .exit) ≡ set (now (places .entry)) p root ⌝ }
+{
+    places[p] = root as u16;
+}
+
+// Binder number depth: its packed name and what it stands for.
+pub fn enter(depth: usize, x: u64, j: u64, scope: &mut [u64; 32])
+    requires { ⌜ depth < 16 ⌝ }
+    ensures { λ _. ⌜ now (scope .exit) ≡ set (set (now (scope .entry)) (2 * depth) x) (2 * depth + 1) j ⌝ }
+{
+    scope[2 * depth] = x;
+    scope[2 * depth + 1] = j;
+}
+
+// A bound name stands for a variable, or for a record.
+fn put_bound(
+    c: Cursor,
+    p: usize,
+    x: u64,
+    j: u64,
+    records: &mut [u64; 256],
+    places: &mut [u16; 128],
+) -> Cursor
+    requires { ⌜ BoundRoom c p j ⌝ }
+    ensures { λ r. ⌜ Wrote (putBound p x j) c (now (records .entry)) (now (places .entry)) r (now (records .exit)) (now (places .exit)) ⌝ }
+{
+    if j == 0 {
+        put(c, p, 1, x, 0, 0, records, places)
+    } else {
+        link(c, p, (j - 1) as usize, places)
+    }
+}
+
+// b: one more than the binder's number, 0 for none.
+fn put_scoped(
+    c: Cursor,
+    p: usize,
+    x: u64,
+    b: usize,
+    scope: &[u64; 32],
+    records: &mut [u64; 256],
+    places: &mut [u16; 128],
+) -> Cursor
+    requires { ⌜ ScopedRoom c p b (now scope) ⌝ }
+    ensures { λ r. ⌜ WroteIn (now (scope .entry)) (putScoped p x b) c (now (records .entry)) (now (places .entry)) r (now (records .exit)) (now (places .exit)) ⌝ }
+{
+    if b == 0 {
+        put(c, p, 2, x, 0, 0, records, places)
+    } else {
+        let i = 2 * b - 1;
+        put_bound(c, p, x, scope[i], records, places)
+    }
+}
+
+// The name `data`, packed.
+const DATA: u64 = 0x64617461;
+
+// The packed name x in use.
+fn put_name(
+    c: Cursor,
+    p: usize,
+    x: u64,
+    depth: usize,
+    scope: &[u64; 32],
+    records: &mut [u64; 256],
+    places: &mut [u16; 128],
+) -> Cursor
+    requires { ⌜ NameRoom c p depth (now scope) ⌝ }
+    ensures { λ r. ⌜ WroteIn (now (scope .entry)) (putName p x depth) c (now (records .entry)) (now (places .entry)) r (now (records .exit)) (now (places .exit)) ⌝ }
+{
+    if x == DATA {
+        put(c, p, 3, 0, 0, 0, records, places)
+    } else {
+        put_scoped(
+            c,
+            p,
+            x,
+            cursor::binder_of(scope, x, depth),
+            scope,
+            records,
+            places,
+        )
+    }
+}
+
+fn is_beyond(value: Literal) -> bool
+    ensures { λ r. ⌜ r ≡ isBeyond value ⌝ }
+{
+    match value {
+        Literal::In(_) => false,
+        Literal::Beyond => true,
+    }
+}
+
+// A number is kept as itself plus 2^31.
+fn key_of(value: Literal) -> u64
+    ensures { λ r. ⌜ r ≡ keyOf value ⌝ }
+{
+    match value {
+        Literal::In(z) => (z as i64 + 2147483648) as u64,
+        Literal::Beyond => 0,
+    }
+}
+
+// A name in use.
+pub fn read_name(
+    text: &[u8],
+    w: bool,
+    depth: usize,
+    c: Cursor,
+    scope: &[u64; 32],
+    records: &mut [u64; 256],
+    places: &mut [u16; 128],
+) -> Cursor
+    requires { ⌜ NameAhead (now text) depth c (now scope) ⌝ }
+    ensures { λ r. ⌜ stateOf (now (text .entry)) r (now (records .exit)) (now (places .exit)) (now (scope .entry)) ≡ readName (length (now (text .entry))) w depth (stateOf (now (text .entry)) c (now (records .entry)) (now (places .entry)) (now (scope .entry))) ⌝ }
+{
+    let x = tokens::token(text, c.at);
+    let number = cursor::at_name(w, tokens::is_long(text, x.start, x.end), c.parts);
+    let a = cursor::judged_part(text, number, c);
+    if a.number == 0 {
+        put_name(
+            a,
+            c.parts,
+            tokens::name(text, x.start, x.end),
+            depth,
+            scope,
+            records,
+            places,
+        )
+    } else {
+        a
+    }
+}
+
+// A number.
+pub fn read_number(
+    text: &[u8],
+    w: bool,
+    c: Cursor,
+    records: &mut [u64; 256],
+    places: &mut [u16; 128],
+) -> Cursor
+    requires { ⌜ NumberAhead (now text) c ⌝ }
+    ensures { λ r. ⌜ WroteFor (now (text .entry)) (readNumber (length (now (text .entry))) w) c (now (records .entry)) (now (places .entry)) r (now (records .exit)) (now (places .exit)) ⌝ }
+{
+    let x = tokens::token(text, c.at);
+    let value = tokens::number(text, x.start, x.end);
+    let number = cursor::at_number(w, is_beyond(value), c.parts);
+    let a = cursor::judged_part(text, number, c);
+    if a.number == 0 {
+        put(a, c.parts, 0, key_of(value), 0, 0, records, places)
+    } else {
+        a
+    }
+}
+
+// The bracket that ends a call.
+pub fn read_shut(
+    text: &[u8],
+    k: Call,
+    c: Cursor,
+    records: &mut [u64; 256],
+    places: &mut [u16; 128],
+) -> Cursor
+    requires { ⌜ ShutAhead k c ⌝ }
+    ensures { λ r. ⌜ WroteFor (now (text .entry)) (readShut (length (now (text .entry))) (callOf k)) c (now (records .entry)) (now (places .entry)) r (now (records .exit)) (now (places .exit)) ⌝ }
+{
+    let a = cursor::judged(text, cursor::at_shut(k.takes), c);
+    if a.number == 0 {
+        put(
+            a,
+            k.place,
+            k.kind,
+            0,
+            k.receiver + 1,
+            k.argument,
+            records,
+            places,
+        )
+    } else {
+        a
+    }
+}
