@@ -25,7 +25,7 @@ use Rattle.values.specs.declared.Value.the-variants.{Number, Window, Function, 
 use Rattle.values.specs.Packing.{windowCell, delayedCell, missingCell, unpackOf, isPacked}
 use Rattle.values.specs.PackingLaws.{unpack-number, unpack-window, unpack-delayed, unpack-missing, passes-packs}
 use Rattle.values.specs.Kept.{Inside}
-use Rattle.evaluator.specs.Links.{kindAt, keyAt}
+use Rattle.table.specs.Links.{kindAt, keyAt}
 use Rattle.evaluator.specs.Frames.{leafOf, startAt}
 use Rattle.scheduler.specs.declared.works.View.{View}
 use Rattle.scheduler.specs.Works.{Lent, Works, showOf}

@@ -19,7 +19,7 @@ use Rattle.table.specs.Memory.{Memory, Node, Entry, entryCount, nodeAt, entryAt
 use Rattle.table.specs.Nodes.{arity, memberOfKind, kids}
 use Rattle.formulas.specs.Formulas.{formulas}
 use Rattle.bridge.specs.Graphs.{Fine, aNumber, aVariable, anUnbound, theReadings, aFunction, anAsk, aCall, nodes, graph-laws, kids-function, kids-ask, kids-call, among-first, among-second, less-one}
-use Rattle.evaluator.specs.Links.{firstAt, secondAt, isBelow}
+use Rattle.table.specs.Links.{firstAt, secondAt, isBelow}
 use Rattle.scheduler.specs.Works.{raised, needFrom, needOf}
 use Rattle.demand.specs.Holds.{Ok}
 use Rattle.demand.specs.Bound.{among-by}

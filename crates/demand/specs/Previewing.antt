@@ -30,8 +30,8 @@ use Rattle.table.specs.Right.{numbered, nodeRight}
 use Rattle.table.specs.WellFormed.{wellFormed}
 use Rattle.table.specs.CheckedLaws.{nodes-are}
 use Rattle.binder.specs.AppendedLaws.{well-parts}
-use Rattle.evaluator.specs.Links.{kindAt, keyAt}
-use Rattle.evaluator.specs.Waits.{waitsFrom}
+use Rattle.table.specs.Links.{kindAt, keyAt}
+use Rattle.table.specs.Waits.{waitsFrom}
 use Rattle.evaluator.specs.Frames.{startAt, startFrom}
 use Rattle.evaluator.specs.Working.{graph, applyAt}
 use Rattle.scheduler.specs.Works.{Work, needOf, worked, showOf}

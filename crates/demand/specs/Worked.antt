@@ -23,8 +23,8 @@ use Rattle.table.specs.RightLaws.{right-key, first-low, second-low, first-given
 use Rattle.table.specs.Checked.{keptOk}
 use Rattle.table.specs.CheckedLaws.{done-is}
 use Rattle.binder.specs.AppendedLaws.{Well, and-true, settled-later}
-use Rattle.evaluator.specs.Links.{kindAt, firstAt, secondAt, keyAt, isBelow}
-use Rattle.evaluator.specs.Waits.{waitsFrom}
+use Rattle.table.specs.Links.{kindAt, firstAt, secondAt, keyAt, isBelow}
+use Rattle.table.specs.Waits.{waitsFrom}
 use Rattle.evaluator.specs.Frames.{startAt, startFrom}
 use Rattle.evaluator.specs.Working.{graph, applyAt}
 use Rattle.scheduler.specs.Works.{needOf, chosen, nameFor, otherFor, kept, Work, workFrom, worked}

@@ -22,8 +22,8 @@ use Rattle.model.specs.Model as Model
 use Rattle.model.specs.Previews as Previews
 use Rattle.model.specs.Previews.{markAt, upward, chosenFrom}
 use Rattle.table.specs.Memory.{Kept, keptAt, entriesFrom, nothingKept}
-use Rattle.evaluator.specs.Links.{kindAt, keyAt}
-use Rattle.evaluator.specs.Waits.{slotA, slotB}
+use Rattle.table.specs.Links.{kindAt, keyAt}
+use Rattle.table.specs.Waits.{slotA, slotB}
 use Rattle.evaluator.specs.Working.{graph, applyAt}
 use Rattle.scheduler.specs.Works.{chosen, nameFor, otherFor, keepOf, kept, workFrom}
 use Rattle.refine.specs.Shows.{slotNames}

@@ -1,4 +1,3 @@
-pub mod Waiting
 pub mod Framing
 pub mod Reaching
 pub mod Numbers

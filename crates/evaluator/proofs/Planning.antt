@@ -25,8 +25,8 @@ use Rattle.values.specs.Tallies.{stepped, finished, Steps}
 use Rattle.values.specs.Packing.{packOf, unpackOf, windowCell}
 use Rattle.table.specs.Nodes.{memberOfKind}
 use Rattle.evaluator.specs.declared.working.Task.{Task}
-use Rattle.evaluator.specs.Links.{isBelow}
-use Rattle.evaluator.specs.Waits.{ownOf}
+use Rattle.table.specs.Links.{isBelow}
+use Rattle.table.specs.Waits.{ownOf}
 use Rattle.evaluator.specs.Frames.{functionOf}
 use Rattle.evaluator.proofs.Numbers.{both-numbers}
 use Rattle.evaluator.specs.Working.{graph, wrongCell, boundedOf, askOf, callOf, doneOf, taskOf, judgeOf, runOf, followOf, planOf, Planned, concludeOf, Bounds, Tallied}

@@ -10,8 +10,8 @@ use borrow.Author.Tests.{eq-eqb, ne-eqb}
 use lib.Dec.{eqb}
 use lib.ListN.{length, getD, set, replicate, drop, length-set, drop-of-length-le}
 use lib.Seq.{drop-cons, drop-set-lt, getD-set-same}
-use Rattle.evaluator.specs.Links.{isBelow}
-use Rattle.evaluator.specs.Waits.{awaits}
+use Rattle.table.specs.Links.{isBelow}
+use Rattle.table.specs.Waits.{awaits}
 use Rattle.evaluator.specs.Reach.{moves, flagged, spread, gatherFrom, gathered}
 
 module _ (waits : List ℕ) (v d : ℕ) (r : Bool) (e : r ≡ awaits (getD waits d 0) v) where

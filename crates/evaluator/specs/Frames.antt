@@ -6,8 +6,8 @@ use Prim.Native.Nat.{ℕ, zero, suc, _+_, _*_, _-_, _%_}
 use lib.Dec.{leb, ltb, eqb}
 use lib.ListN.{getD, set}
 use Rattle.values.specs.Packing.{windowCell, functionCell, delayedCell, missingCell}
-use Rattle.evaluator.specs.Links.{kindAt, keyAt}
-use Rattle.evaluator.specs.Waits.{slotA, slotB}
+use Rattle.table.specs.Links.{kindAt, keyAt}
+use Rattle.table.specs.Waits.{slotA, slotB}
 
 -- what a number, a variable, an unbound name and the recording, of so many readings, come to
 unfoldable pub leafOf : ℕ → ℕ → ℕ → ℕ

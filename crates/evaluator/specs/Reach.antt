@@ -6,8 +6,8 @@ use mathlib.Core.List.{List, [], _∷_}
 use Prim.Native.Nat.{ℕ, zero, suc, _+_, _-_, _≤_}
 use lib.Dec.{eqb}
 use lib.ListN.{length, getD, set, replicate, drop}
-use Rattle.evaluator.specs.Links.{firstAt, secondAt, isBelow}
-use Rattle.evaluator.specs.Waits.{awaits}
+use Rattle.table.specs.Links.{firstAt, secondAt, isBelow}
+use Rattle.table.specs.Waits.{awaits}
 
 -- entry d awaits the variable v and is not v; v is one more than its number
 abbrev pub moves : List ℕ → ℕ → ℕ → Bool

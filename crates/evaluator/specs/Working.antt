@@ -24,8 +24,8 @@ use Rattle.values.specs.Kept.{Bounded}
 use Rattle.values.specs.Packing.{packOf, unpackOf, delayedCell, missingCell}
 use Rattle.table.specs.Nodes.{memberOfKind}
 use Rattle.evaluator.specs.declared.working.Task.{Task}
-use Rattle.evaluator.specs.Links.{kindAt, firstAt, secondAt, isBelow}
-use Rattle.evaluator.specs.Waits.{ownOf}
+use Rattle.table.specs.Links.{kindAt, firstAt, secondAt, isBelow}
+use Rattle.table.specs.Waits.{ownOf}
 use Rattle.evaluator.specs.Reach.{gathered}
 use Rattle.evaluator.specs.Frames.{bound, functionOf}
 

@@ -1,6 +1,6 @@
 // Frames: a packed value for each entry, 0 for one that is not worked out.
-use crate::links::cell;
-use crate::links::link;
+use table::links::cell;
+use table::links::link;
 ghost use mathlib.Core.Path.{_≡_};
 ghost use Prim.Native.Nat.{_<_, _≤_};
 ghost use Rattle.evaluator.specs.Frames.{leafOf, startAt, startFrom, bound, isUnset, isOpen, functionOf};

@@ -1,6 +1,4 @@
 // Working out one entry: its packed value from the values of those below it.
 pub mod frames;
-pub mod links;
 pub mod reach;
-pub mod waits;
 pub mod working;

@@ -1,7 +1,7 @@
 // What a run works out again: a falling sweep from the body that follows the entries that await the variable.
-use crate::links::is_below;
-use crate::links::link;
-use crate::waits::awaits;
+use table::links::is_below;
+use table::links::link;
+use table::waits::awaits;
 ghost use mathlib.Core.Path.{_≡_};
 ghost use Prim.Native.Nat.{_<_};
 ghost use lib.ListN.{length};

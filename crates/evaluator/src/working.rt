@@ -3,10 +3,10 @@
 use crate::frames::WINDOW;
 use crate::frames::bind;
 use crate::frames::function;
-use crate::links::is_below;
-use crate::links::link;
+use table::links::is_below;
+use table::links::link;
 use crate::reach::gather;
-use crate::waits::own;
+use table::waits::own;
 use language::members::Found;
 use language::members::member_at;
 use values::Value;

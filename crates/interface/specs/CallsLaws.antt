@@ -18,7 +18,7 @@ use Rattle.table.specs.Checked.{keptOk, entriesRight}
 use Rattle.table.specs.CheckedLaws.{done-is, well-is}
 use Rattle.values.specs.Packing.{unpackOf}
 use Rattle.values.specs.PackingLaws.{unpack-number}
-use Rattle.evaluator.specs.Links.{kindAt}
+use Rattle.table.specs.Links.{kindAt}
 use Rattle.evaluator.specs.Frames.{startAt}
 use Rattle.interface.specs.Calls.{Part, windowIn, pickPart, partOf}
 

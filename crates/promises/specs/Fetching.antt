@@ -18,7 +18,7 @@ use Rattle.model.specs.Lists.{All}
 use Rattle.formulas.specs.Formulas.{IsReading}
 use Rattle.table.specs.Memory.{Memory, fits, entryCount, readingCount, recordingOf, entriesOf}
 use Rattle.table.specs.WellFormed.{doneAt, wellFormed}
-use Rattle.evaluator.specs.Links.{kindAt, keyAt}
+use Rattle.table.specs.Links.{kindAt, keyAt}
 use Rattle.evaluator.specs.Frames.{startAt}
 use Rattle.scheduler.specs.declared.works.View.{View}
 use Rattle.scheduler.specs.Works.{view, showOf}

@@ -19,7 +19,7 @@ use Rattle.table.specs.Memory.{Memory, Kept, entryCount, readingCount, recordin
 use Rattle.table.specs.Nodes.{isName}
 use Rattle.table.specs.WellFormed.{nameless, namesRight, wellFormed}
 use Rattle.scheduler.specs.declared.works.View.{View}
-use Rattle.evaluator.specs.Links.{kindAt, keyAt}
+use Rattle.table.specs.Links.{kindAt, keyAt}
 use Rattle.evaluator.specs.Frames.{leafOf, startAt}
 use Rattle.scheduler.specs.Works.{view, showOf}
 use Rattle.refine.specs.Shows.{viewOf}

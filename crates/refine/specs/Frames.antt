@@ -22,8 +22,8 @@ use Rattle.values.specs.Tallies as Tallies
 use Rattle.values.specs.TallyLaws.{stopped-stays}
 use Rattle.meaning.specs.Forms.{Form, variable}
 use Rattle.meaning.specs.Evaluation.{valueOf, Environment, bind, lookup, evaluate, awaited, hasName}
-use Rattle.evaluator.specs.Links.{kindAt, firstAt, secondAt, keyAt}
-use Rattle.evaluator.specs.Waits.{awaits}
+use Rattle.table.specs.Links.{kindAt, firstAt, secondAt, keyAt}
+use Rattle.table.specs.Waits.{awaits}
 use Rattle.evaluator.specs.Reach.{moves, gathered}
 use Rattle.evaluator.specs.Frames.{bound}
 use Rattle.evaluator.specs.Working.{Go, fillOf, setOf, overOf}

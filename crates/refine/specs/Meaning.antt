@@ -36,8 +36,8 @@ use Rattle.values.specs.Windows.{readingsIn}
 use Rattle.meaning.specs.Forms.{Form, variable, ask, call, function}
 use Rattle.meaning.specs.Evaluation.{Result, plain, runs, valueOf, runOf, Environment, bind, lookup, settled, functionOf, evaluate, awaited, hasName}
 use Rattle.table.specs.Nodes.{memberKind, memberOfKind}
-use Rattle.evaluator.specs.Links.{kindAt, firstAt, secondAt, keyAt}
-use Rattle.evaluator.specs.Waits.{slotA, slotB, holds, awaits, ownOf}
+use Rattle.table.specs.Links.{kindAt, firstAt, secondAt, keyAt}
+use Rattle.table.specs.Waits.{slotA, slotB, holds, awaits, ownOf}
 use Rattle.evaluator.specs.Reach.{gathered}
 use Rattle.evaluator.specs.Frames as Code
 use Rattle.evaluator.specs.Working.{graph, Go, boundedOf, askOf, callOf, doneOf, taskOf, judgeOf, runOf as taskRun, followOf, planOf, fillOf, overOf, concludeOf, finishOf, applyAt}

@@ -11,8 +11,8 @@ use lib.Dec.{eqb}
 use Rattle.values.specs.Packing.{functionCell, delayedCell}
 use Rattle.table.specs.Nodes.{isName}
 use Rattle.table.specs.WellFormed.{namesRight}
-use Rattle.evaluator.specs.Links.{kindAt, keyAt}
-use Rattle.evaluator.specs.Waits.{slotA, slotB}
+use Rattle.table.specs.Links.{kindAt, keyAt}
+use Rattle.table.specs.Waits.{slotA, slotB}
 use Rattle.scheduler.specs.Works.{slotName, nameFor, otherFor}
 use Rattle.refine.specs.Free.{split}
 use Rattle.refine.specs.Tables.{Slot}

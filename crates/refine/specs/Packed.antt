@@ -35,8 +35,8 @@ use Rattle.values.specs.PackingLaws.{unpack-number, round, test-number, kept-pa
 use Rattle.values.specs.Ranges.{down-range}
 use Rattle.table.specs.Nodes.{memberOfKind}
 use Rattle.evaluator.specs.declared.working.Task.{Task}
-use Rattle.evaluator.specs.Links.{kindAt, firstAt, secondAt, isBelow}
-use Rattle.evaluator.specs.Waits.{ownOf}
+use Rattle.table.specs.Links.{kindAt, firstAt, secondAt, isBelow}
+use Rattle.table.specs.Waits.{ownOf}
 use Rattle.evaluator.specs.Reach.{gathered as list}
 use Rattle.evaluator.specs.Frames.{leafOf, startAt, startFrom, bound, isOpen, functionOf}
 use Rattle.evaluator.specs.Working.{Graph, Go, wrongCell, boundedOf, askOf, callOf, doneOf, taskOf, pickT, judgeOf, runOf, followOf, planOf, fillOf, setOf, overOf, concludeOf, finishOf, applyAt}

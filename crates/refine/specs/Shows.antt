@@ -19,8 +19,8 @@ use Rattle.values.specs.Ranges.{up-size}
 use Rattle.meaning.specs.Forms.{Form, nameOf}
 use Rattle.meaning.specs.Evaluation.{awaited, Shown, aNumber, aWindow, aFunction, aDelay, aReason, shownAs}
 use Rattle.scheduler.specs.declared.works.View.{View}
-use Rattle.evaluator.specs.Links.{keyAt}
-use Rattle.evaluator.specs.Waits.{slotA, slotB}
+use Rattle.table.specs.Links.{keyAt}
+use Rattle.table.specs.Waits.{slotA, slotB}
 use Rattle.scheduler.specs.Works.{slotName, nameFor, otherFor, view}
 
 -- 01's cases of what is shown, as the plain numbers and names of the answer

@@ -8,8 +8,8 @@ use native.Mathlib.Omega.{arith}
 use borrow.Author.Tests.{eqb-true, eqb-false, leb-true}
 use lib.Dec.{leb, ltb, eqb}
 use lib.ListN.{getD, replicate, length-replicate}
-use Rattle.evaluator.specs.Links.{kindAt, firstAt, secondAt, keyAt, isBelow}
-use Rattle.evaluator.specs.Waits.{slotA, slotB, joined, isNamed, without, waitsOf, waitsAt, waitsFrom}
+use Rattle.table.specs.Links.{kindAt, firstAt, secondAt, keyAt, isBelow}
+use Rattle.table.specs.Waits.{slotA, slotB, joined, isNamed, without, waitsOf, waitsAt, waitsFrom}
 use Rattle.refine.specs.Free.{split, both}
 use Rattle.refine.specs.Tables.{Slot}
 use Rattle.refine.specs.Waiting.{pass-at}

@@ -19,8 +19,8 @@ use Rattle.values.specs.KeptApply.{kept-apply0, kept-apply1}
 use Rattle.meaning.specs.Forms.{Form, number, variable, unbound, readings, ask, call, function}
 use Rattle.meaning.specs.Evaluation.{Result, plain, runs, valueOf, runOf, Environment, nowhere, bind, lookup, settled, functionOf, evaluate}
 use Rattle.table.specs.Nodes.{memberKind, numberOfKey}
-use Rattle.evaluator.specs.Links.{kindAt, firstAt, secondAt, keyAt}
-use Rattle.evaluator.specs.Waits.{slotA, slotB, holds, awaits}
+use Rattle.table.specs.Links.{kindAt, firstAt, secondAt, keyAt}
+use Rattle.table.specs.Waits.{slotA, slotB, holds, awaits}
 use Rattle.refine.specs.Free.{free, split}
 
 -- what entry i is, with the form that it stands for

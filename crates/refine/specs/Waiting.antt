@@ -24,8 +24,8 @@ use Rattle.table.specs.Nodes.{memberKind, memberOfKind, arity, build}
 use Rattle.table.specs.WellFormed.{keyRight, arityRight}
 use Rattle.table.specs.Right.{nodeRight}
 use Rattle.table.specs.RightLaws.{right-kind, right-key, right-arity, first-low, second-low, first-given}
-use Rattle.evaluator.specs.Links.{kindAt, firstAt, secondAt, keyAt, isBelow}
-use Rattle.evaluator.specs.Waits.{slotA, slotB, holds, awaits, joined, isNamed, without, waitsOf, waitsAt, waitsFrom}
+use Rattle.table.specs.Links.{kindAt, firstAt, secondAt, keyAt, isBelow}
+use Rattle.table.specs.Waits.{slotA, slotB, holds, awaits, joined, isNamed, without, waitsOf, waitsAt, waitsFrom}
 use Rattle.refine.specs.Free.{split, either, both, decEq}
 use Rattle.refine.specs.Tables.{EntryAt, is-number, is-variable, is-unbound, is-readings, is-function, is-ask, is-call, Slot, Good}
 use Rattle.refine.specs.Shows.{slotNames}

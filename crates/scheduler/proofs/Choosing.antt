@@ -15,8 +15,8 @@ use Rattle.values.specs.declared.Value.{Value}
 use Rattle.values.specs.declared.shown.Shown.{Shown}
 use Rattle.values.specs.Shown.{shownNumbers}
 use Rattle.values.specs.Packing.{functionCell, delayedCell, unpackOf}
-use Rattle.evaluator.specs.Links.{isBelow, firstAt, secondAt}
-use Rattle.evaluator.specs.Waits.{waitsFrom}
+use Rattle.table.specs.Links.{isBelow, firstAt, secondAt}
+use Rattle.table.specs.Waits.{waitsFrom}
 use Rattle.evaluator.specs.Frames.{startAt, startFrom}
 use Rattle.evaluator.specs.Working.{graph, applyAt, Applies}
 use Rattle.scheduler.specs.Works.{raised, needFrom, needOf, chosen, slotName, nameFor, otherFor, keepOf, kept, workOf, workFrom, worked, Works, view, showOf}

@@ -11,8 +11,8 @@ use Rattle.values.specs.Packing.{functionCell, delayedCell, unpackOf}
 use Rattle.values.specs.Shown.{shownNumbers}
 use Rattle.values.specs.declared.shown.Shown.{Shown}
 use Rattle.scheduler.specs.declared.works.View.{View}
-use Rattle.evaluator.specs.Links.{kindAt, firstAt, secondAt, keyAt, isBelow}
-use Rattle.evaluator.specs.Waits.{slotA, slotB, waitsFrom}
+use Rattle.table.specs.Links.{kindAt, firstAt, secondAt, keyAt, isBelow}
+use Rattle.table.specs.Waits.{slotA, slotB, waitsFrom}
 use Rattle.evaluator.specs.Frames.{startAt, startFrom}
 use Rattle.evaluator.specs.Working.{graph, applyAt}
 

@@ -1,10 +1,10 @@
 // The work of one preview, and what an entry shows.
 use evaluator::frames::start_at;
 use evaluator::frames::start_frame;
-use evaluator::links::cell;
-use evaluator::links::is_below;
-use evaluator::links::link;
-use evaluator::waits::fill_waits;
+use table::links::cell;
+use table::links::is_below;
+use table::links::link;
+use table::waits::fill_waits;
 use evaluator::working::apply;
 use values::packing::unpack;
 use values::shown::numbers;

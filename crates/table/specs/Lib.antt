@@ -8,8 +8,10 @@ pub mod Checked
 pub mod CheckedLaws
 pub mod Held
 pub mod HeldLaws
+pub mod Links
 pub mod Memory
 pub mod Nodes
 pub mod Right
 pub mod RightLaws
+pub mod Waits
 pub mod WellFormed

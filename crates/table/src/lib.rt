@@ -1,7 +1,9 @@
-// The cache's memory: entries in lent slices, and when they are well-formed.
+// The cache's memory: entries in lent slices, what they await, and when they are well-formed.
 pub mod cells;
 pub mod chain;
 pub mod check;
 pub mod entries;
+pub mod links;
 pub mod names;
 pub mod nodes;
+pub mod waits;

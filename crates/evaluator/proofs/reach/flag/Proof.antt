@@ -1,6 +1,6 @@
 -- `evaluator::reach::flag` meets its contract: each path is a law of Reaching. Assumes nothing.
 use Rattle.evaluator.proofs.Reaching.{reaching}
-use Rattle.evaluator.proofs.Waiting.{below-one, below-most}
+use Rattle.table.proofs.Waiting.{below-one, below-most}
 use native.Mathlib.Omega.{arith}
 use Rattle.evaluator.proofs.reach.flag.Statement.{statement}
 use Rattle.evaluator.proofs.reach.flag.Tie as tie

@@ -1,6 +1,6 @@
 -- `evaluator::working::plan` meets its contract: each path is a law of Planning. Assumes nothing.
 use native.Mathlib.Omega.{arith}
-use Rattle.evaluator.proofs.Waiting.{below-one, below-most}
+use Rattle.table.proofs.Waiting.{below-one, below-most}
 use Rattle.evaluator.proofs.Planning.{plan-call, lower-right, planning}
 use Rattle.evaluator.proofs.working.plan.Statement.{statement}
 use Rattle.evaluator.proofs.working.plan.Tie as tie

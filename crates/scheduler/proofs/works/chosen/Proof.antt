@@ -1,4 +1,4 @@
--- `evaluator::works::chosen` meets its contract: each path is a law of Choosing. Assumes nothing.
+-- `scheduler::works::chosen` meets its contract: each path is a law of Choosing. Assumes nothing.
 use Rattle.scheduler.proofs.Choosing.{choosing}
 use Rattle.scheduler.proofs.works.chosen.Statement.{statement}
 use Rattle.scheduler.proofs.works.chosen.Tie as tie

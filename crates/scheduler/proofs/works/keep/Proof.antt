@@ -1,4 +1,4 @@
--- `evaluator::works::keep` meets its contract: each path is a law of Choosing. Assumes nothing.
+-- `scheduler::works::keep` meets its contract: each path is a law of Choosing. Assumes nothing.
 use Rattle.scheduler.proofs.Choosing.{choosing}
 use Rattle.scheduler.proofs.works.keep.Statement.{statement}
 use Rattle.scheduler.proofs.works.keep.Tie as tie

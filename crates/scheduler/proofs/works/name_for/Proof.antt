@@ -1,4 +1,4 @@
--- `evaluator::works::name_for` meets its contract: each path is a law of Choosing. Assumes nothing.
+-- `scheduler::works::name_for` meets its contract: each path is a law of Choosing. Assumes nothing.
 use Rattle.scheduler.proofs.Choosing.{choosing}
 use Rattle.scheduler.proofs.works.name_for.Statement.{statement}
 use Rattle.scheduler.proofs.works.name_for.Tie as tie

@@ -1,4 +1,4 @@
--- `evaluator::works::put` meets its contract: each path is a law of Choosing. Assumes nothing.
+-- `scheduler::works::put` meets its contract: each path is a law of Choosing. Assumes nothing.
 use native.Mathlib.Omega.{arith}
 use lib.ListN.{length-set}
 use Rattle.scheduler.proofs.Choosing.{put-is, choosing}

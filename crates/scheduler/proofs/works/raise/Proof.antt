@@ -1,7 +1,7 @@
--- `evaluator::works::raise` meets its contract: each path is a law of Choosing. Assumes nothing.
+-- `scheduler::works::raise` meets its contract: each path is a law of Choosing. Assumes nothing.
 use Rattle.scheduler.proofs.Choosing.{choosing}
 use native.Mathlib.Omega.{arith}
-use Rattle.evaluator.proofs.Waiting.{below-one, below-most}
+use Rattle.table.proofs.Waiting.{below-one, below-most}
 use Rattle.scheduler.proofs.works.raise.Statement.{statement}
 use Rattle.scheduler.proofs.works.raise.Tie as tie
 

@@ -1,4 +1,4 @@
--- `evaluator::works::show` meets its contract: each path is a law of Choosing. Assumes nothing.
+-- `scheduler::works::show` meets its contract: each path is a law of Choosing. Assumes nothing.
 use Rattle.scheduler.proofs.Choosing.{showing}
 use Rattle.scheduler.proofs.works.show.Statement.{statement}
 use Rattle.scheduler.proofs.works.show.Tie as tie

@@ -1,4 +1,4 @@
--- `evaluator::works::slot_name` meets its contract: each path is a law of Choosing. Assumes nothing.
+-- `scheduler::works::slot_name` meets its contract: each path is a law of Choosing. Assumes nothing.
 use Rattle.scheduler.proofs.Choosing.{choosing}
 use Rattle.scheduler.proofs.works.slot_name.Statement.{statement}
 use Rattle.scheduler.proofs.works.slot_name.Tie as tie

@@ -1,12 +1,12 @@
--- `evaluator::waits::fill_waits` meets its contract: each path is a law of Waiting. Assumes nothing.
-use Rattle.evaluator.proofs.Waiting.{waits-turn, waits-end}
-use Rattle.evaluator.specs.Waits.{waitsFrom}
+-- `table::waits::fill_waits` meets its contract: each path is a law of Waiting. Assumes nothing.
+use Rattle.table.proofs.Waiting.{waits-turn, waits-end}
+use Rattle.table.specs.Waits.{waitsFrom}
 use native.Mathlib.Nat.{sub-zero}
 use borrow.Author.Needs.{needs}
 use Prim.Native.Nat.{_-_, _≤_}
 use mathlib.Core.Path.{_≡_}
-use Rattle.evaluator.proofs.waits.fill_waits.Statement.{statement}
-use Rattle.evaluator.proofs.waits.fill_waits.Tie as tie
+use Rattle.table.proofs.waits.fill_waits.Statement.{statement}
+use Rattle.table.proofs.waits.fill_waits.Tie as tie
 
 abbrev Inv-loop : tie.InvT-loop
 Inv-loop links cells n waits₀ i₀ waits i = (i ≤ n) × (waitsFrom links cells (n - i) i waits ≡ waitsFrom links cells n 0 waits₀)

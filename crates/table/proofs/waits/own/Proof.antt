@@ -1,7 +1,7 @@
--- `evaluator::waits::own` meets its contract: each path is a law of Waiting. Assumes nothing.
-use Rattle.evaluator.proofs.Waiting.{waiting}
-use Rattle.evaluator.proofs.waits.own.Statement.{statement}
-use Rattle.evaluator.proofs.waits.own.Tie as tie
+-- `table::waits::own` meets its contract: each path is a law of Waiting. Assumes nothing.
+use Rattle.table.proofs.Waiting.{waiting}
+use Rattle.table.proofs.waits.own.Statement.{statement}
+use Rattle.table.proofs.waits.own.Tie as tie
 
 has-requires : tie.Need-has-requires
 has-requires c κs = search waiting

@@ -1,7 +1,7 @@
--- `evaluator::waits::without` meets its contract: each path is a law of Waiting. Assumes nothing.
-use Rattle.evaluator.proofs.Waiting.{waiting}
-use Rattle.evaluator.proofs.waits.without.Statement.{statement}
-use Rattle.evaluator.proofs.waits.without.Tie as tie
+-- `table::waits::without` meets its contract: each path is a law of Waiting. Assumes nothing.
+use Rattle.table.proofs.Waiting.{waiting}
+use Rattle.table.proofs.waits.without.Statement.{statement}
+use Rattle.table.proofs.waits.without.Tie as tie
 
 is-named-requires : tie.Need-is-named-requires
 is-named-requires c κs = search waiting

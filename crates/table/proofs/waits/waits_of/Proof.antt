@@ -1,8 +1,8 @@
--- `evaluator::waits::waits_of` meets its contract: each path is a law of Waiting. Assumes nothing.
-use Rattle.evaluator.proofs.Waiting.{waiting, below-one, below-most}
+-- `table::waits::waits_of` meets its contract: each path is a law of Waiting. Assumes nothing.
+use Rattle.table.proofs.Waiting.{waiting, below-one, below-most}
 use native.Mathlib.Omega.{arith}
-use Rattle.evaluator.proofs.waits.waits_of.Statement.{statement}
-use Rattle.evaluator.proofs.waits.waits_of.Tie as tie
+use Rattle.table.proofs.waits.waits_of.Statement.{statement}
+use Rattle.table.proofs.waits.waits_of.Tie as tie
 
 is-below-requires : tie.Need-is-below-requires
 is-below-requires c κs = search waiting

@@ -1,7 +1,7 @@
--- `evaluator::waits::is_named` meets its contract: each path is a law of Waiting. Assumes nothing.
-use Rattle.evaluator.proofs.Waiting.{waiting}
-use Rattle.evaluator.proofs.waits.is_named.Statement.{statement}
-use Rattle.evaluator.proofs.waits.is_named.Tie as tie
+-- `table::waits::is_named` meets its contract: each path is a law of Waiting. Assumes nothing.
+use Rattle.table.proofs.Waiting.{waiting}
+use Rattle.table.proofs.waits.is_named.Statement.{statement}
+use Rattle.table.proofs.waits.is_named.Tie as tie
 
 sub-cell : tie.Need-sub-cell
 sub-cell c = search waiting

@@ -1,7 +1,7 @@
--- `evaluator::waits::join` meets its contract: each path is a law of Waiting. Assumes nothing.
-use Rattle.evaluator.proofs.Waiting.{waiting}
-use Rattle.evaluator.proofs.waits.join.Statement.{statement}
-use Rattle.evaluator.proofs.waits.join.Tie as tie
+-- `table::waits::join` meets its contract: each path is a law of Waiting. Assumes nothing.
+use Rattle.table.proofs.Waiting.{waiting}
+use Rattle.table.proofs.waits.join.Statement.{statement}
+use Rattle.table.proofs.waits.join.Tie as tie
 
 returns : tie.Need-returns
 returns c = search waiting

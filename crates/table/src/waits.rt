@@ -4,7 +4,7 @@ use crate::links::is_below;
 use crate::links::link;
 ghost use mathlib.Core.Path.{_≡_};
 ghost use Prim.Native.Nat.{_<_, _≤_};
-ghost use Rattle.evaluator.specs.Waits.{holds, awaits as awaitsOf, joined, isNamed, without as withoutOf, waitsOf, waitsAt, waitsFrom, ownOf};
+ghost use Rattle.table.specs.Waits.{holds, awaits as awaitsOf, joined, isNamed, without as withoutOf, waitsOf, waitsAt, waitsFrom, ownOf};
 
 pub fn has(w: u32, v: u32) -> bool
     ensures { λ r. ⌜ r ≡ holds w v ⌝ }

@@ -9,8 +9,8 @@ use borrow.Author.Needs.{needs}
 use borrow.Author.Tests.{lt-ltb, le-ltb, le-leb, lt-leb, eq-eqb, ne-eqb, leb-true}
 use lib.Dec.{leb, eqb}
 use lib.ListN.{getD, set}
-use Rattle.evaluator.specs.Links.{isBelow}
-use Rattle.evaluator.specs.Waits.{holds, awaits, joined, isNamed, without, waitsOf, waitsAt, waitsFrom, ownOf}
+use Rattle.table.specs.Links.{isBelow}
+use Rattle.table.specs.Waits.{holds, awaits, joined, isNamed, without, waitsOf, waitsAt, waitsFrom, ownOf}
 
 pub awaits-is : (w v : ℕ) (r : Bool) → r ≡ holds w v → leb 1 v && r ≡ awaits w v
 awaits-is w v r e = rw e

@@ -1,7 +1,7 @@
 // Reads of the lent links and cells that are total: past the end a read is 0. No caller has to show an index.
 ghost use mathlib.Core.Path.{_≡_};
 ghost use lib.ListN.{getD};
-ghost use Rattle.evaluator.specs.Links.{isBelow};
+ghost use Rattle.table.specs.Links.{isBelow};
 
 pub fn link(links: &[u16], k: usize) -> u16
     ensures { λ r. ⌜ r ≡ getD (now (links .entry)) k 0 ⌝ }

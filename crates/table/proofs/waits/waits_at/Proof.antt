@@ -1,7 +1,7 @@
--- `evaluator::waits::waits_at` meets its contract: each path is a law of Waiting. Assumes nothing.
-use Rattle.evaluator.proofs.Waiting.{waiting}
-use Rattle.evaluator.proofs.waits.waits_at.Statement.{statement}
-use Rattle.evaluator.proofs.waits.waits_at.Tie as tie
+-- `table::waits::waits_at` meets its contract: each path is a law of Waiting. Assumes nothing.
+use Rattle.table.proofs.Waiting.{waiting}
+use Rattle.table.proofs.waits.waits_at.Statement.{statement}
+use Rattle.table.proofs.waits.waits_at.Tie as tie
 
 mul-link : tie.Need-mul-link
 mul-link c = search waiting

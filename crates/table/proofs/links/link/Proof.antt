@@ -1,0 +1,21 @@
+-- A read past the end is 0. Assumes nothing.
+use mathlib.Core.Path.{sym}
+use borrow.Author.Needs.{needs}
+use lib.ListN.{List·getD-eq-default}
+use Rattle.table.proofs.links.link.Statement.{statement}
+use Rattle.table.proofs.links.link.Tie as tie
+
+mul-result : tie.Need-mul-result
+mul-result c = search needs
+
+shared-slice-read-result : tie.Need-shared-slice-read-result
+shared-slice-read-result c = search needs
+
+returns : tie.Need-returns
+returns c = search needs
+
+returns-2 : tie.Need-returns-2
+returns-2 c = sym (List·getD-eq-default (c .before .args .links .now) 0 (c .if1 .left))
+
+pub link-spec : {M : Type 1} → statement M
+link-spec = tie.close (tie.spec mul-result shared-slice-read-result returns returns-2)
