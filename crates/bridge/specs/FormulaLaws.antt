@@ -11,6 +11,7 @@ use Rattle.grammar.specs.Places.{place-inside}
 use Rattle.grammar.specs.ReadingLaws.{refusal-range}
 use Rattle.grammar.specs.Machine.{readText}
 use Rattle.grammar.specs.Theorems.{text-read-plainly, text-refused}
+use Rattle.grammar.specs.Words.{text-worded}
 use Rattle.meaning.specs.Forms.{Form, number}
 use Rattle.meaning.specs.FormsLaws.{same-eq, same-self, within-self, within-only, within-trans, dependency-within}
 use Rattle.meaning.specs.Binding.{Meaning, means, asLambda, named, formE, called, placesE, placesC, placesA, placesM, orderE, orderC, orderA, orderM, formOf, formsByPlace, formsInOrder}
@@ -18,7 +19,6 @@ use Rattle.model.specs.Language.{rejected, parts}
 use Rattle.model.specs.Laws.{Tests, Readable, Rejected, Laws}
 use Rattle.formulas.specs.Formulas.{formulas, parsed}
 use Rattle.formulas.specs.BindingLaws.{ordered, bound}
-use Rattle.bridge.specs.Words.{text-words}
 use Rattle.bridge.specs.Proper.{Proper}
 use Rattle.bridge.specs.ProperLaws.{all-proper}
 
@@ -94,10 +94,9 @@ readable text order places whole h = by (readText text) refl h
         let few = r .1 .parts in
         let o = orderE-length e [] [] in
         let p = placesE-length e [] [] in
-        let w = r .0 in
         record {
           ordered = ordered e;
-          proper = all-proper e (r .1) (rw w (text-words text));
+          proper = all-proper e (r .1) (text-worded text e g);
           bound = bound e;
           few = omega arith;
           placed = omega arith;

@@ -1,7 +1,7 @@
 -- The table's nodes as the model's graph: a node with its dependencies' forms builds its form, and equal forms have equal nodes.
 -- Assumes nothing.
 use mathlib.Core.Path.{_≡_, refl, sym, ap, _∙_, subst}
-use mathlib.Core.Bool.{Bool, true, false}
+use mathlib.Core.Bool.{Bool, true, false, and-eq-true-iff}
 use mathlib.Core.List.{List, [], _∷_}
 use Prim.Native.Nat.{ℕ, zero, suc, _+_, _-_, _<_}
 use native.Mathlib.Omega.{arith}
@@ -12,15 +12,16 @@ use Rattle.language.specs.Members.{row, memberAt, memberNumber}
 use Rattle.language.specs.declared.members.Member.{Member}
 use Rattle.language.specs.declared.members.Found.{Found}
 use Rattle.language.specs.declared.members.Found.the-variants.{Is, Unknown}
+use Rattle.language.specs.Cases.{impossible, split, either, or-right}
 use Rattle.meaning.specs.Forms.{Form, number, variable, unbound, readings, ask, call, function, same, dependency, firstOf, secondOf}
-use Rattle.meaning.specs.FormsLaws.{no-way, either, and-left, and-right, or-right, same-eq, same-self, found}
+use Rattle.meaning.specs.FormsLaws.{same-eq, same-self, found}
 use Rattle.model.specs.Lists.{member}
-use Rattle.model.specs.Cases.{split}
 use Rattle.model.specs.ListLaws.{Equality}
 use Rattle.model.specs.Graph.{among, Graph, GraphLaws}
 use Rattle.table.specs.Memory.{Node}
 use Rattle.records.specs.Records.{node, numberKey}
-use Rattle.table.specs.Nodes.{numberKind, variableKind, unboundKind, readingsKind, functionKind, memberKind, pickForm, memberOfKind, memberArity, memberForm, arity, listed, kids, sameNode, numberOfKey, build}
+use Rattle.table.specs.Nodes.{numberKind, variableKind, unboundKind, readingsKind, functionKind, memberKind, pickForm}
+use Rattle.table.specs.Nodes.{memberOfKind, memberArity, memberForm, arity, listed, kids, sameNode, numberOfKey, build}
 use Rattle.formulas.specs.Formulas.{formulas}
 
 -- nodes as they stand in tables: what each kind has, and nothing else
@@ -37,7 +38,7 @@ abbrev pub nodes : Graph formulas
 nodes = record { Node = Node; Fine = Fine; same = sameNode; links = kids; build = build; nowhere = readings }
 
 -- the members' kinds are told apart from the others, and stand for their members
-pub member-found : (m : Member) → memberOfKind (memberKind m) ≡ Is m
+member-found : (m : Member) → memberOfKind (memberKind m) ≡ Is m
 unfolding memberOfKind memberAt
 member-found m =
     let q : 5 + memberNumber m - 5 ≡ memberNumber m = omega arith in
@@ -57,12 +58,12 @@ less-one n = omega arith
 node-equal : (a b : Node) → sameNode a b ≡ true → a ≡ b
 unfolding sameNode
 node-equal a b h =
-    let k = eqb-true (a .kind) (b .kind) (and-left _ _ h) in
-    let r = and-right (eqb (a .kind) (b .kind)) _ h in
-    let y = eqb-true (a .key) (b .key) (and-left _ _ r) in
-    let q = and-right (eqb (a .key) (b .key)) _ r in
-    let f = eqb-true (a .first) (b .first) (and-left _ _ q) in
-    let s = eqb-true (a .second) (b .second) (and-right (eqb (a .first) (b .first)) _ q) in
+    let k = eqb-true (a .kind) (b .kind) (and-eq-true-iff _ _ .0 h .0) in
+    let r = and-eq-true-iff (eqb (a .kind) (b .kind)) _ .0 h .1 in
+    let y = eqb-true (a .key) (b .key) (and-eq-true-iff _ _ .0 r .0) in
+    let q = and-eq-true-iff (eqb (a .key) (b .key)) _ .0 r .1 in
+    let f = eqb-true (a .first) (b .first) (and-eq-true-iff _ _ .0 q .0) in
+    let s = eqb-true (a .second) (b .second) (and-eq-true-iff (eqb (a .first) (b .first)) _ .0 q .1) in
     λ i. record { kind = k i; key = y i; first = f i; second = s i }
 
 node-self : (a : Node) → sameNode a a ≡ true
@@ -193,10 +194,10 @@ one-node n m φ fn fm e h =
 -- the dependencies of the form are those of the node
 each-of : (n : Node) (φ : ℕ → Form) (f d : Form) → Known n φ f → dependency d f ≡ true → (j : ℕ) × (among j (kids n) ≡ true) × (φ j ≡ d)
 unfolding dependency firstOf secondOf
-each-of n φ (number z) d k h = no-way h
-each-of n φ (variable x) d k h = no-way h
-each-of n φ (unbound x) d k h = no-way h
-each-of n φ readings d k h = no-way h
+each-of n φ (number z) d k h = impossible h
+each-of n φ (variable x) d k h = impossible h
+each-of n φ (unbound x) d k h = impossible h
+each-of n φ readings d k h = impossible h
 each-of n φ (ask m f) d k h = let a = k .first tt in (k .left, a .0, a .1 ∙ sym (same-eq d f h))
 each-of n φ (call m f a) d k h =
     either (same d f) (same d a) h
@@ -206,7 +207,7 @@ each-of n φ (function x b) d k h = let a = k .first tt in (k .left, a .0, a .1 
 
 pub among-one : (j k : ℕ) → among j (k ∷ []) ≡ true → k ≡ j
 unfolding member
-among-one j k h = split (eqb k j) (λ e. eqb-true k j e) (λ e. no-way (rw e at h))
+among-one j k h = split (eqb k j) (λ e. eqb-true k j e) (λ e. impossible (rw e at h))
 
 pub among-two : {A : Type 0} (j k l : ℕ) → among j (k ∷ l ∷ []) ≡ true → (k ≡ j → A) → (l ≡ j → A) → A
 unfolding member
@@ -214,10 +215,10 @@ among-two j k l h p q = split (eqb k j) (λ e. p (eqb-true k j e)) (λ e. q (amo
 
 only-of : (n : Node) (φ : ℕ → Form) (j : ℕ) → Fine n → among j (kids n) ≡ true → dependency (φ j) (build n φ) ≡ true
 unfolding dependency member kids arity memberOfKind build
-only-of _ φ j (aNumber key) h = no-way h
-only-of _ φ j (aVariable x) h = no-way h
-only-of _ φ j (anUnbound x) h = no-way h
-only-of _ φ j theReadings h = no-way h
+only-of _ φ j (aNumber key) h = impossible h
+only-of _ φ j (aVariable x) h = impossible h
+only-of _ φ j (anUnbound x) h = impossible h
+only-of _ φ j theReadings h = impossible h
 only-of _ φ j (aFunction x b) h =
     let q = among-one j b (subst (λ (l : List ℕ). among j l ≡ true) (kids-function x b) h) in
     rw (less-one b, q) (same-self (φ j))

@@ -9,11 +9,10 @@ use borrow.Author.Tests.{eqb-true, eq-eqb}
 use lib.Dec.{eqb}
 use lib.ListN.{length}
 use Rattle.language.specs.Members.{row}
+use Rattle.language.specs.Cases.{impossible, split, or-right}
 use Rattle.grammar.specs.KeptLimits.{InRange}
 use Rattle.meaning.specs.Forms.{Form, number, variable, unbound, readings, ask, call, function}
-use Rattle.meaning.specs.FormsLaws.{no-way, or-right}
 use Rattle.meaning.specs.Evaluation.{hasName, joined, without, awaited}
-use Rattle.model.specs.Cases.{split}
 use Rattle.table.specs.Nodes.{isName}
 
 abbrev pub Shape : Form → Type 0
@@ -40,21 +39,21 @@ Has y xs = hasName y xs ≡ true
 
 has-snoc : (y x : ℕ) (xs : List ℕ) → Has y (xs ++ (x ∷ [])) → (Has y xs → ⊥) → x ≡ y
 unfolding hasName
-has-snoc y x [] h out = split (eqb y x) (λ e. sym (eqb-true y x e)) (λ e. no-way (rw e at h))
+has-snoc y x [] h out = split (eqb y x) (λ e. sym (eqb-true y x e)) (λ e. impossible (rw e at h))
 has-snoc y x (z ∷ xs) h out = split (eqb y z) (λ e. absurd (out (rw e))) (λ e. has-snoc y x xs (rw e at h) (λ q. out (rw e q)))
 
 snoc-not : (y x : ℕ) (xs : List ℕ) → hasName y xs ≡ false → eqb y x ≡ false → hasName y (xs ++ (x ∷ [])) ≡ false
 unfolding hasName
 snoc-not y x [] h e = rw e
-snoc-not y x (z ∷ xs) h e = split (eqb y z) (λ q. no-way (sym h ∙ rw q)) (λ q. rw q (snoc-not y x xs (rw q at h) e))
+snoc-not y x (z ∷ xs) h e = split (eqb y z) (λ q. impossible (sym h ∙ rw q)) (λ q. rw q (snoc-not y x xs (rw q at h) e))
 
 nodup-snoc : (x : ℕ) (xs : List ℕ) → NoDup xs → hasName x xs ≡ false → NoDup (xs ++ (x ∷ []))
 unfolding hasName
 nodup-snoc x [] n h = (refl, tt)
 nodup-snoc x (y ∷ xs) n h =
     split (eqb x y)
-    (λ e. no-way (sym h ∙ rw e))
-    (λ e. (snoc-not y x xs (n .0) (split (eqb y x) (λ q. no-way (rw e at (eq-eqb x y (sym (eqb-true y x q))))) (λ q. q)), nodup-snoc x xs (n .1) (rw e at h)))
+    (λ e. impossible (sym h ∙ rw e))
+    (λ e. (snoc-not y x xs (n .0) (split (eqb y x) (λ q. impossible (rw e at (eq-eqb x y (sym (eqb-true y x q))))) (λ q. q)), nodup-snoc x xs (n .1) (rw e at h)))
 
 nodup-joined : (xs ys : List ℕ) → NoDup xs → NoDup (joined xs ys)
 unfolding joined
@@ -70,7 +69,7 @@ joined-cases z xs (y ∷ ys) h p q =
     (λ e. joined-cases z xs ys (rw e at h) p (λ i. q (or-right (eqb z y) _ i)))
     (λ e.
     joined-cases z (xs ++ (y ∷ [])) ys (rw e at h)
-    (λ i. split (hasName z xs) p (λ u. let k : y ≡ z = has-snoc z y xs i (λ v. no-way (sym u ∙ v)) in q (rw (eq-eqb z y (sym k)))))
+    (λ i. split (hasName z xs) p (λ u. let k : y ≡ z = has-snoc z y xs i (λ v. impossible (sym u ∙ v)) in q (rw (eq-eqb z y (sym k)))))
     (λ i. q (or-right (eqb z y) _ i)))
 
 pub has-joined : (z : ℕ) (xs ys ns : List ℕ) → ((y : ℕ) → Has y xs → Has y ns) → ((y : ℕ) → Has y ys → Has y ns) → Has z (joined xs ys) → Has z ns
@@ -79,7 +78,7 @@ has-joined z xs ys ns p q h = joined-cases z xs ys h (p z) (q z)
 -- and the other way round
 has-left : (z x : ℕ) (xs : List ℕ) → Has z xs → Has z (xs ++ (x ∷ []))
 unfolding hasName
-has-left z x [] h = no-way h
+has-left z x [] h = impossible h
 has-left z x (y ∷ xs) h = split (eqb z y) (λ e. rw e) (λ e. rw e (has-left z x xs (rw e at h)))
 
 has-last : (x : ℕ) (xs : List ℕ) → Has x (xs ++ (x ∷ []))
@@ -94,7 +93,7 @@ joined-left z xs (y ∷ ys) h = split (hasName y xs) (λ e. rw e (joined-left z 
 
 pub joined-right : (z : ℕ) (xs ys : List ℕ) → Has z ys → Has z (joined xs ys)
 unfolding joined hasName
-joined-right z xs [] h = no-way h
+joined-right z xs [] h = impossible h
 joined-right z xs (y ∷ ys) h =
     split (hasName y xs)
     (λ e. rw e (split (eqb z y) (λ u. joined-left z xs ys (rw (eqb-true z y u) e)) (λ u. joined-right z xs ys (rw u at h))))
@@ -102,7 +101,7 @@ joined-right z xs (y ∷ ys) h =
 
 pub has-without : (z x : ℕ) (ys : List ℕ) → Has z (without x ys) → Has z ys × (eqb x z ≡ false)
 unfolding without hasName
-has-without z x [] h = no-way h
+has-without z x [] h = impossible h
 has-without z x (y ∷ ys) h =
     split (eqb x y)
     (λ e. let r = has-without z x ys (rw e at h) in (or-right (eqb z y) _ (r .0), r .1))
@@ -112,7 +111,7 @@ has-without z x (y ∷ ys) h =
     (λ q. let h′ : Has z (y ∷ without x ys) = rw e at h in let r = has-without z x ys (rw q at h′) in (rw q (r .0), r .1)))
 
 not-without : (z x : ℕ) (ys : List ℕ) → hasName z ys ≡ false → hasName z (without x ys) ≡ false
-not-without z x ys h = split (hasName z (without x ys)) (λ e. no-way (sym h ∙ has-without z x ys e .0)) (λ e. e)
+not-without z x ys h = split (hasName z (without x ys)) (λ e. impossible (sym h ∙ has-without z x ys e .0)) (λ e. e)
 
 nodup-without : (x : ℕ) (ys : List ℕ) → NoDup ys → NoDup (without x ys)
 unfolding without
@@ -137,12 +136,12 @@ without-short x (y ∷ ys) = let r = without-short x ys in split (eqb x y) (λ e
 
 without-less : (x : ℕ) (ys : List ℕ) → Has x ys → length (without x ys) < length ys
 unfolding without hasName
-without-less x [] h = no-way h
+without-less x [] h = impossible h
 without-less x (y ∷ ys) h = split (eqb x y) (λ e. let r = without-short x ys in rw e (omega arith)) (λ e. let r = without-less x ys (rw e at h) in rw e (omega arith))
 
 pub has-kept : (z x : ℕ) (ys : List ℕ) → Has z ys → eqb x z ≡ false → Has z (without x ys)
 unfolding without hasName
-has-kept z x [] h e = no-way h
+has-kept z x [] h e = impossible h
 has-kept z x (y ∷ ys) h e =
     split (eqb z y)
     (λ q. let k : eqb x y ≡ false = rw (← eqb-true z y q) e in rw (k, q))
@@ -155,5 +154,5 @@ no-more (x ∷ xs) ns n h =
     let i = h x (rw (eq-eqb x x refl)) in
     let l = without-less x ns i in
     let r = no-more xs (without x ns) (n .1)
-    (λ y k. has-kept y x ns (h y (or-right (eqb y x) _ k)) (split (eqb x y) (λ e. no-way (sym (n .0) ∙ rw (eqb-true x y e) k)) (λ e. e))) in
+    (λ y k. has-kept y x ns (h y (or-right (eqb y x) _ k)) (split (eqb x y) (λ e. impossible (sym (n .0) ∙ rw (eqb-true x y e) k)) (λ e. e))) in
     omega arith

@@ -1,6 +1,6 @@
 -- Every form of a text that is read is proper. Assumes nothing.
 use mathlib.Core.Path.{_≡_, refl, sym, ap, _∙_}
-use mathlib.Core.Bool.{Bool, true, false}
+use mathlib.Core.Bool.{true, false}
 use mathlib.Core.List.{List, [], _∷_}
 use Prim.Native.Nat.{ℕ, suc, _<_, _≤_}
 use native.Mathlib.Omega.{arith}
@@ -11,19 +11,20 @@ use lib.ListN.{length}
 use Rattle.language.specs.Limits.{openLambdas}
 use Rattle.language.specs.Names.{packed, sameName, isData, dataWord}
 use Rattle.language.specs.Members.{row}
-use Rattle.grammar.specs.Tokens.{Token, kIn, kShut}
-use Rattle.grammar.specs.Grammar.{Expression, Calls, Arguments, More, letIn, lambda, name, literal, bracket, done, call, none, first, last, next, spellE, spellC, spellA, spellM}
+use Rattle.language.specs.Cases.{impossible, split, by-cond}
+use Rattle.grammar.specs.Grammar.{Expression, Calls, Arguments, More, letIn, lambda, name, literal, bracket, done, call, none, first, last, next}
 use Rattle.grammar.specs.Faults.{Binder, byLet, byLambda, Around, outermost, opened, inLet, inLambda, lambdasOf}
-use Rattle.grammar.specs.KeptLimits.{Site, aLet, aLambda, aBracket, aName, aNumber, aCall, givenA, givenM, EverywhereE, EverywhereC, EverywhereA, EverywhereM, FewLambdas, ShortNames, DataUnbound, SmallNumbers, RightCalls, KeepsLimits, InRange, NotData}
+use Rattle.grammar.specs.KeptLimits.{Site, aLet, aLambda, aBracket, aName, aNumber, aCall, givenA, givenM, EverywhereE, EverywhereC, EverywhereA}
+use Rattle.grammar.specs.KeptLimits.{EverywhereM, FewLambdas, ShortNames, DataUnbound, SmallNumbers, RightCalls, KeepsLimits, InRange, NotData}
+use Rattle.grammar.specs.KeptLimitsLaws.{weave-E, Both, both}
+use Rattle.grammar.specs.Words.{Worded}
 use Rattle.meaning.specs.Forms.{Form, number, variable, unbound, readings, ask, function}
-use Rattle.meaning.specs.FormsLaws.{no-way}
-use Rattle.meaning.specs.Binding.{Meaning, means, pickForm, lookUp, named, asLambda, member, formE, formC, formA, formM, called, orderE, orderC, orderA, orderM, formsInOrder}
+use Rattle.meaning.specs.Binding.{Meaning, means, lookUp, named, asLambda, member, formE, formC, formA, formM, called, orderE, orderC, orderA, orderM, formsInOrder}
 use Rattle.meaning.specs.Evaluation.{hasName, awaited}
 use Rattle.model.specs.Lists.{All}
-use Rattle.model.specs.Cases.{split}
 use Rattle.table.specs.Nodes.{isName}
 use Rattle.bridge.specs.Recorded.{few-arguments, given-right}
-use Rattle.bridge.specs.Words.{IsWord, WordToken, word-name}
+use Rattle.bridge.specs.Words.{word-name}
 use Rattle.bridge.specs.Proper.{Shape, Proper, Has, nodup-awaited, has-joined, has-without, no-more}
 
 -- what is known at each site of a tree that a text is read to
@@ -35,63 +36,7 @@ Known (aName x) d = isData x ≡ false → isName (packed x) ≡ true
 Known (aNumber z) d = InRange z
 Known (aCall m n) d = row (member m) .arguments ≡ n
 
--- two facts at every site give a third
-module _ (P Q R : Site → Around → Type 0) (f : (s : Site) (d : Around) → P s d → Q s d → R s d) where
-  mutual
-    pub bothE : (e : Expression) (d : Around) → EverywhereE P e d → EverywhereE Q e d → EverywhereE R e d
-    bothE (letIn x a b) d p q = (f (aLet x) d (p .0) (q .0), bothE a (opened d) (p .1) (q .1), bothE b (inLet x d) (p .2) (q .2))
-    bothE (lambda x b) d p q = (f (aLambda x) d (p .0) (q .0), bothE b (inLambda x d) (p .1) (q .1))
-    bothE (name x r) d p q = (f (aName x) d (p .0) (q .0), bothC r d (p .1) (q .1))
-    bothE (literal z r) d p q = (f (aNumber z) d (p .0) (q .0), bothC r d (p .1) (q .1))
-    bothE (bracket e r) d p q = (f aBracket d (p .0) (q .0), bothE e (opened d) (p .1) (q .1), bothC r d (p .2) (q .2))
-
-    pub bothC : (r : Calls) (d : Around) → EverywhereC P r d → EverywhereC Q r d → EverywhereC R r d
-    bothC done d p q = tt
-    bothC (call m a) d p q = (f (aCall m (givenA a)) d (p .0) (q .0), bothA a d (p .1) (q .1))
-
-    pub bothA : (a : Arguments) (d : Around) → EverywhereA P a d → EverywhereA Q a d → EverywhereA R a d
-    bothA (none r) d p q = bothC r d p q
-    bothA (first e x) d p q = (bothE e (opened d) (p .0) (q .0), bothM x d (p .1) (q .1))
-
-    pub bothM : (x : More) (d : Around) → EverywhereM P x d → EverywhereM Q x d → EverywhereM R x d
-    bothM (last r) d p q = bothC r d p q
-    bothM (next e x) d p q = (bothE e (opened d) (p .0) (q .0), bothM x d (p .1) (q .1))
-
--- the names of a tree are words where its tokens' are
-abbrev pub Worded : Site → Around → Type 0
-Worded (aLet x) d = Unit {0}
-Worded (aLambda x) d = IsWord x
-Worded aBracket d = Unit {0}
-Worded (aName x) d = IsWord x
-Worded (aNumber z) d = Unit {0}
-Worded (aCall m n) d = Unit {0}
-
-mutual
-  unfolding spellE
-
-  pub wordedE : (e : Expression) (d : Around) (u : List Token) → All WordToken (spellE e u) → EverywhereE Worded e d × All WordToken u
-  wordedE (letIn x a b) d u h = let A = wordedE a (opened d) (kIn ∷ spellE b u) (h .1 .1 .1) in let B = wordedE b (inLet x d) u (A .1 .1) in ((tt, A .0, B .0), B .1)
-  wordedE (lambda x b) d u h = let B = wordedE b (inLambda x d) u (h .1 .1 .1) in ((h .1 .0, B .0), B .1)
-  wordedE (name x r) d u h = let C = wordedC r d u (h .1) in ((h .0, C .0), C .1)
-  wordedE (literal z r) d u h = let C = wordedC r d u (h .1) in ((tt, C .0), C .1)
-  wordedE (bracket e r) d u h = let E = wordedE e (opened d) (kShut ∷ spellC r u) (h .1) in let C = wordedC r d u (E .1 .1) in ((tt, E .0, C .0), C .1)
-
-  wordedC : (r : Calls) (d : Around) (u : List Token) → All WordToken (spellC r u) → EverywhereC Worded r d × All WordToken u
-  wordedC done d u h = (tt, h)
-  wordedC (call m a) d u h = let A = wordedA a d u (h .1 .1 .1) in ((tt, A .0), A .1)
-
-  wordedA : (a : Arguments) (d : Around) (u : List Token) → All WordToken (spellA a u) → EverywhereA Worded a d × All WordToken u
-  wordedA (none r) d u h = wordedC r d u (h .1)
-  wordedA (first e x) d u h = let E = wordedE e (opened d) (spellM x u) h in let M = wordedM x d u (E .1) in ((E .0, M .0), M .1)
-
-  wordedM : (x : More) (d : Around) (u : List Token) → All WordToken (spellM x u) → EverywhereM Worded x d × All WordToken u
-  wordedM (last r) d u h = wordedC r d u (h .1)
-  wordedM (next e x) d u h = let E = wordedE e (opened d) (spellM x u) (h .1) in let M = wordedM x d u (E .1) in ((E .0, M .0), M .1)
-
 -- the sites known, from the limits and the words
-abbrev Both : (P Q : Site → Around → Type 0) → Site → Around → Type 0
-Both P Q s d = P s d × Q s d
-
 no-data : (x : List ℕ) → NotData x → isData x ≡ false
 unfolding isData
 no-data x h = ne-eqb (packed x) (packed dataWord) h
@@ -104,13 +49,13 @@ known-site (aName x) d p q = λ h. word-name x (q .1) (p .0 .1) h
 known-site (aNumber z) d p q = p .1 .1
 known-site (aCall m n) d p q = given-right m n (q .0 .0) (q .0 .1)
 
-known : (e : Expression) → KeepsLimits e → All WordToken (spellE e []) → EverywhereE Known e outermost
+known : (e : Expression) → KeepsLimits e → EverywhereE Worded e outermost → EverywhereE Known e outermost
 known e k w =
-    bothE (Both (Both FewLambdas ShortNames) (Both DataUnbound SmallNumbers)) (Both RightCalls Worded) Known known-site e outermost
-    (bothE (Both FewLambdas ShortNames) (Both DataUnbound SmallNumbers) (Both (Both FewLambdas ShortNames) (Both DataUnbound SmallNumbers)) (λ s d p q. (p, q)) e outermost
-    (bothE FewLambdas ShortNames (Both FewLambdas ShortNames) (λ s d p q. (p, q)) e outermost (k .lambdas) (k .names))
-    (bothE DataUnbound SmallNumbers (Both DataUnbound SmallNumbers) (λ s d p q. (p, q)) e outermost (k .dataFree) (k .numbers)))
-    (bothE RightCalls Worded (Both RightCalls Worded) (λ s d p q. (p, q)) e outermost (k .members) (wordedE e outermost [] w .0))
+    weave-E (Both (Both FewLambdas ShortNames) (Both DataUnbound SmallNumbers)) (Both RightCalls Worded) Known known-site e outermost
+    (both e (Both FewLambdas ShortNames) (Both DataUnbound SmallNumbers)
+    (both e FewLambdas ShortNames (k .lambdas) (k .names))
+    (both e DataUnbound SmallNumbers (k .dataFree) (k .numbers)))
+    (both e RightCalls Worded (k .members) w)
 
 -- the names of the lambdas around
 unfoldable lambdaNames : List Binder → List ℕ
@@ -145,20 +90,19 @@ good-all-more (e ∷ Γ) x ns h = (good-more (e .form) x ns (h .0), good-all-mor
 
 -- each form from the forms that it is made of
 good-leaf : (f : Form) (ns : List ℕ) → length ns ≤ 2 → Shape f → ((y : ℕ) → hasName y (awaited f) ≡ false) → Good f ns
-good-leaf f ns l s h = good f ns l s (λ y e. no-way (sym (h y) ∙ e))
-
-good-pick : (b : Bool) (f g : Form) (ns : List ℕ) → (b ≡ true → Good f ns) → (b ≡ false → Good g ns) → Good (pickForm b f g) ns
-good-pick true f g ns p q = p refl
-good-pick false f g ns p q = q refl
+good-leaf f ns l s h = good f ns l s (λ y e. impossible (sym (h y) ∙ e))
 
 good-lookup : (x : List ℕ) (Γ : List Meaning) (ns : List ℕ) → length ns ≤ 2 → GoodAll Γ ns → isName (packed x) ≡ true → Good (lookUp x Γ) ns
 unfolding lookUp awaited hasName
 good-lookup x [] ns l h n = good-leaf (unbound (packed x)) ns l n (λ y. refl)
-good-lookup x (e ∷ Γ) ns l h n = good-pick (sameName x (e .name)) (e .form) (lookUp x Γ) ns (λ q. h .0) (λ q. good-lookup x Γ ns l (h .1) n)
+good-lookup x (e ∷ Γ) ns l h n =
+    by-cond (λ (f : Form). Good f ns) (sameName x (e .name)) (e .form) (lookUp x Γ) (λ q. h .0) (λ q. good-lookup x Γ ns l (h .1) n)
 
 good-named : (x : List ℕ) (Γ : List Meaning) (ns : List ℕ) → length ns ≤ 2 → GoodAll Γ ns → (isData x ≡ false → isName (packed x) ≡ true) → Good (named x Γ) ns
 unfolding named awaited hasName
-good-named x Γ ns l h n = good-pick (isData x) readings (lookUp x Γ) ns (λ q. good-leaf readings ns l tt (λ y. refl)) (λ q. good-lookup x Γ ns l h (n q))
+good-named x Γ ns l h n =
+    by-cond (λ (f : Form). Good f ns) (isData x) readings (lookUp x Γ) (λ q. good-leaf readings ns l tt (λ y. refl))
+    (λ q. good-lookup x Γ ns l h (n q))
 
 good-number : (z : ℤ) (ns : List ℕ) → length ns ≤ 2 → InRange z → Good (number z) ns
 unfolding awaited hasName
@@ -174,7 +118,7 @@ good-call m f a ns l e g h = good (Form.call (member m) f a) ns l e (λ y i. has
 
 good-variable : (x : ℕ) (ns : List ℕ) → length ns ≤ 2 → isName x ≡ true → Has x ns → Good (variable x) ns
 unfolding awaited hasName
-good-variable x ns l n i = good (variable x) ns l n (λ y h. split (eqb y x) (λ e. rw (eqb-true y x e) i) (λ e. no-way (rw e at h)))
+good-variable x ns l n i = good (variable x) ns l n (λ y h. split (eqb y x) (λ e. rw (eqb-true y x e) i) (λ e. impossible (rw e at h)))
 
 good-function : (x : ℕ) (b : Form) (ns : List ℕ) → length ns ≤ 2 → isName x ≡ true → Good b (x ∷ ns) → Good (function x b) ns
 unfolding awaited hasName
@@ -183,7 +127,7 @@ good-function x b ns l n g =
     (λ y h.
     let r = has-without y x (awaited b) h in
     let i = g .within y (r .0) in
-    split (eqb y x) (λ e. no-way (sym (r .1) ∙ eq-eqb x y (sym (eqb-true y x e)))) (λ e. rw e at i))
+    split (eqb y x) (λ e. impossible (sym (r .1) ∙ eq-eqb x y (sym (eqb-true y x e)))) (λ e. rw e at i))
 
 first-has : (x : ℕ) (ns : List ℕ) → Has x (x ∷ ns)
 unfolding hasName
@@ -222,7 +166,8 @@ mutual
       let c = goodC r d (formE e Γ) Γ (k .2) l g (goodE e (opened d) Γ (k .1) l g [] tt .0) u p in
       (c .0, goodE e (opened d) Γ (k .1) l g (orderC r (formE e Γ) Γ u) (c .1) .1)
 
-  goodC : (r : Calls) (d : Around) (f : Form) (Γ : List Meaning) → EverywhereC Known r d → length (lambdaNames (d .binders)) ≤ 2 → GoodAll Γ (lambdaNames (d .binders)) → Good f (lambdaNames (d .binders))
+  goodC : (r : Calls) (d : Around) (f : Form) (Γ : List Meaning) → EverywhereC Known r d → length (lambdaNames (d .binders)) ≤ 2
+      → GoodAll Γ (lambdaNames (d .binders)) → Good f (lambdaNames (d .binders))
       → (u : List Form) → All Proper u → Good (formC r f Γ) (lambdaNames (d .binders)) × All Proper (orderC r f Γ u)
   goodC done d f Γ k l g h u p = (h, p)
   goodC (call m a) d f Γ k l g h u p = goodA a m d f Γ (k .0) (k .1) l g h u p
@@ -240,14 +185,15 @@ mutual
       let c = goodM x d (Form.call (member m) f (formE e′ Γ)) Γ (k .1) l g q u p in
       (c .0, goodE e′ (opened d) Γ (k .0) l g (orderM x (Form.call (member m) f (formE e′ Γ)) Γ u) (c .1) .1)
 
-  goodM : (x : More) (d : Around) (f : Form) (Γ : List Meaning) → EverywhereM Known x d → length (lambdaNames (d .binders)) ≤ 2 → GoodAll Γ (lambdaNames (d .binders)) → Good f (lambdaNames (d .binders))
+  goodM : (x : More) (d : Around) (f : Form) (Γ : List Meaning) → EverywhereM Known x d → length (lambdaNames (d .binders)) ≤ 2
+      → GoodAll Γ (lambdaNames (d .binders)) → Good f (lambdaNames (d .binders))
       → (u : List Form) → All Proper u → Good (formM x f Γ) (lambdaNames (d .binders)) × All Proper (orderM x f Γ u)
   goodM (last r) d f Γ k l g h u p = let c = goodC r d f Γ k l g h u p in (c .0, (h .proper, c .1))
   goodM (next e x) d f Γ k l g h u p =
       let c = goodM x d f Γ (k .1) l g h u p in
       (c .0, goodE e (opened d) Γ (k .0) l g (orderM x f Γ u) (c .1) .1)
 
--- of a whole tree whose tokens' words are words
-pub all-proper : (e : Expression) → KeepsLimits e → All WordToken (spellE e []) → All Proper (formsInOrder e)
+-- of a whole tree whose names are words
+pub all-proper : (e : Expression) → KeepsLimits e → EverywhereE Worded e outermost → All Proper (formsInOrder e)
 unfolding lambdaNames
 all-proper e k w = goodE e outermost [] (known e k w) (omega arith) tt [] tt .1

@@ -1,8 +1,8 @@
 -- The records of a tree unfold to its let-free forms: the root to the whole's, each place to its part's, and bound in their order they add
 -- what the forms in the order of binding add. Assumes nothing.
 use mathlib.Core.Path.{_≡_, refl, sym, ap, _∙_, subst}
-use mathlib.Core.Bool.{Bool, true, false}
-use mathlib.Core.List.{List, [], _∷_, _++_, map, append-nil, append-assoc}
+use mathlib.Core.Bool.{Bool, true, false, cond}
+use mathlib.Core.List.{List, [], _∷_, _++_, map, append-nil, append-assoc, map-append}
 use Prim.Native.Nat.{ℕ, zero, suc, _+_, _<_, _≤_}
 use native.Mathlib.Omega.{arith}
 use borrow.Author.Tests.{eqb-true, le-ltb}
@@ -10,6 +10,7 @@ use lib.Dec.{T, leb→le}
 use lib.IntN.{ℤ, pos, negsuc, _+ℤ_, _-ℤ_, +ℤ-negℤ-cancel}
 use lib.Signed.{_≤ℤ_, nonNeg, pos-natAbs}
 use lib.ListN.{length, getD, length-append, List·getD-append}
+use lib.Seq.{getD-at}
 use Rattle.language.specs.Limits.{leastNumber}
 use Rattle.language.specs.Names.{packed, sameName, isData}
 use Rattle.language.specs.Members.{row, memberOf, isUnknown, takes}
@@ -17,21 +18,23 @@ use Rattle.language.specs.declared.members.Member.{Member}
 use Rattle.language.specs.declared.members.Member.the-variants.{Add, Sub, Mul, Div, Gt, Eq, Skip, Take, Count, Sum, Min, Max, At, CountWhere, LongestRun, SumBy}
 use Rattle.language.specs.declared.members.Found.{Found}
 use Rattle.language.specs.declared.members.Found.the-variants.{Is, Unknown}
+use Rattle.language.specs.Cases.{impossible, split}
 use Rattle.grammar.specs.Grammar.{Expression, Calls, Arguments, More, letIn, lambda, name, literal, bracket, done, call, none, first, last, next}
 use Rattle.grammar.specs.Faults.{Around, outermost, opened, inLet, inLambda}
 use Rattle.grammar.specs.KeptLimits.{givenA, givenM, EverywhereE, EverywhereC, EverywhereA, EverywhereM, RightCalls, SmallNumbers, InRange, KeepsLimits}
 use Rattle.meaning.specs.Forms.{Form, number, variable, unbound, readings, ask, function, same}
-use Rattle.meaning.specs.FormsLaws.{no-way, same-eq, same-self}
-use Rattle.meaning.specs.Binding.{Meaning, means, pickForm, lookUp, named, asLambda, member, formE, formC, formA, formM, called, placesE, placesC, placesA, placesM, orderE, orderC, orderA, orderM, formOf, formsByPlace, formsInOrder}
+use Rattle.meaning.specs.FormsLaws.{same-eq, same-self}
+use Rattle.meaning.specs.Binding.{Meaning, means, lookUp, named, asLambda, member, formE, formC, formA, formM, called, placesE}
+use Rattle.meaning.specs.Binding.{placesC, placesA, placesM, orderE, orderC, orderA, orderM, formOf, formsByPlace, formsInOrder}
 use Rattle.model.specs.Lists.{All, member as isIn, insert, insertAll}
-use Rattle.model.specs.Cases.{split}
-use Rattle.model.specs.ListLaws.{Equality, getD-last, map-append, all-append, insert-old, insertAll-has}
+use Rattle.model.specs.ListLaws.{Equality, all-append, insert-old, insertAll-has}
 use Rattle.model.specs.Graph.{among, formAt, Placed, AllPlaced, decode, decode-snoc}
 use Rattle.table.specs.Memory.{Node}
 use Rattle.table.specs.Nodes.{numberKind, variableKind, unboundKind, readingsKind, functionKind, memberKind, build, kids, arity, memberOfKind}
-use Rattle.records.specs.Records.{Named, stands, Recorded, node, newRecord, numberKey, pickRecorded, linked, recordScoped, recordName, behind, recordE, recordC, recordA, recordM, recordsOf}
+use Rattle.records.specs.Records.{Named, stands, Recorded, node, newRecord, numberKey, linked, recordScoped, recordName, behind, recordE, recordC, recordA, recordM, recordsOf}
 use Rattle.formulas.specs.Formulas.{formulas}
-use Rattle.bridge.specs.Graphs.{Fine, aNumber, aVariable, anUnbound, theReadings, aFunction, anAsk, aCall, nodes, build-ask, build-call, kids-function, kids-ask, kids-call, among-one, among-two, less-one}
+use Rattle.bridge.specs.Graphs.{Fine, aNumber, aVariable, anUnbound, theReadings, aFunction, anAsk, aCall, nodes, build-ask}
+use Rattle.bridge.specs.Graphs.{build-call, kids-function, kids-ask, kids-call, among-one, among-two, less-one}
 
 -- the forms of records, and the form of one
 abbrev pub formsOf : List Node → List Form
@@ -90,7 +93,7 @@ forms-kept t u [] h = refl
 forms-kept t u (p ∷ ps) h = rw (form-kept t u p (h .0), forms-kept t u ps (h .1))
 
 form-last : (t : List Node) (n : Node) → formIn (t ++ (n ∷ [])) (length t) ≡ build n (formIn t)
-form-last t n = rw (decode-snoc formulas nodes [] t n) (getD-last (formsOf t) (build n (formIn t)) (length t) readings (sym (length-forms t)))
+form-last t n = rw (decode-snoc formulas nodes [] t n) (getD-at (formsOf t) (build n (formIn t)) [] readings (length t) (length-forms t))
 
 placed-append : (i : ℕ) (u v : List Node) → AllPlaced formulas nodes i u → AllPlaced formulas nodes (i + length u) v → AllPlaced formulas nodes i (u ++ v)
 placed-append i [] v p q = let z : i + 0 ≡ i = omega arith in rw z at q
@@ -129,7 +132,8 @@ extended A B t f g pa pb oa ob a b =
     }
 
 -- places before those of R
-before : (ps : List ℕ) (R : Recorded) (t : List Node) (f : Form) (pr os : List Form → List Form) → All (λ (p : ℕ). p < length t) ps → Right R t f pr os → Right (behind ps R) t f (λ v. map (formIn t) ps ++ pr v) os
+before : (ps : List ℕ) (R : Recorded) (t : List Node) (f : Form) (pr os : List Form → List Form) → All (λ (p : ℕ). p < length t) ps
+    → Right R t f pr os → Right (behind ps R) t f (λ v. map (formIn t) ps ++ pr v) os
 before ps R t f pr os h r =
     let x = r .is in
     let l = length-append t (r .more) in
@@ -249,12 +253,13 @@ scoped-after Σ Γ t R f pr os r h = let x = r .is in rw x (scoped-longer Σ Γ 
 -- leaves
 leaf-placed : (i : ℕ) (n : Node) → Fine n → kids n ≡ [] → Placed formulas nodes i n
 unfolding isIn
-leaf-placed i n f e = record { fine = f; lower = λ j h. no-way (subst (λ (l : List ℕ). among j l ≡ true) e h) }
+leaf-placed i n f e = record { fine = f; lower = λ j h. impossible (subst (λ (l : List ℕ). among j l ≡ true) e h) }
 
 abbrev one : Form → List Form → List Form
 one f v = f ∷ v
 
-right-pick : (b : Bool) (A B : Recorded) (t : List Node) (f g : Form) → Right A t f (one f) (one f) → Right B t g (one g) (one g) → Right (pickRecorded b A B) t (pickForm b f g) (one (pickForm b f g)) (one (pickForm b f g))
+right-pick : (b : Bool) (A B : Recorded) (t : List Node) (f g : Form) → Right A t f (one f) (one f) → Right B t g (one g) (one g)
+    → Right (cond b A B) t (cond b f g) (one (cond b f g)) (one (cond b f g))
 right-pick true A B t f g p q = p
 right-pick false A B t f g p q = q
 
@@ -309,7 +314,7 @@ given-right m k u e = by (memberOf m) refl
   where
     by : (f : Found) → memberOf m ≡ f → row (member m) .arguments ≡ k
     by (Is n) q = rw q (sym (rw q at e))
-    by Unknown q = no-way (sym (rw q at u))
+    by Unknown q = impossible (sym (rw q at u))
 
 -- a call's record
 ask-placed : (m : Member) (f i : ℕ) → row m .arguments ≡ 0 → f < i → Placed formulas nodes i (node (memberKind m) 0 (suc f) 0)
@@ -346,7 +351,8 @@ replaced R t f ps qs os r h =
     record { more = r .more; is = r .is; placed = r .placed; low = r .low; form = r .form; inside = r .inside; places = λ v. r .places v ∙ h v; order = r .order }
 
 -- one after the other
-after : (A B : Recorded) (t : List Node) (f g : Form) (pa pb oa ob : List Form → List Form) → Right A t f pa oa → Right B (A .records) g pb ob → Right (behind (A .places) B) t g (λ v. pa (pb v)) (λ u. oa (ob u))
+after : (A B : Recorded) (t : List Node) (f g : Form) (pa pb oa ob : List Form → List Form) → Right A t f pa oa → Right B (A .records) g pb ob
+    → Right (behind (A .places) B) t g (λ v. pa (pb v)) (λ u. oa (ob u))
 after A B t f g pa pb oa ob a b =
     replaced (behind (A .places) B) t g _ (λ v. pa (pb v)) (λ u. oa (ob u))
     (extended A (behind (A .places) B) t f g pa _ oa ob a (before (A .places) B (A .records) g pb ob (a .inside) b))
@@ -427,12 +433,15 @@ mutual
       let l = low-after RE t _ _ _ E in
       let few = few-arguments (member m) in
       let only : row (member m) .arguments ≡ 1 = omega arith in
-      let M = recordedM x m d f (RE .root) F (formE e′ Γ) (RE .places) Σ Γ (RE .records) only (c .1) (n .1) (scoped-after Σ Γ t RE _ _ _ E s) (omega arith) (form-after RE t _ _ _ E f h ∙ e) (E .low) (E .form) (E .inside) in
-      replaced _ t _ _ _ _ (extended RE (recordM x m f (RE .root) (RE .places) Σ (RE .records)) t _ _ _ _ _ _ E M) (λ v. ap (λ (fs : List Form). Form.call (member m) F (formE e′ Γ) ∷ fs) (E .places _))
+      let M = recordedM x m d f (RE .root) F (formE e′ Γ) (RE .places) Σ Γ (RE .records) only (c .1) (n .1) (scoped-after Σ Γ t RE _ _ _ E s)
+      (omega arith) (form-after RE t _ _ _ E f h ∙ e) (E .low) (E .form) (E .inside) in
+      replaced _ t _ _ _ _ (extended RE (recordM x m f (RE .root) (RE .places) Σ (RE .records)) t _ _ _ _ _ _ E M)
+      (λ v. ap (λ (fs : List Form). Form.call (member m) F (formE e′ Γ) ∷ fs) (E .places _))
 
   recordedM : (x : More) (m : List ℕ) (d : Around) (f a : ℕ) (F A : Form) (ps : List ℕ) (Σ : List Named) (Γ : List Meaning) (t : List Node) → row (member m) .arguments ≡ 1 → EverywhereM RightCalls x d
       → EverywhereM SmallNumbers x d → Scoped Σ Γ t → f < length t → formIn t f ≡ F → a < length t → formIn t a ≡ A → All (λ (p : ℕ). p < length t) ps
-      → Right (recordM x m f a ps Σ t) t (formM x (Form.call (member m) F A) Γ) (λ v. Form.call (member m) F A ∷ (map (formIn t) ps ++ placesM x (Form.call (member m) F A) Γ v)) (orderM x (Form.call (member m) F A) Γ)
+      → Right (recordM x m f a ps Σ t) t (formM x (Form.call (member m) F A) Γ)
+      (λ v. Form.call (member m) F A ∷ (map (formIn t) ps ++ placesM x (Form.call (member m) F A) Γ v)) (orderM x (Form.call (member m) F A) Γ)
   recordedM (last r) m d f a F A ps Σ Γ t g c n s h e k i q =
       let y = node (memberKind (member m)) 0 (suc f) (suc a) in
       let G = Form.call (member m) F A in
@@ -449,7 +458,8 @@ mutual
       let RE = recordE e′ Σ t in
       let G = Form.call (member m) F A in
       let l = low-after RE t _ _ _ E in
-      let M = recordedM x m d f a F A (ps ++ RE .places) Σ Γ (RE .records) g (c .1) (n .1) (scoped-after Σ Γ t RE _ _ _ E s) (omega arith) (form-after RE t _ _ _ E f h ∙ e) (omega arith) (form-after RE t _ _ _ E a k ∙ i)
+      let M = recordedM x m d f a F A (ps ++ RE .places) Σ Γ (RE .records) g (c .1) (n .1) (scoped-after Σ Γ t RE _ _ _ E s) (omega arith)
+      (form-after RE t _ _ _ E f h ∙ e) (omega arith) (form-after RE t _ _ _ E a k ∙ i)
       (all-append (λ (p : ℕ). p < length (RE .records)) ps (RE .places) (all-longer (length t) _ ps l q) (E .inside)) in
       replaced _ t _ _ _ _ (extended RE (recordM x m f a (ps ++ RE .places) Σ (RE .records)) t _ _ _ _ _ _ E M)
       (λ v.

@@ -92,7 +92,8 @@ uncalled-end end d [] h = refl
 uncalled-end end d (f ∷ F) h = refl
 
 -- the first argument is an expression in the frame of its call
-pub argument-step : (end k : ℕ) (d : Around) (F : List Frame) (h : Trees (at (arguments k d) F) → Expression) (c p : ℕ) (t : Token) (xs : List Located) (x : Step (at (expression (eqb k 0) (opened d)) (argument (k - 1) d ∷ F)) t)
+pub argument-step : (end k : ℕ) (d : Around) (F : List Frame) (h : Trees (at (arguments k d) F) → Expression) (c p : ℕ) (t : Token)
+    (xs : List Located) (x : Step (at (expression (eqb k 0) (opened d)) (argument (k - 1) d ∷ F)) t)
     → judgeAt c p (asArgument k d F t x) (λ b back c'. readOn end b (λ q. h (back q)) c' xs) ≡ judgeAt c p x (λ b back c'. readOn end b (λ q. h (first (back q .0) (back q .1 .0), back q .1 .1)) c' xs)
 unfolding judgeAt asArgument
 argument-step end k d F h c p t xs stop = refl

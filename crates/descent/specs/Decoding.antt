@@ -31,7 +31,7 @@ first-back k f s h i = omega arith
 second-back : (k f s : ℕ) → k < 32 → f < 256 → (k + 32 * f + 8192 * s) / 8192 ≡ s
 second-back k f s h i = omega arith
 
-pub node-back : (n : Node) → n .kind < 32 → n .first < 256 → nodeOf (linkWord n) (n .key) ≡ n
+node-back : (n : Node) → n .kind < 32 → n .first < 256 → nodeOf (linkWord n) (n .key) ≡ n
 unfolding linkWord
 node-back n h i = rw (kind-back (n .kind) (n .first) (n .second) h, first-back (n .kind) (n .first) (n .second) h i, second-back (n .kind) (n .first) (n .second) h i) refl
 

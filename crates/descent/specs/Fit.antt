@@ -8,15 +8,16 @@ use native.Mathlib.Omega.{arith}
 use native.Mathlib.Decide.{decLt}
 use lib.Dec.{leb, eqb, lit<}
 use lib.ListN.{getD, set}
+use lib.Seq.{getD-set-other}
 use borrow.Author.Tests.{leb-false, eqb-true, eqb-false}
 use Rattle.language.specs.MembersLaws.{number-below}
+use Rattle.grammar.specs.TokensLaws.{by-test}
 use Rattle.meaning.specs.Binding.{member}
 use Rattle.table.specs.Nodes.{memberKind}
 use Rattle.descent.specs.Cursor.{Cursor, binderLink, lambdasIn, isAt, headWord, letKind, inKind, lambdaKind, dotKind, openKind, shutKind, commaKind}
 use Rattle.descent.specs.Cursor.{atLet, atLambda, atBracket, atComma, atCallOpen, pass, passPart, passMember, refuse, judge, next, need, letHead, lambdaHead, callHead}
 use Rattle.descent.specs.Descent.{State, moved, Call, newCall, Mode, inExpression, inCalls, inArguments, inMore, enter}
-use Rattle.descent.specs.Cells.{getD-other}
-use Rattle.descent.specs.Moves.{by-test, not-refused, was-due, moved-judge, moved-pass, moved-let, moved-lambda, moved-call, moved-need, behind-some}
+use Rattle.descent.specs.Moves.{not-refused, was-due, moved-judge, moved-pass, moved-let, moved-lambda, moved-call, moved-need, behind-some}
 use Rattle.descent.specs.Kept.{Kept, depthOf, owed, kept-moved}
 
 -- a call being read
@@ -39,7 +40,7 @@ marksOf (inArguments k marks depth) = marks
 marksOf (inMore k marks depth) = marks
 
 -- the ( of a call is open besides
-abbrev pub besides : Mode → ℕ
+abbrev besides : Mode → ℕ
 besides (inExpression w marks depth) = 0
 besides (inCalls marks depth) = 0
 besides (inArguments k marks depth) = 1
@@ -68,15 +69,18 @@ went-on end a k =
 pub let-few : (end : ℕ) (w : Bool) (marks : ℕ) (c : Cursor) → letHead end w marks c .number ≡ 0 → marks < 16
 unfolding letHead atLet
 let-few end w marks c z =
-    leb-false 16 marks (not-refused (leb 16 marks) 11 _ (not-refused w 8 _ (judged end (atLet w marks (c .parts)) c _ (went-on end (judge end (atLet w marks (c .parts)) c (λ _. passPart c)) _ z .0)) .1) .0)
+    leb-false 16 marks (not-refused (leb 16 marks) 11 _
+    (not-refused w 8 _ (judged end (atLet w marks (c .parts)) c _ (went-on end (judge end (atLet w marks (c .parts)) c (λ _. passPart c)) _ z .0)) .1) .0)
 
 pub lambda-few : (end : ℕ) (w : Bool) (marks depth : ℕ) (scope : List ℕ) (c : Cursor) → lambdaHead end w marks depth scope c .number ≡ 0 → marks < 16
 unfolding lambdaHead atLambda
 lambda-few end w marks depth scope c z =
     let l = lambdasIn scope depth in
-    leb-false 16 marks (not-refused (leb 16 marks) 11 _ (not-refused (leb 2 l) 9 _ (not-refused w 8 _ (judged end (atLambda w l marks (c .parts)) c _ (went-on end (judge end (atLambda w l marks (c .parts)) c (λ _. passPart c)) _ z .0)) .1) .1) .0)
+    leb-false 16 marks (not-refused (leb 16 marks) 11 _
+    (not-refused (leb 2 l) 9 _ (not-refused w 8 _ (judged end (atLambda w l marks (c .parts)) c _
+    (went-on end (judge end (atLambda w l marks (c .parts)) c (λ _. passPart c)) _ z .0)) .1) .1) .0)
 
-pub bracket-few : (end : ℕ) (w : Bool) (marks : ℕ) (c : Cursor) (d : Unit {0} → Cursor) → judge end (atBracket w marks) c d .number ≡ 0 → marks < 16
+bracket-few : (end : ℕ) (w : Bool) (marks : ℕ) (c : Cursor) (d : Unit {0} → Cursor) → judge end (atBracket w marks) c d .number ≡ 0 → marks < 16
 unfolding atBracket
 bracket-few end w marks c d z = leb-false 16 marks (not-refused (leb 16 marks) 11 _ (not-refused w 8 _ (judged end (atBracket w marks) c d z) .1) .0)
 
@@ -98,7 +102,7 @@ unfolding next
 goes-next P end a k f =
     by-test (λ x. x .number ≡ 0 → P x) (eqb (a .number) 0) (λ _. k a) (λ _. a) (λ e. f (eqb-true (a .number) 0 e)) (λ e z. absurd (eqb-false (a .number) 0 e z))
 
-pub call-head : (end marks : ℕ) (c : Cursor) → callHead end marks c .number ≡ 0 → (marks < 16) × (callHead end marks c .name < 32)
+call-head : (end marks : ℕ) (c : Cursor) → callHead end marks c .number ≡ 0 → (marks < 16) × (callHead end marks c .name < 32)
 unfolding callHead atCallOpen pass
 call-head end marks c =
     let P : Cursor → Type 0 = λ x. (marks < 16) × (x .name < 32) in
@@ -111,11 +115,15 @@ entered-link [] i v = omega arith
 entered-link (c ∷ cs) zero v = omega arith
 entered-link (c ∷ cs) (suc i) v = entered-link cs i v
 
-pub links-entered : (depth x j c : ℕ) (scope : List ℕ) → ((b : ℕ) → b < depth → binderLink scope b ≤ c) → j ≤ c → (b : ℕ) → b < suc depth
+links-entered : (depth x j c : ℕ) (scope : List ℕ) → ((b : ℕ) → b < depth → binderLink scope b ≤ c) → j ≤ c → (b : ℕ) → b < suc depth
     → binderLink (set (set scope (2 * depth) x) (2 * depth + 1) j) b ≤ c
 links-entered depth x j c scope h l b m =
     elim (decLt b depth) [
-      | yes lt ↦ let e : binderLink (set (set scope (2 * depth) x) (2 * depth + 1) j) b ≡ binderLink scope b = getD-other (set scope (2 * depth) x) (2 * depth + 1) (2 * b + 1) j (λ e. omega arith) ∙ getD-other scope (2 * depth) (2 * b + 1) x (λ e. omega arith) in rw e (h b lt)
+      | yes lt ↦
+          let e : binderLink (set (set scope (2 * depth) x) (2 * depth + 1) j) b ≡ binderLink scope b =
+          getD-set-other (set scope (2 * depth) x) (2 * depth + 1) (2 * b + 1) j 0 (λ e. omega arith)
+          ∙ getD-set-other scope (2 * depth) (2 * b + 1) x 0 (λ e. omega arith) in
+          rw e (h b lt)
       | no ge ↦ let e : b ≡ depth = omega arith in rw e (let i = entered-link (set scope (2 * depth) x) (2 * depth + 1) j in omega arith)
     ]
 

@@ -9,13 +9,14 @@ use lib.ListN.{getD}
 use borrow.Author.Tests.{eqb-true, eqb-false}
 use Rattle.language.specs.Names.{dataWord}
 use Rattle.grammar.specs.Tokens.{when}
+use Rattle.grammar.specs.TokensLaws.{by-test}
 use Rattle.table.specs.Memory.{Node}
 use Rattle.descent.specs.Cursor.{Cursor, binderLink, binderOf, isAt, letKind, lambdaKind, openKind, shutKind, commaKind, wordKind, digitsKind}
 use Rattle.descent.specs.Cursor.{headWord, atComma, atName, pass, passPart, refuse, judge, lambdaHead, callHead}
 use Rattle.descent.specs.Descent.{State, moved, then, counted, rooted, put, link, mark, enter, putBound, putScoped, putName, Call, newCall, firstGiven, nextGiven}
 use Rattle.descent.specs.Descent.{Mode, Reader, inExpression, inCalls, inArguments, inMore, readName, readNumber, readShut, readLet, readLambda, readBracket}
 use Rattle.descent.specs.Descent.{readExpression, readCalls, readArguments, readMore, step, run}
-use Rattle.descent.specs.Moves.{Moved, by-test, moved-judge, moved-pass, moved-lambda, behind-some}
+use Rattle.descent.specs.Moves.{Moved, moved-judge, moved-pass, moved-lambda, behind-some}
 use Rattle.descent.specs.Kept.{Kept, Keeps, depthOf, passes, owed, kept-atom, kept-number, kept-shut, run-keeps}
 use Rattle.descent.specs.Fit.{marksOf, Fit, fit-kept, fit-let-value, fit-bracketed, fit-call, fit-argument, fit-comma, fit-let-body, fit-bracket-calls}
 
@@ -121,7 +122,7 @@ module _ (end marks depth : ℕ) (s : State) where
       fit-shut k (record { parts = h .parts; count = omega arith; marks = omega arith; depth = h .depth; links = h .links; own = tt }) (omega arith)
 
 module _ (end : ℕ) (rd : Reader) (keeps : Keeps rd) (roots : RootsHeld rd) where
-  pub fit-behind : (m : Mode) (s : State) → Fit m s → rd m s .cursor .number ≡ 0 → Fit (inCalls (marksOf m) (depthOf m)) (rd m s)
+  fit-behind : (m : Mode) (s : State) → Fit m s → rd m s .cursor .number ≡ 0 → Fit (inCalls (marksOf m) (depthOf m)) (rd m s)
   fit-behind m s h z = fit-done m s (rd m s) h (keeps m s) z (roots m s h z)
 
   -- behind the first argument of a call, and behind another

@@ -7,8 +7,10 @@ use Prim.Native.Nat.{ℕ, suc, _+_, _*_, _<_}
 use native.Mathlib.Omega.{arith}
 use lib.Dec.{eqb}
 use lib.ListN.{length}
+use lib.Seq.{sets}
 use borrow.Author.Tests.{eqb-true, eqb-false}
 use Rattle.grammar.specs.Tokens.{when}
+use Rattle.grammar.specs.TokensLaws.{by-test}
 use Rattle.grammar.specs.Grammar.{Expression, Calls, Arguments, More}
 use Rattle.grammar.specs.Reading.{Reading, refused}
 use Rattle.grammar.specs.Machine.{Frame, argument, at, Outer, expression, calls, arguments, over}
@@ -18,9 +20,7 @@ use Rattle.table.specs.Nodes.{memberKind}
 use Rattle.records.specs.Records.{Named, Recorded, behind, recordE, recordC, recordA, recordM}
 use Rattle.descent.specs.Cursor.{Cursor, headPlace, refuse}
 use Rattle.descent.specs.Descent.{State, moved, then, Call, inExpression, inCalls, inArguments, inMore, run}
-use Rattle.descent.specs.Cells.{puts}
 use Rattle.descent.specs.Continued.{readOn}
-use Rattle.descent.specs.Moves.{by-test}
 use Rattle.descent.specs.Scope.{around}
 use Rattle.descent.specs.Heads.{Fits}
 use Rattle.descent.specs.Wrote.{Ready, Wrote, wrote-behind}
@@ -76,8 +76,9 @@ module _ (end : ℕ) (R : List ℕ) where
         → k .kind ≡ memberKind (member m) → k .argument ≡ 0 → s .cursor .parts ≡ suc (k .place) → Ready R Σ t marks depth s
         → r ≡ readOn end (at (arguments (k .takes) (around marks Σ)) F) h (s .cursor .parts) (s .cursor .rest) → 2 * length (s .cursor .rest) + 1 < f
         → FitsAt (run end f (inArguments k marks depth) s) (Read (s .places) (k .place) (λ a. recordA a m (k .receiver) Σ t) F (λ a o. h (a, o)) r) r
-    pub onMore : (k : Call) (m : List ℕ) (a : ℕ) (ps B : List ℕ) (marks depth : ℕ) (s : State) (Σ : List Named) (t : List Node) (F : List Frame) (h : Unit {0} × (More × Outer F) → Expression) (r : Reading)
-        → k .kind ≡ memberKind (member m) → k .argument ≡ suc a → s .places ≡ puts B (suc (k .place)) ps → s .cursor .parts ≡ suc (k .place) + length ps
+    pub onMore : (k : Call) (m : List ℕ) (a : ℕ) (ps B : List ℕ) (marks depth : ℕ) (s : State) (Σ : List Named) (t : List Node) (F : List Frame)
+        (h : Unit {0} × (More × Outer F) → Expression) (r : Reading)
+        → k .kind ≡ memberKind (member m) → k .argument ≡ suc a → s .places ≡ sets B (suc (k .place)) ps → s .cursor .parts ≡ suc (k .place) + length ps
         → Ready R Σ t marks depth s → r ≡ readOn end (at over (argument (k .takes) (around marks Σ) ∷ F)) h (s .cursor .parts) (s .cursor .rest)
         → 2 * length (s .cursor .rest) < f
         → FitsAt (run end f (inMore k marks depth) s) (Read B (k .place) (λ x. recordM x m (k .receiver) a ps Σ t) F (λ x o. h (tt, (x, o))) r) r

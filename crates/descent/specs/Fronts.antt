@@ -9,13 +9,17 @@ use Rattle.language.specs.Members.{memberOf, isUnknown, takes}
 use Rattle.grammar.specs.Tokens.{Token, kLet, kIn, kEquals, kLambda, kArrow, kDot, kOpen, kShut, kComma, word, number, other, when, Located}
 use Rattle.grammar.specs.Grammar.{Expression, letIn, lambda, name, literal, bracket, done, call, none, first, last, next}
 use Rattle.grammar.specs.Faults.{fine, Around, opened, inLet, inLambda, deep, markFault, lambdaFault, letNameFault, lambdaNameFault}
-use Rattle.grammar.specs.Faults.{nameFault, literalFault, callFault, note, fault, faultNumber, counted}
+use Rattle.grammar.specs.Faults.{nameFault, literalFault, callFault, Note, note, fault, faultNumber, counted}
 use Rattle.grammar.specs.Reading.{Reading, refused}
-use Rattle.grammar.specs.Machine.{Frame, value, brackets, argument, at, Trees, finish, stepOver, stepExpression}
+use Rattle.grammar.specs.Machine.{Frame, State, value, brackets, argument, at, Trees, finish, stepOver, stepExpression}
 use Rattle.grammar.specs.Machine.{expression, letName, letEquals, lambdaName, lambdaArrow, calls, member, callOpen, arguments, over}
 use Rattle.descent.specs.Cursor.{kindOf, wordOf, valueOf, headKind, headWord, headValue, headPlace, behindHead, isAt}
 use Rattle.descent.specs.Cursor.{letKind, inKind, equalsKind, lambdaKind, arrowKind, dotKind, openKind, shutKind, commaKind, wordKind, digitsKind}
 use Rattle.descent.specs.Continued.{unlessAt, judgeAt, endedAt, readOn, uncalled-step, uncalled-end, argument-step}
+
+-- the head has the note n: refused there where that is a fault, else s is read behind it
+abbrev pub beyond : ℕ → ℕ → List Located → Note → (s : State) → (Trees s → Expression) → ℕ → Reading
+beyond end c rest n s h c' = unlessAt (fault c n) (headPlace end rest) (readOn end s h c' (behindHead rest))
 
 -- the token is due, and anything else refused
 abbrev pub due : ℕ → Reading → ℕ → List Located → Reading
@@ -25,11 +29,11 @@ module _ (end : ℕ) (w : Bool) (d : Around) (F : List Frame) (h : Trees (at (ex
   abbrev pub ExpressionFront : List Located → Type 0
   ExpressionFront rest =
       readOn end (at (expression w d) F) h c rest ≡
-      when (isAt letKind rest) (λ _. unlessAt (fault c (note (markFault w d) true)) (headPlace end rest) (readOn end (at (letName d) F) (λ q. h (letIn (q .0 .0) (q .0 .1) (q .0 .2), q .1)) (suc c) (behindHead rest)))
-      (λ _. when (isAt lambdaKind rest) (λ _. unlessAt (fault c (note (lambdaFault w d) true)) (headPlace end rest) (readOn end (at (lambdaName d) F) (λ q. h (lambda (q .0 .0) (q .0 .1), q .1)) (suc c) (behindHead rest)))
-      (λ _. when (isAt openKind rest) (λ _. unlessAt (fault c (note (markFault w d) false)) (headPlace end rest) (readOn end (at (expression false (opened d)) (brackets d ∷ F)) (λ q. h (bracket (q .0) (q .1 .0), q .1 .1)) c (behindHead rest)))
-      (λ _. when (isAt wordKind rest) (λ _. unlessAt (fault c (note (nameFault w (headWord rest)) true)) (headPlace end rest) (readOn end (at (calls d) F) (λ q. h (name (headWord rest) (q .0), q .1)) (suc c) (behindHead rest)))
-      (λ _. due digitsKind (unlessAt (fault c (note (literalFault w (headValue rest)) true)) (headPlace end rest) (readOn end (at (calls d) F) (λ q. h (literal (headValue rest) (q .0), q .1)) (suc c) (behindHead rest))) end rest))))
+      when (isAt letKind rest) (λ _. beyond end c rest (note (markFault w d) true) (at (letName d) F) (λ q. h (letIn (q .0 .0) (q .0 .1) (q .0 .2), q .1)) (suc c))
+      (λ _. when (isAt lambdaKind rest) (λ _. beyond end c rest (note (lambdaFault w d) true) (at (lambdaName d) F) (λ q. h (lambda (q .0 .0) (q .0 .1), q .1)) (suc c))
+      (λ _. when (isAt openKind rest) (λ _. beyond end c rest (note (markFault w d) false) (at (expression false (opened d)) (brackets d ∷ F)) (λ q. h (bracket (q .0) (q .1 .0), q .1 .1)) c)
+      (λ _. when (isAt wordKind rest) (λ _. beyond end c rest (note (nameFault w (headWord rest)) true) (at (calls d) F) (λ q. h (name (headWord rest) (q .0), q .1)) (suc c))
+      (λ _. due digitsKind (beyond end c rest (note (literalFault w (headValue rest)) true) (at (calls d) F) (λ q. h (literal (headValue rest) (q .0), q .1)) (suc c)) end rest))))
 
   at-expression : (t : Token) (p : ℕ) (xs : List Located) → ExpressionFront (record { token = t; place = p } ∷ xs)
   unfolding readOn unlessAt judgeAt endedAt Rattle.grammar.specs.Machine.step finish headKind headWord headValue headPlace behindHead kindOf wordOf valueOf when fault faultNumber counted
@@ -55,7 +59,7 @@ module _ (end : ℕ) (d : Around) (F : List Frame) (h : Trees (at (letName d) F)
   abbrev pub LetNameFront : List Located → Type 0
   LetNameFront rest =
       readOn end (at (letName d) F) h c rest ≡
-      due wordKind (unlessAt (fault c (note (letNameFault (headWord rest)) false)) (headPlace end rest) (readOn end (at (letEquals (headWord rest) d) F) (λ q. h ((headWord rest, q .0 .0, q .0 .1), q .1)) c (behindHead rest))) end rest
+      due wordKind (beyond end c rest (note (letNameFault (headWord rest)) false) (at (letEquals (headWord rest) d) F) (λ q. h ((headWord rest, q .0 .0, q .0 .1), q .1)) c) end rest
 
   at-letName : (t : Token) (p : ℕ) (xs : List Located) → LetNameFront (record { token = t; place = p } ∷ xs)
   unfolding readOn unlessAt judgeAt endedAt Rattle.grammar.specs.Machine.step finish headKind headWord headValue headPlace behindHead kindOf wordOf valueOf when fault faultNumber counted
@@ -107,7 +111,7 @@ module _ (end : ℕ) (d : Around) (F : List Frame) (h : Trees (at (lambdaName d)
   abbrev pub LambdaNameFront : List Located → Type 0
   LambdaNameFront rest =
       readOn end (at (lambdaName d) F) h c rest ≡
-      due wordKind (unlessAt (fault c (note (lambdaNameFault (headWord rest) d) false)) (headPlace end rest) (readOn end (at (lambdaArrow (headWord rest) d) F) (λ q. h ((headWord rest, q .0), q .1)) c (behindHead rest))) end rest
+      due wordKind (beyond end c rest (note (lambdaNameFault (headWord rest) d) false) (at (lambdaArrow (headWord rest) d) F) (λ q. h ((headWord rest, q .0), q .1)) c) end rest
 
   at-lambdaName : (t : Token) (p : ℕ) (xs : List Located) → LambdaNameFront (record { token = t; place = p } ∷ xs)
   unfolding readOn unlessAt judgeAt endedAt Rattle.grammar.specs.Machine.step finish headKind headWord headValue headPlace behindHead kindOf wordOf valueOf when fault faultNumber counted
@@ -159,7 +163,8 @@ module _ (end : ℕ) (d : Around) (F : List Frame) (h : Trees (at (member d) F) 
   abbrev pub MemberFront : List Located → Type 0
   MemberFront rest =
       readOn end (at (member d) F) h c rest ≡
-      due wordKind (unlessAt (fault c (note (callFault (isUnknown (memberOf (headWord rest)))) false)) (headPlace end rest) (readOn end (at (callOpen (takes (memberOf (headWord rest))) d) F) (λ q. h ((headWord rest, q .0), q .1)) c (behindHead rest))) end rest
+      due wordKind (beyond end c rest (note (callFault (isUnknown (memberOf (headWord rest)))) false)
+      (at (callOpen (takes (memberOf (headWord rest))) d) F) (λ q. h ((headWord rest, q .0), q .1)) c) end rest
 
   at-member : (t : Token) (p : ℕ) (xs : List Located) → MemberFront (record { token = t; place = p } ∷ xs)
   unfolding readOn unlessAt judgeAt endedAt Rattle.grammar.specs.Machine.step finish headKind headWord headValue headPlace behindHead kindOf wordOf valueOf when fault faultNumber counted
@@ -185,7 +190,7 @@ module _ (end : ℕ) (k : ℕ) (d : Around) (F : List Frame) (h : Trees (at (cal
   abbrev pub CallOpenFront : List Located → Type 0
   CallOpenFront rest =
       readOn end (at (callOpen k d) F) h c rest ≡
-      due openKind (unlessAt (fault c (note (deep d) false)) (headPlace end rest) (readOn end (at (arguments k d) F) (λ q. h q) c (behindHead rest))) end rest
+      due openKind (beyond end c rest (note (deep d) false) (at (arguments k d) F) (λ q. h q) c) end rest
 
   at-callOpen : (t : Token) (p : ℕ) (xs : List Located) → CallOpenFront (record { token = t; place = p } ∷ xs)
   unfolding readOn unlessAt judgeAt endedAt Rattle.grammar.specs.Machine.step finish headKind headWord headValue headPlace behindHead kindOf wordOf valueOf when fault faultNumber counted
@@ -263,8 +268,8 @@ module _ (end : ℕ) (k : ℕ) (d : Around) (F : List Frame) (h : Trees (at over
   abbrev pub MoreFront : List Located → Type 0
   MoreFront rest =
       readOn end (at over (argument k d ∷ F)) h c rest ≡
-      when (isAt shutKind rest) (λ _. unlessAt (fault c (note (callFault (leb 1 k)) false)) (headPlace end rest) (readOn end (at (calls d) F) (λ q. h (tt, (last (q .0), q .1))) c (behindHead rest)))
-      (λ _. due commaKind (unlessAt (fault c (note (callFault (eqb k 0)) false)) (headPlace end rest) (readOn end (at (expression false (opened d)) (argument (k - 1) d ∷ F)) (λ q. h (tt, (next (q .0) (q .1 .0), q .1 .1))) c (behindHead rest))) end rest)
+      when (isAt shutKind rest) (λ _. beyond end c rest (note (callFault (leb 1 k)) false) (at (calls d) F) (λ q. h (tt, (last (q .0), q .1))) c)
+      (λ _. due commaKind (beyond end c rest (note (callFault (eqb k 0)) false) (at (expression false (opened d)) (argument (k - 1) d ∷ F)) (λ q. h (tt, (next (q .0) (q .1 .0), q .1 .1))) c) end rest)
 
   at-more : (t : Token) (p : ℕ) (xs : List Located) → MoreFront (record { token = t; place = p } ∷ xs)
   unfolding readOn unlessAt judgeAt endedAt Rattle.grammar.specs.Machine.step finish headKind headWord headValue headPlace behindHead kindOf wordOf valueOf when fault faultNumber counted
@@ -290,7 +295,7 @@ module _ (end : ℕ) (d : Around) (F : List Frame) (h : Trees (at (calls d) F) �
   abbrev pub CallsFront : List Located → Type 0
   CallsFront rest =
       readOn end (at (calls d) F) h c rest ≡
-      when (isAt dotKind rest) (λ _. unlessAt (fault c (note fine true)) (headPlace end rest) (readOn end (at (member d) F) (λ q. h (call (q .0 .0) (q .0 .1), q .1)) (suc c) (behindHead rest)))
+      when (isAt dotKind rest) (λ _. beyond end c rest (note fine true) (at (member d) F) (λ q. h (call (q .0 .0) (q .0 .1), q .1)) (suc c))
       (λ _. readOn end (at over F) (λ o. h (done, o .1)) c rest)
 
   at-calls : (t : Token) (p : ℕ) (xs : List Located) → CallsFront (record { token = t; place = p } ∷ xs)
@@ -317,7 +322,7 @@ module _ (end : ℕ) (k : ℕ) (d : Around) (F : List Frame) (h : Trees (at (arg
   abbrev pub ArgumentsFront : List Located → Type 0
   ArgumentsFront rest =
       readOn end (at (arguments k d) F) h c rest ≡
-      when (isAt shutKind rest) (λ _. unlessAt (fault c (note (callFault (leb 1 k)) false)) (headPlace end rest) (readOn end (at (calls d) F) (λ q. h (none (q .0), q .1)) c (behindHead rest)))
+      when (isAt shutKind rest) (λ _. beyond end c rest (note (callFault (leb 1 k)) false) (at (calls d) F) (λ q. h (none (q .0), q .1)) c)
       (λ _. readOn end (at (expression (eqb k 0) (opened d)) (argument (k - 1) d ∷ F)) (λ q. h (first (q .0) (q .1 .0), q .1 .1)) c rest)
 
   at-arguments : (t : Token) (p : ℕ) (xs : List Located) → ArgumentsFront (record { token = t; place = p } ∷ xs)

@@ -10,8 +10,9 @@ use borrow.Author.Tests.{leb-false, eqb-true, eqb-false}
 use Rattle.language.specs.Names.{packed}
 use Rattle.language.specs.Members.{memberOf, isUnknown, takes}
 use Rattle.grammar.specs.Tokens.{when, Located}
+use Rattle.grammar.specs.TokensLaws.{by-test}
 use Rattle.grammar.specs.Grammar.{Expression}
-use Rattle.grammar.specs.Faults.{opened, inLambda, markFault, lambdaFault, fine, note, fault}
+use Rattle.grammar.specs.Faults.{opened, inLambda, markFault, lambdaFault, fine, note}
 use Rattle.grammar.specs.Reading.{Reading, refused}
 use Rattle.grammar.specs.Machine.{Frame, value, at, Trees, expression, letName, lambdaName, member as memberPhase, arguments}
 use Rattle.meaning.specs.Binding.{member}
@@ -21,8 +22,8 @@ use Rattle.descent.specs.Cursor.{Cursor, equalsKind, arrowKind, wordKind
 use Rattle.descent.specs.Cursor.{atPart, atLet, atLambda, atMark, atLetName, atLambdaName, atMember, atCallOpen}
 use Rattle.descent.specs.Cursor.{pass, passPart, passName, passMember, refuse, judge, next, need, letHead, lambdaHead, callHead}
 use Rattle.descent.specs.Continued.{unlessAt, readOn}
-use Rattle.descent.specs.Fronts.{due, front-letName, front-letEquals, front-lambdaName, front-lambdaArrow, front-member, front-callOpen}
-use Rattle.descent.specs.Moves.{by-test, not-refused}
+use Rattle.descent.specs.Fronts.{due, front-letName, front-letEquals, front-lambdaName, front-lambdaArrow, front-member, front-callOpen, beyond}
+use Rattle.descent.specs.Moves.{not-refused}
 use Rattle.descent.specs.Scope.{Holds, around, dot-number, let-number, lambda-number, open-number, let-name-number, lambda-name-number, call-number}
 
 -- where the cursor is not refused, P holds of it; and where it is, so is what the machine reads
@@ -49,7 +50,7 @@ unfolding when unlessAt
 due-unless true n p r = refl
 due-unless false n p r = refl
 
-pub due-by : (n m k end : ℕ) (rest : List Located) (r r' : Reading) → n ≡ m → r ≡ due k (unlessAt m (headPlace end rest) r') end rest
+due-by : (n m k end : ℕ) (rest : List Located) (r r' : Reading) → n ≡ m → r ≡ due k (unlessAt m (headPlace end rest) r') end rest
     → r ≡ unlessAt (cond (isAt k rest) n 5) (headPlace end rest) r'
 due-by n m k end rest r r' e h = unless-by _ _ _ r r' (ap (λ i. cond (isAt k rest) i 5) e) (h ∙ due-unless (isAt k rest) m (headPlace end rest) r')
 
@@ -95,7 +96,7 @@ module _ (end : ℕ) where
       pub onward : r ≡ readOn end (at (expression false (opened (around marks Σ))) (value x (around marks Σ) ∷ F)) (λ q. h ((x, q .0, q .1 .0), q .1 .1)) (c' .parts) (c' .rest)
 
     pub fits-let : (w : Bool) (h : Trees (at (letName (around marks Σ)) F) → Expression) → c .number ≡ 0
-        → r ≡ unlessAt (fault (c .parts) (note (markFault w (around marks Σ)) true)) (headPlace end (c .rest)) (readOn end (at (letName (around marks Σ)) F) h (suc (c .parts)) (behindHead (c .rest)))
+        → r ≡ beyond end (c .parts) (c .rest) (note (markFault w (around marks Σ)) true) (at (letName (around marks Σ)) F) h (suc (c .parts))
         → Fits (letHead end w marks c) (LetRead h) r
     unfolding letHead atLet atLetName passPart passName pass
     fits-let w h z e =
@@ -118,7 +119,7 @@ module _ (end : ℕ) where
       pub onward : r ≡ readOn end (at (expression false (inLambda x (around marks Σ))) F) (λ q. h ((x, q .0), q .1)) (c' .parts) (c' .rest)
 
     pub fits-lambda : (w : Bool) (h : Trees (at (lambdaName (around marks Σ)) F) → Expression) → Holds Σ depth scope → c .number ≡ 0
-        → r ≡ unlessAt (fault (c .parts) (note (lambdaFault w (around marks Σ)) true)) (headPlace end (c .rest)) (readOn end (at (lambdaName (around marks Σ)) F) h (suc (c .parts)) (behindHead (c .rest)))
+        → r ≡ beyond end (c .parts) (c .rest) (note (lambdaFault w (around marks Σ)) true) (at (lambdaName (around marks Σ)) F) h (suc (c .parts))
         → Fits (lambdaHead end w marks depth scope c) (LambdaRead h) r
     unfolding lambdaHead atLambda atLambdaName passPart passName pass
     fits-lambda w h g z e =
@@ -140,7 +141,7 @@ module _ (end : ℕ) where
       pub onward : r ≡ readOn end (at (arguments (c' .takes) (around marks Σ)) F) (λ q. h ((x, q .0), q .1)) (c' .parts) (c' .rest)
 
     pub fits-call : (h : Trees (at (memberPhase (around marks Σ)) F) → Expression) → c .number ≡ 0
-        → r ≡ unlessAt (fault (c .parts) (note fine true)) (headPlace end (c .rest)) (readOn end (at (memberPhase (around marks Σ)) F) h (suc (c .parts)) (behindHead (c .rest)))
+        → r ≡ beyond end (c .parts) (c .rest) (note fine true) (at (memberPhase (around marks Σ)) F) h (suc (c .parts))
         → Fits (callHead end marks c) (CallRead h) r
     unfolding callHead atMember atCallOpen passPart passMember pass
     fits-call h z e =

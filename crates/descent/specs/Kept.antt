@@ -7,9 +7,11 @@ use Prim.Native.Nat.{ℕ, zero, suc, _+_, _*_, _≤_, _<_, max}
 use native.Mathlib.Omega.{arith}
 use lib.Dec.{eqb, lit<}
 use lib.ListN.{length, getD, set, length-set}
+use lib.Seq.{getD-set-other}
 use borrow.Author.Tests.{eqb-true, eqb-false}
 use Rattle.language.specs.Names.{dataWord}
 use Rattle.grammar.specs.Tokens.{Located}
+use Rattle.grammar.specs.TokensLaws.{by-test}
 use Rattle.table.specs.Memory.{Node}
 use Rattle.descent.specs.Cursor.{Cursor, inKind, dotKind, shutKind, wordKind, openKind, letKind, lambdaKind, commaKind, digitsKind}
 use Rattle.descent.specs.Cursor.{headWord, headValue, behindHead, isAt}
@@ -17,8 +19,7 @@ use Rattle.descent.specs.Cursor.{refuse}
 use Rattle.descent.specs.Descent.{State, moved, then, counted, rooted, put, link, mark, enter, putBound, putScoped, putName, Call, Mode, Reader}
 use Rattle.descent.specs.Descent.{inExpression, inCalls, inArguments, inMore, readName, readNumber, readShut, readLet, readLambda, readBracket}
 use Rattle.descent.specs.Descent.{readExpression, readCalls, readArguments, readMore, step, run, ended}
-use Rattle.descent.specs.Cells.{getD-other}
-use Rattle.descent.specs.Moves.{Moved, by-test, behind-some, moved-judge, moved-name-part, moved-number-part, moved-pass, moved-need, moved-let, moved-lambda, moved-call}
+use Rattle.descent.specs.Moves.{Moved, behind-some, moved-judge, moved-name-part, moved-number-part, moved-pass, moved-need, moved-let, moved-lambda, moved-call}
 
 -- depth d; where nothing is refused p tokens are passed, and with g parts more there were at most as many new records as new parts and o
 pub record Kept (d p g o : ℕ) (s s' : State) : Type 0 where
@@ -133,7 +134,7 @@ kept-enter d p g o x j a b h =
       records = h .records;
       places = h .places;
       scope = h .scope ∙ simp length-set;
-      below = λ i l. h .below i (omega arith) ∙ getD-other (set (a .scope) (2 * d) x) (2 * d + 1) i j (λ e. omega arith) ∙ getD-other (a .scope) (2 * d) i x (λ e. omega arith);
+      below = λ i l. h .below i (omega arith) ∙ getD-set-other (set (a .scope) (2 * d) x) (2 * d + 1) i j 0 (λ e. omega arith) ∙ getD-set-other (a .scope) (2 * d) i x 0 (λ e. omega arith);
       parts = h .parts;
       most = h .most;
       count = h .count;
@@ -281,7 +282,7 @@ module _ (end : ℕ) (d : ℕ) (s : State) where
         (λ _. kept-refused end d 1 0 1 4 s))
 
 -- a reader keeps what the readers it calls keep, and so does run
-pub step-keeps : (end : ℕ) (rd : Reader) → Keeps rd → Keeps (step end rd)
+step-keeps : (end : ℕ) (rd : Reader) → Keeps rd → Keeps (step end rd)
 unfolding step
 step-keeps end rd ih (inExpression w marks d) s = kept-expression end d s rd ih marks w
 step-keeps end rd ih (inCalls marks d) s = kept-calls end d s rd ih marks
@@ -298,4 +299,5 @@ pub ended-keeps : (end d : ℕ) (s a : State) → Kept d 1 0 0 s a → Kept d 1 
 unfolding ended
 ended-keeps end d s a h =
     kept-then d 1 0 0 0 0 0 s a _ h
-    (kept-moved d 0 0 a _ (moved-judge end _ 0 0 (a .cursor) _ (λ _. record { count = refl; root = refl; parts = omega arith; most = omega arith; rest = omega arith; went = λ _. (omega arith, omega arith) })))
+    (kept-moved d 0 0 a _ (moved-judge end _ 0 0 (a .cursor) _
+    (λ _. record { count = refl; root = refl; parts = omega arith; most = omega arith; rest = omega arith; went = λ _. (omega arith, omega arith) })))

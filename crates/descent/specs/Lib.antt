@@ -1,6 +1,5 @@
 pub mod Cursor
 pub mod Descent
-pub mod Samples
 pub mod Cells
 pub mod Continued
 pub mod Fronts

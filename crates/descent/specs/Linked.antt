@@ -1,6 +1,5 @@
 -- The records of a tree lead to earlier ones, and their kinds are below 32. Assumes nothing.
 use mathlib.Core.Path.{_≡_}
-use mathlib.Core.Bool.{Bool, true, false}
 use mathlib.Core.List.{List, [], _∷_, _++_}
 use Prim.Native.Nat.{ℕ, zero, suc, _+_, _≤_, _<_}
 use native.Mathlib.Omega.{arith}
@@ -8,11 +7,12 @@ use lib.Dec.{lit<}
 use lib.ListN.{length, length-append}
 use Rattle.language.specs.Names.{sameName, isData}
 use Rattle.language.specs.MembersLaws.{number-below}
+use Rattle.language.specs.Cases.{by-cond}
 use Rattle.grammar.specs.Grammar.{Expression, Calls, Arguments, More, letIn, lambda, name, literal, bracket, done, call, none, first, last, next}
 use Rattle.meaning.specs.Binding.{member}
 use Rattle.table.specs.Memory.{Node}
 use Rattle.table.specs.Nodes.{numberKind, readingsKind, memberKind}
-use Rattle.records.specs.Records.{Named, stands, node, numberKey, Recorded, newRecord, recordName, recordScoped, pickRecorded, linked, recordE, recordC, recordA, recordM, recordsOf}
+use Rattle.records.specs.Records.{Named, stands, node, numberKey, Recorded, newRecord, recordName, recordScoped, linked, recordE, recordC, recordA, recordM, recordsOf}
 
 -- record i: its kind, and its links, each 0 for none or one more than an earlier record's number
 pub record EarlierAt (i : ℕ) (n : Node) : Type 0 where
@@ -55,19 +55,18 @@ good-linked : (j : ℕ) (x : List ℕ) (t : List Node) → Earlier 0 t → j ≤
 good-linked zero x t h l = good-new t _ _ h (lit< tt) (omega arith) (omega arith)
 good-linked (suc j) x t h l = record { earlier = h; root = l; grows = omega arith }
 
-good-pick : (b : Bool) (t : List Node) (P Q : Recorded) → Good t P → Good t Q → Good t (pickRecorded b P Q)
-good-pick true t P Q p q = p
-good-pick false t P Q p q = q
-
 good-scoped : (x : List ℕ) (Σ : List Named) (t : List Node) → Below Σ (length t) → Earlier 0 t → Good t (recordScoped x Σ t)
 unfolding recordScoped
 good-scoped x [] t b h = good-new t _ _ h (lit< tt) (omega arith) (omega arith)
-good-scoped x (e ∷ Σ) t b h = good-pick (sameName x (e .name)) t (linked (e .link) x t) (recordScoped x Σ t) (good-linked (e .link) x t h (b .0)) (good-scoped x Σ t (b .1) h)
+good-scoped x (e ∷ Σ) t b h =
+    by-cond (Good t) (sameName x (e .name)) (linked (e .link) x t) (recordScoped x Σ t) (λ _. good-linked (e .link) x t h (b .0))
+    (λ _. good-scoped x Σ t (b .1) h)
 
 good-name : (x : List ℕ) (Σ : List Named) (t : List Node) → Below Σ (length t) → Earlier 0 t → Good t (recordName x Σ t)
 unfolding recordName
 good-name x Σ t b h =
-    good-pick (isData x) t (newRecord (node readingsKind 0 0 0) t (length t ∷ [])) (recordScoped x Σ t) (good-new t _ _ h (lit< tt) (omega arith) (omega arith)) (good-scoped x Σ t b h)
+    by-cond (Good t) (isData x) (newRecord (node readingsKind 0 0 0) t (length t ∷ [])) (recordScoped x Σ t)
+    (λ _. good-new t _ _ h (lit< tt) (omega arith) (omega arith)) (λ _. good-scoped x Σ t b h)
 
 member-kind : (m : List ℕ) → memberKind (member m) < 32
 member-kind m = omega (arith, number-below (member m))
@@ -124,7 +123,8 @@ mutual
   good-M (next e x) m f a ps Σ t i j l h =
       let E = recordE e Σ t in
       let g = good-E e Σ t l h in
-      good-then t E _ _ g (good-M x m f a (ps ++ E .places) Σ (E .records) (omega (arith, g .grows)) (omega (arith, g .grows)) (below-more Σ (length t) (length (E .records)) (g .grows) l) (g .earlier))
+      good-then t E _ _ g (good-M x m f a (ps ++ E .places) Σ (E .records) (omega (arith, g .grows)) (omega (arith, g .grows))
+      (below-more Σ (length t) (length (E .records)) (g .grows) l) (g .earlier))
 
 pub records-linked : (e : Expression) → Good [] (recordsOf e)
 records-linked e = good-E e [] [] tt tt

@@ -10,16 +10,11 @@ use lib.IntN.{ℤ}
 use lib.ListN.{length}
 use borrow.Author.Tests.{leb-false, eqb-true, eqb-false}
 use Rattle.language.specs.Names.{isLong}
-use Rattle.grammar.specs.Tokens.{when, Located}
+use Rattle.grammar.specs.Tokens.{Located}
+pub use Rattle.grammar.specs.TokensLaws.{by-test}
 use Rattle.descent.specs.Cursor.{Cursor, wordKind, openKind, equalsKind, arrowKind, headKind, behindHead, isAt, isOutside}
 use Rattle.descent.specs.Cursor.{lambdasIn, atPart, atLet, atLambda, atName, atNumber, atMark, atLetName, atLambdaName, atMember, atCallOpen}
 use Rattle.descent.specs.Cursor.{pass, passPart, passName, passMember, refuse, judge, next, need, letHead, lambdaHead, callHead}
-
--- a choice, by its test
-pub by-test : {A : Type 0} (P : A → Type 0) (b : Bool) (x y : Unit {0} → A) → (b ≡ true → P (x tt)) → (b ≡ false → P (y tt)) → P (when b x y)
-unfolding when
-by-test P true x y f g = f refl
-by-test P false x y f g = g refl
 
 -- what a refusal's number 0 tells
 pub not-refused : (b : Bool) (k n : ℕ) → cond b (suc k) n ≡ 0 → (b ≡ false) × (n ≡ 0)

@@ -1,34 +1,34 @@
 -- A tree has a place for each of its parts. Assumes nothing.
 use mathlib.Core.Path.{_≡_, refl}
-use mathlib.Core.Bool.{Bool, true, false}
 use mathlib.Core.List.{List, [], _∷_, _++_}
 use Prim.Native.Nat.{ℕ, zero, suc, _+_}
 use native.Mathlib.Omega.{arith}
 use lib.ListN.{length, length-append}
 use Rattle.language.specs.Names.{sameName, isData}
+use Rattle.language.specs.Cases.{by-cond}
 use Rattle.grammar.specs.Grammar.{Expression, Calls, Arguments, More, letIn, lambda, name, literal, bracket, done, call, none, first, last, next}
 use Rattle.grammar.specs.KeptLimits.{partsE, partsC, partsA, partsM}
 use Rattle.meaning.specs.Binding.{member}
 use Rattle.table.specs.Memory.{Node}
 use Rattle.table.specs.Nodes.{numberKind, readingsKind, memberKind}
-use Rattle.records.specs.Records.{Named, stands, node, numberKey, Recorded, newRecord, recordName, recordScoped, pickRecorded, linked, recordE, recordC, recordA, recordM}
+use Rattle.records.specs.Records.{Named, stands, node, numberKey, Recorded, newRecord, recordName, recordScoped, linked, recordE, recordC, recordA, recordM}
 
 linked-place : (j : ℕ) (x : List ℕ) (t : List Node) → length (linked j x t .places) ≡ 1
 linked-place zero x t = refl
 linked-place (suc j) x t = refl
 
-picked-place : (b : Bool) (P Q : Recorded) → length (P .places) ≡ 1 → length (Q .places) ≡ 1 → length (pickRecorded b P Q .places) ≡ 1
-picked-place true P Q p q = p
-picked-place false P Q p q = q
-
 scoped-place : (x : List ℕ) (Σ : List Named) (t : List Node) → length (recordScoped x Σ t .places) ≡ 1
 unfolding recordScoped
 scoped-place x [] t = refl
-scoped-place x (e ∷ Σ) t = picked-place (sameName x (e .name)) (linked (e .link) x t) (recordScoped x Σ t) (linked-place (e .link) x t) (scoped-place x Σ t)
+scoped-place x (e ∷ Σ) t =
+    by-cond (λ (R : Recorded). length (R .places) ≡ 1) (sameName x (e .name)) (linked (e .link) x t) (recordScoped x Σ t)
+    (λ _. linked-place (e .link) x t) (λ _. scoped-place x Σ t)
 
 name-place : (x : List ℕ) (Σ : List Named) (t : List Node) → length (recordName x Σ t .places) ≡ 1
 unfolding recordName
-name-place x Σ t = picked-place (isData x) (newRecord (node readingsKind 0 0 0) t (length t ∷ [])) (recordScoped x Σ t) refl (scoped-place x Σ t)
+name-place x Σ t =
+    by-cond (λ (R : Recorded). length (R .places) ≡ 1) (isData x) (newRecord (node readingsKind 0 0 0) t (length t ∷ [])) (recordScoped x Σ t)
+    (λ _. refl) (λ _. scoped-place x Σ t)
 
 mutual
   unfolding recordE partsE

@@ -45,7 +45,7 @@ module _ (end : ℕ) where
       go (suc f) l = h f (omega arith)
 
   -- what such a reading keeps, and that it ends fit
-  pub reads-kept : {m : Mode} {s s' : State} → Reads m s s' → Kept (depthOf m) (passes m) 0 (owed m) s s'
+  reads-kept : {m : Mode} {s s' : State} → Reads m s s' → Kept (depthOf m) (passes m) 0 (owed m) s s'
   reads-kept {m} {s} {s'} x = subst (λ (a : State). Kept (depthOf m) (passes m) 0 (owed m) s a) (x .same (suc (want m s)) (omega arith)) (run-keeps end (suc (want m s)) m s)
 
   pub reads-fit : {m : Mode} {s s' : State} → Reads m s s' → Fit m s → s' .cursor .number ≡ 0 → Fit (inCalls (marksOf m) (depthOf m)) s'
@@ -58,7 +58,8 @@ module _ (end : ℕ) where
   first-fit k marks depth {s} {a} h x =
       let m = inExpression (eqb (k .takes) 0) (suc marks) depth in
       let f = suc (want m s) in
-      subst (λ (a : State). a .cursor .number ≡ 0 → Fit (inMore (firstGiven (a .cursor .root) k) marks depth) a) (x .same f (omega arith)) (fit-first end (run end f) (run-keeps end f) (run-roots end f) k marks depth s h)
+      subst (λ (a : State). a .cursor .number ≡ 0 → Fit (inMore (firstGiven (a .cursor .root) k) marks depth) a) (x .same f (omega arith))
+      (fit-first end (run end f) (run-keeps end f) (run-roots end f) k marks depth s h)
 
   pub next-fit : (k : Call) (marks depth : ℕ) {s a : State} (c : Cursor) → Fit (inMore k marks depth) s → isAt commaKind (s .cursor .rest) ≡ true
       → c ≡ judge end (atComma (k .takes)) (s .cursor) (λ _. pass (s .cursor)) → c .number ≡ 0 → Reads (inExpression false (suc marks) depth) (moved s c) a
@@ -66,7 +67,9 @@ module _ (end : ℕ) where
   next-fit k marks depth {s} {a} c h b e z x =
       let m = inExpression false (suc marks) depth in
       let f = suc (want m (moved s c)) in
-      subst (λ (a : State). a .cursor .number ≡ 0 → Fit (inMore (nextGiven k) marks depth) a) (ap (λ c. run end f m (moved s c)) (sym e) ∙ x .same f (omega arith)) (fit-next end (run end f) (run-keeps end f) (run-roots end f) k marks depth s h b (rw e at z))
+      subst (λ (a : State). a .cursor .number ≡ 0 → Fit (inMore (nextGiven k) marks depth) a)
+      (ap (λ c. run end f m (moved s c)) (sym e) ∙ x .same f (omega arith))
+      (fit-next end (run end f) (run-keeps end f) (run-roots end f) k marks depth s h b (rw e at z))
 
   -- and there is room for a lambda's record behind its body
   pub lambda-room : (w : Bool) (marks depth : ℕ) (s : State) {u : State} (c : Cursor) → Fit (inExpression w marks depth) s → isAt lambdaKind (s .cursor .rest) ≡ true
@@ -173,7 +176,8 @@ module _ (end : ℕ) where
 
       module _ (z : eqb (c .number) 0 ≡ true) where
         pub less-bracket : length (c .rest) + 1 ≤ length (s .cursor .rest)
-        less-bracket = less-moved 1 0 (s .cursor) c (rw e (moved-judge end (atBracket w marks) 1 0 (s .cursor) _ (λ _. moved-pass end (s .cursor) (behind-some openKind (s .cursor .rest) (lit< tt) b)))) z
+        less-bracket = less-moved 1 0 (s .cursor) c (rw e (moved-judge end (atBracket w marks) 1 0 (s .cursor) _
+            (λ _. moved-pass end (s .cursor) (behind-some openKind (s .cursor .rest) (lit< tt) b)))) z
 
         pub bracketed-refused : {v : State} → Reads inner (moved s c) v → eqb (v .cursor .number) 0 ≡ false → Reads E s v
         unfolding readBracket

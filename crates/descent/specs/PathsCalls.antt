@@ -107,7 +107,8 @@ module _ (end : ℕ) where
 
         module _ (z : eqb (c .number) 0 ≡ true) where
           pub less-comma : length (c .rest) + 1 ≤ length (s .cursor .rest)
-          less-comma = less-moved 1 0 (s .cursor) c (rw e (moved-judge end (atComma (k .takes)) 1 0 (s .cursor) _ (λ _. moved-pass end (s .cursor) (behind-some commaKind (s .cursor .rest) (lit< tt) b)))) z
+          less-comma = less-moved 1 0 (s .cursor) c (rw e (moved-judge end (atComma (k .takes)) 1 0 (s .cursor) _
+              (λ _. moved-pass end (s .cursor) (behind-some commaKind (s .cursor .rest) (lit< tt) b)))) z
 
           pub next-refused : {v : State} → Reads end inner (moved s c) v → eqb (v .cursor .number) 0 ≡ false → Reads end M s v
           next-refused x y = reads-step end (λ f l. let h = less-comma in is-next (run end f) b ∙ then-go _ (ap (moved s) (sym e)) z (then-stop _ (x .same f (omega arith)) y))

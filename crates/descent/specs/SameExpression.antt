@@ -7,22 +7,22 @@ use Prim.Native.Nat.{ℕ, suc, _+_, _*_, _<_}
 use native.Mathlib.Omega.{arith}
 use lib.Dec.{lit<}
 use lib.ListN.{length}
+use lib.Seq.{sets}
 use Rattle.language.specs.Names.{packed}
 use Rattle.grammar.specs.Grammar.{Expression, Calls, letIn, lambda, name, literal, bracket}
-use Rattle.grammar.specs.Faults.{opened, inLet, inLambda, markFault, lambdaFault, nameFault, literalFault, note, fault}
+use Rattle.grammar.specs.Faults.{opened, inLet, inLambda, markFault, lambdaFault, nameFault, literalFault, note}
 use Rattle.grammar.specs.Reading.{Reading}
 use Rattle.grammar.specs.Machine.{Frame, value, brackets, at, Outer, expression, letName, lambdaName, calls}
 use Rattle.table.specs.Memory.{Node}
 use Rattle.table.specs.Nodes.{numberKind, functionKind}
 use Rattle.records.specs.Records.{Named, stands, node, newRecord, numberKey, recordName, recordE}
 use Rattle.descent.specs.Cursor.{letKind, inKind, lambdaKind, openKind, shutKind, wordKind, digitsKind}
-use Rattle.descent.specs.Cursor.{headPlace, headWord, headValue, behindHead, isAt, atBracket, atName, atNumber}
+use Rattle.descent.specs.Cursor.{headWord, headValue, isAt, atBracket, atName, atNumber}
 use Rattle.descent.specs.Cursor.{pass, passPart, judge, need, letHead, lambdaHead}
 use Rattle.descent.specs.Descent.{State, moved, then, put, counted, mark, enter, putName, inExpression, inCalls}
 use Rattle.descent.specs.Descent.{readName, readNumber, readLet, readLambda, readBracket, readExpression, run}
-use Rattle.descent.specs.Cells.{puts}
-use Rattle.descent.specs.Continued.{unlessAt, readOn}
-use Rattle.descent.specs.Fronts.{front-expression, front-value, front-brackets}
+use Rattle.descent.specs.Continued.{readOn}
+use Rattle.descent.specs.Fronts.{front-expression, front-value, front-brackets, beyond}
 use Rattle.descent.specs.Moves.{behind-some, moved-judge, moved-pass, moved-need, moved-let, moved-lambda, moved-name-part, moved-number-part}
 use Rattle.descent.specs.Kept.{run-keeps}
 use Rattle.descent.specs.Scope.{bindersOf, around, bracket-number, name-number, literal-number}
@@ -32,7 +32,8 @@ use Rattle.descent.specs.Fitting.{FitsAt, at-then, at-moved, at-map, at-
 
 module _ (end : ℕ) (R : List ℕ) (f : ℕ) (ih : Same end R f) (marks depth : ℕ) (s : State) (Σ : List Named) (t : List Node) (F : List Frame) (r : Reading) (ready : Ready R Σ t marks depth s) where
   same-let : (w : Bool) (h : Expression × Outer F → Expression) → isAt letKind (s .cursor .rest) ≡ true
-      → r ≡ unlessAt (fault (s .cursor .parts) (note (markFault w (around marks Σ)) true)) (headPlace end (s .cursor .rest)) (readOn end (at (letName (around marks Σ)) F) (λ q. h (letIn (q .0 .0) (q .0 .1) (q .0 .2), q .1)) (suc (s .cursor .parts)) (behindHead (s .cursor .rest)))
+      → r ≡ beyond end (s .cursor .parts) (s .cursor .rest) (note (markFault w (around marks Σ)) true) (at (letName (around marks Σ)) F)
+      (λ q. h (letIn (q .0 .0) (q .0 .1) (q .0 .2), q .1)) (suc (s .cursor .parts))
       → 2 * length (s .cursor .rest) < suc f
       → FitsAt (readLet end (run end f) w marks depth s) (Read end R (s .places) (s .cursor .parts) (λ e. recordE e Σ t) F (λ e o. h (e, o)) r) r
   unfolding readLet recordE inLet opened bindersOf pass enter mark
@@ -47,31 +48,36 @@ module _ (end : ℕ) (R : List ℕ) (f : ℕ) (ih : Same end R f) (marks depth :
       let x = L .x in
       let E = inExpression false (suc marks) depth in
       let W = run end f E one in
-      at-then W _ _ _ r (ih .onExpression false (suc marks) depth one Σ t (value x D ∷ F) _ r (ready-marks R Σ t marks depth one (ready-moved R Σ t marks depth s ready 3 1 H M z) (suc marks) (omega arith)) (L .onward) (omega arith)) (λ y v.
+      at-then W _ _ _ r (ih .onExpression false (suc marks) depth one Σ t (value x D ∷ F) _ r
+      (ready-marks R Σ t marks depth one (ready-moved R Σ t marks depth s ready 3 1 H M z) (suc marks) (omega arith)) (L .onward) (omega arith)) (λ y v.
       let K = run-keeps end f E one in
       let N = need end inKind (W .cursor) in
       let I = moved-need end inKind (W .cursor) (lit< tt) in
       let hb : Expression × Outer F → Expression = λ q. h (letIn x (v .tree) (q .0), q .1) in
       at-then (moved W N) _ (λ a. r ≡ readOn end (at (expression false (inLet x D)) F) hb (a .cursor .parts) (a .cursor .rest)) _ r
-      (at-moved W N _ r (fits-need end inKind (W .cursor) (λ c. r ≡ readOn end (at (expression false (inLet x D)) F) hb (c .parts) (c .rest)) r _ (v .onward ∙ front-value end x D F _ (W .cursor .parts) (W .cursor .rest)) (λ e. fits-here end (pass (W .cursor)) _ r y e))) (λ u e.
+      (at-moved W N _ r (fits-need end inKind (W .cursor) (λ c. r ≡ readOn end (at (expression false (inLet x D)) F) hb (c .parts) (c .rest)) r _
+      (v .onward ∙ front-value end x D F _ (W .cursor .parts) (W .cursor .rest)) (λ e. fits-here end (pass (W .cursor)) _ r y e))) (λ u e.
       let J = I .went u in
       let A = recordE (v .tree) Σ t in
       let four = enter depth (H .name) (suc (W .cursor .root)) (moved W N) in
       let ready1 = ready-marks R Σ t marks depth one (ready-moved R Σ t marks depth s ready 3 1 H M z) (suc marks) (omega arith) in
       let ready2 = ready-wrote R Σ t (suc marks) depth one ready1 1 0 0 _ _ A W K y (v .wrote) in
       let ready3 = ready-moved R Σ (A .records) (suc marks) depth W ready2 1 0 N I u in
-      let ready4 = ready-entered R Σ (A .records) (suc marks) depth (moved W N) ready3 x (H .name) (suc (W .cursor .root)) (suc (A .root)) (L .name) (ap suc (v .wrote .root)) (omega (arith, ready .few)) (omega (arith, L .few)) in
+      let ready4 = ready-entered R Σ (A .records) (suc marks) depth (moved W N) ready3 x (H .name) (suc (W .cursor .root)) (suc (A .root)) (L .name)
+      (ap suc (v .wrote .root)) (omega (arith, ready .few)) (omega (arith, L .few)) in
       let E' = inExpression false (suc marks) (suc depth) in
       at-then (run end f E' four) _ _ _ r (ih .onExpression false (suc marks) (suc depth) four (stands x (suc (A .root)) ∷ Σ) (A .records) F hb r ready4 e (omega arith)) (λ n q.
       at-here (mark (s .cursor .parts) (run end f E' four)) _ r n
       (record {
         tree = letIn x (v .tree) (q .tree);
-        wrote = wrote-let R (s .places) (s .cursor .parts) (H .parts) (N .parts) A (recordE (q .tree) (stands x (suc (A .root)) ∷ Σ) (A .records)) W (run end f E' four) (omega arith) (omega arith) (v .wrote) (q .wrote);
+        wrote = wrote-let R (s .places) (s .cursor .parts) (H .parts) (N .parts) A (recordE (q .tree) (stands x (suc (A .root)) ∷ Σ) (A .records)) W
+            (run end f E' four) (omega arith) (omega arith) (v .wrote) (q .wrote);
         onward = q .onward;
       })))))
 
   same-lambda : (w : Bool) (h : Expression × Outer F → Expression) → isAt lambdaKind (s .cursor .rest) ≡ true
-      → r ≡ unlessAt (fault (s .cursor .parts) (note (lambdaFault w (around marks Σ)) true)) (headPlace end (s .cursor .rest)) (readOn end (at (lambdaName (around marks Σ)) F) (λ q. h (lambda (q .0 .0) (q .0 .1), q .1)) (suc (s .cursor .parts)) (behindHead (s .cursor .rest)))
+      → r ≡ beyond end (s .cursor .parts) (s .cursor .rest) (note (lambdaFault w (around marks Σ)) true) (at (lambdaName (around marks Σ)) F)
+      (λ q. h (lambda (q .0 .0) (q .0 .1), q .1)) (suc (s .cursor .parts))
       → 2 * length (s .cursor .rest) < suc f
       → FitsAt (readLambda end (run end f) w marks depth s) (Read end R (s .places) (s .cursor .parts) (λ e. recordE e Σ t) F (λ e o. h (e, o)) r) r
   unfolding readLambda recordE inLambda bindersOf enter put counted
@@ -98,12 +104,13 @@ module _ (end : ℕ) (R : List ℕ) (f : ℕ) (ih : Same end R f) (marks depth :
         tree = lambda x (q .tree);
         wrote = wrote-put R Γ (B .records) (suc marks) (suc depth) W ready3 _ _ (s .places) (c .parts) (B .places)
             (node-as functionKind functionKind (H .name) (packed x) (suc (W .cursor .root)) (suc (B .root)) 0 0 refl (L .name) (ap suc (q .wrote .root)) refl)
-            (q .wrote .places ∙ ap (λ i. puts (s .places) i (B .places)) g) (q .wrote .parts ∙ ap (λ i. i + length (B .places)) g);
+            (q .wrote .places ∙ ap (λ i. sets (s .places) i (B .places)) g) (q .wrote .parts ∙ ap (λ i. i + length (B .places)) g);
         onward = q .onward;
       })))
 
   same-bracket : (w : Bool) (h : Expression × Outer F → Expression) → isAt openKind (s .cursor .rest) ≡ true
-      → r ≡ unlessAt (fault (s .cursor .parts) (note (markFault w (around marks Σ)) false)) (headPlace end (s .cursor .rest)) (readOn end (at (expression false (opened (around marks Σ))) (brackets (around marks Σ) ∷ F)) (λ q. h (bracket (q .0) (q .1 .0), q .1 .1)) (s .cursor .parts) (behindHead (s .cursor .rest)))
+      → r ≡ beyond end (s .cursor .parts) (s .cursor .rest) (note (markFault w (around marks Σ)) false)
+      (at (expression false (opened (around marks Σ))) (brackets (around marks Σ) ∷ F)) (λ q. h (bracket (q .0) (q .1 .0), q .1 .1)) (s .cursor .parts)
       → 2 * length (s .cursor .rest) < suc f
       → FitsAt (readBracket end (run end f) w marks depth s) (Read end R (s .places) (s .cursor .parts) (λ e. recordE e Σ t) F (λ e o. h (e, o)) r) r
   unfolding readBracket recordE opened pass
@@ -114,7 +121,9 @@ module _ (end : ℕ) (R : List ℕ) (f : ℕ) (ih : Same end R f) (marks depth :
       let M = moved-judge end (atBracket w marks) 1 0 c (λ _. pass c) (λ _. moved-pass end c (behind-some openKind (c .rest) (lit< tt) b)) in
       let one = moved s H in
       let hb : Expression × (Calls × Outer F) → Expression = λ q. h (bracket (q .0) (q .1 .0), q .1 .1) in
-      at-then one _ _ _ r (at-moved s H _ r (fits-judge end (atBracket w marks) c (λ _. pass c) (λ c. r ≡ readOn end (at (expression false (opened D)) (brackets D ∷ F)) hb (c .parts) (c .rest)) r _ (unless-by _ _ _ r _ (bracket-number (c .parts) marks Σ w) e) (λ _ e. fits-here end (pass c) _ r (ready .number) e))) (λ z e.
+      at-then one _ _ _ r (at-moved s H _ r (fits-judge end (atBracket w marks) c (λ _. pass c)
+      (λ c. r ≡ readOn end (at (expression false (opened D)) (brackets D ∷ F)) hb (c .parts) (c .rest)) r _
+      (unless-by _ _ _ r _ (bracket-number (c .parts) marks Σ w) e) (λ _ e. fits-here end (pass c) _ r (ready .number) e))) (λ z e.
       let G = M .went z in
       let E = inExpression false (suc marks) depth in
       let W = run end f E one in
@@ -125,7 +134,9 @@ module _ (end : ℕ) (R : List ℕ) (f : ℕ) (ih : Same end R f) (marks depth :
       let I = moved-need end shutKind (W .cursor) (lit< tt) in
       let hc : Calls × Outer F → Expression = λ q. h (bracket (v .tree) (q .0), q .1) in
       at-then (moved W N) _ (λ a. r ≡ readOn end (at (calls D) F) hc (a .cursor .parts) (a .cursor .rest)) _ r
-      (at-moved W N _ r (fits-need end shutKind (W .cursor) (λ c. r ≡ readOn end (at (calls D) F) hc (c .parts) (c .rest)) r _ (v .onward ∙ front-brackets end D F _ (W .cursor .parts) (W .cursor .rest)) (λ e. fits-here end (pass (W .cursor)) _ r y e))) (λ u e.
+      (at-moved W N _ r (fits-need end shutKind (W .cursor)
+      (λ c. r ≡ readOn end (at (calls D) F) hc (c .parts) (c .rest)) r _
+      (v .onward ∙ front-brackets end D F _ (W .cursor .parts) (W .cursor .rest)) (λ e. fits-here end (pass (W .cursor)) _ r y e))) (λ u e.
       let J = I .went u in
       let A = recordE (v .tree) Σ t in
       at-map (run end f (inCalls marks depth) (moved W N)) _ _ r
@@ -138,7 +149,8 @@ module _ (end : ℕ) (R : List ℕ) (f : ℕ) (ih : Same end R f) (marks depth :
       })) (λ q. record { tree = bracket (v .tree) (q .tree); wrote = q .wrote; onward = q .onward }))))
 
   same-name : (w : Bool) (h : Expression × Outer F → Expression) → isAt wordKind (s .cursor .rest) ≡ true
-      → r ≡ unlessAt (fault (s .cursor .parts) (note (nameFault w (headWord (s .cursor .rest))) true)) (headPlace end (s .cursor .rest)) (readOn end (at (calls (around marks Σ)) F) (λ q. h (name (headWord (s .cursor .rest)) (q .0), q .1)) (suc (s .cursor .parts)) (behindHead (s .cursor .rest)))
+      → r ≡ beyond end (s .cursor .parts) (s .cursor .rest) (note (nameFault w (headWord (s .cursor .rest))) true) (at (calls (around marks Σ)) F)
+      (λ q. h (name (headWord (s .cursor .rest)) (q .0), q .1)) (suc (s .cursor .parts))
       → 2 * length (s .cursor .rest) < suc f
       → FitsAt (then (readName end w depth s) (λ a. run end f (inCalls marks depth) a)) (Read end R (s .places) (s .cursor .parts) (λ e. recordE e Σ t) F (λ e o. h (e, o)) r) r
   unfolding readName recordE passPart
@@ -154,7 +166,8 @@ module _ (end : ℕ) (R : List ℕ) (f : ℕ) (ih : Same end R f) (marks depth :
       at-map _ _ _ r
       (atom-calls end R f marks depth Σ F r ih _ (s .places) (c .parts) Z hc
       (at-then one _ (λ a. r ≡ readOn end (at (calls (around marks Σ)) F) hc (a .cursor .parts) (a .cursor .rest)) _ r
-      (at-moved s H _ r (fits-judge end n c (λ _. passPart c) (λ c. r ≡ readOn end (at (calls (around marks Σ)) F) hc (c .parts) (c .rest)) r _ (unless-by _ _ _ r _ (name-number (c .parts) marks Σ w x) e) (λ _ e. fits-here end (passPart c) _ r (ready .number) e))) (λ z e.
+      (at-moved s H _ r (fits-judge end n c (λ _. passPart c) (λ c. r ≡ readOn end (at (calls (around marks Σ)) F) hc (c .parts) (c .rest)) r _
+      (unless-by _ _ _ r _ (name-number (c .parts) marks Σ w x) e) (λ _ e. fits-here end (passPart c) _ r (ready .number) e))) (λ z e.
       let G = M .went z in
       let ready1 = ready-moved R Σ t marks depth s ready 1 1 H M z in
       let a = putName (c .parts) (packed x) depth one in
@@ -172,10 +185,11 @@ module _ (end : ℕ) (R : List ℕ) (f : ℕ) (ih : Same end R f) (marks depth :
       })))) (λ q. record { tree = name x (q .tree); wrote = q .wrote; onward = q .onward })
 
   same-number : (w : Bool) (h : Expression × Outer F → Expression) → isAt digitsKind (s .cursor .rest) ≡ true
-      → r ≡ unlessAt (fault (s .cursor .parts) (note (literalFault w (headValue (s .cursor .rest))) true)) (headPlace end (s .cursor .rest)) (readOn end (at (calls (around marks Σ)) F) (λ q. h (literal (headValue (s .cursor .rest)) (q .0), q .1)) (suc (s .cursor .parts)) (behindHead (s .cursor .rest)))
+      → r ≡ beyond end (s .cursor .parts) (s .cursor .rest) (note (literalFault w (headValue (s .cursor .rest))) true)
+      (at (calls (around marks Σ)) F) (λ q. h (literal (headValue (s .cursor .rest)) (q .0), q .1)) (suc (s .cursor .parts))
       → 2 * length (s .cursor .rest) < suc f
       → FitsAt (then (readNumber end w s) (λ a. run end f (inCalls marks depth) a)) (Read end R (s .places) (s .cursor .parts) (λ e. recordE e Σ t) F (λ e o. h (e, o)) r) r
-  unfolding readNumber recordE passPart put counted puts
+  unfolding readNumber recordE passPart put counted
   same-number w h b e l =
       let c = s .cursor in
       let v = headValue (c .rest) in
@@ -189,7 +203,8 @@ module _ (end : ℕ) (R : List ℕ) (f : ℕ) (ih : Same end R f) (marks depth :
       at-map _ _ _ r
       (atom-calls end R f marks depth Σ F r ih _ (s .places) (c .parts) Z hc
       (at-then one _ (λ a. r ≡ readOn end (at (calls (around marks Σ)) F) hc (a .cursor .parts) (a .cursor .rest)) _ r
-      (at-moved s H _ r (fits-judge end n c (λ _. passPart c) (λ c. r ≡ readOn end (at (calls (around marks Σ)) F) hc (c .parts) (c .rest)) r _ (unless-by _ _ _ r _ (literal-number (c .parts) marks Σ w v) e) (λ _ e. fits-here end (passPart c) _ r (ready .number) e))) (λ z e.
+      (at-moved s H _ r (fits-judge end n c (λ _. passPart c) (λ c. r ≡ readOn end (at (calls (around marks Σ)) F) hc (c .parts) (c .rest)) r _
+      (unless-by _ _ _ r _ (literal-number (c .parts) marks Σ w v) e) (λ _ e. fits-here end (passPart c) _ r (ready .number) e))) (λ z e.
       let G = M .went z in
       let ready1 = ready-moved R Σ t marks depth s ready 1 1 H M z in
       let O = wrote-put R Σ t marks depth one ready1 m m (s .places) (c .parts) [] refl refl (omega arith) in

@@ -8,17 +8,17 @@ use native.Mathlib.Omega.{arith}
 use lib.Dec.{leb, eqb, eqb·suc-zero}
 use lib.IntN.{ℤ}
 use lib.ListN.{length, getD, set, length-set}
+use lib.Seq.{getD-set-other, getD-set-same}
 use Rattle.language.specs.Names.{packed, isLong, isData}
 use Rattle.grammar.specs.Tokens.{when}
-use Rattle.grammar.specs.Faults.{fine, badCall, tooMany, manyLambdas, longName, dataBound, reusedName, outOfRange, faultNumber, ifSo, orMany}
+use Rattle.grammar.specs.Faults.{fine, badCall, tooMany, manyLambdas, longName, dataBound, reusedName, outOfRange, faultNumber, orMany}
 use Rattle.grammar.specs.Faults.{Around, Binder, byLet, byLambda, lambdasOf, lambdaNamed, deep, markFault, lambdaFault, letNameFault, lambdaNameFault}
 use Rattle.grammar.specs.Faults.{nameFault, literalFault, callFault, note, fault}
 use Rattle.table.specs.Memory.{Node}
 use Rattle.table.specs.Nodes.{unboundKind}
-use Rattle.records.specs.Records.{Named, stands, Recorded, node, newRecord, pickRecorded, linked, recordScoped}
+use Rattle.records.specs.Records.{Named, stands, Recorded, node, newRecord, linked, recordScoped}
 use Rattle.descent.specs.Cursor.{binderName, binderLink, binderOf, lambdasIn, lambdaIn, isOutside}
 use Rattle.descent.specs.Cursor.{atPart, atLet, atLambda, atBracket, atName, atNumber}
-use Rattle.descent.specs.Cells.{getD-set, getD-other}
 
 -- the cells below the depth hold these names, the innermost first
 abbrev pub Holds : List Named → ℕ → List ℕ → Type 0
@@ -40,10 +40,10 @@ pub holds-entered : (Σ : List Named) (depth : ℕ) (scope x : List ℕ) (j : �
 holds-entered Σ depth scope x j l h =
     let one = set scope (2 * depth) (packed x) in
     let n : length one ≡ length scope = length-set scope (2 * depth) (packed x) in (
-      getD-other one (2 * depth + 1) (2 * depth) j (λ e. omega arith) ∙ getD-set scope (2 * depth) (packed x) (omega arith),
-      getD-set one (2 * depth + 1) j (omega arith),
+      getD-set-other one (2 * depth + 1) (2 * depth) j 0 (λ e. omega arith) ∙ getD-set-same scope (2 * depth) (packed x) 0 (omega arith),
+      getD-set-same one (2 * depth + 1) j 0 (omega arith),
       holds-kept Σ depth scope (set one (2 * depth + 1) j)
-          (λ i m. getD-other one (2 * depth + 1) i j (λ e. omega arith) ∙ getD-other scope (2 * depth) i (packed x) (λ e. omega arith)) h,
+          (λ i m. getD-set-other one (2 * depth + 1) i j 0 (λ e. omega arith) ∙ getD-set-other scope (2 * depth) i (packed x) 0 (λ e. omega arith)) h,
     )
 
 -- looked up: the record of a name in use
@@ -63,7 +63,7 @@ scoped-is x t (e ∷ Σ) (suc b) scope h =
     rw (n, ← l) (by (eqb (packed x) (packed (e .name))) (scoped-is x t Σ b scope (h .2)))
   where
     by : (q : Bool) → recordScoped x Σ t ≡ foundAt scope x t (binderOf scope (packed x) b)
-        → pickRecorded q (linked (binderLink scope b) x t) (recordScoped x Σ t) ≡ foundAt scope x t (when q (λ _. suc b) (λ _. binderOf scope (packed x) b))
+        → cond q (linked (binderLink scope b) x t) (recordScoped x Σ t) ≡ foundAt scope x t (when q (λ _. suc b) (λ _. binderOf scope (packed x) b))
     by true i = refl
     by false i = i
 
@@ -79,7 +79,7 @@ bindersOf (e ∷ Σ) = binderAs (e .link) (e .name) ∷ bindersOf Σ
 abbrev pub around : ℕ → List Named → Around
 around marks Σ = record { marks = marks; binders = bindersOf Σ }
 
-pub lambdas-are : (Σ : List Named) (depth : ℕ) (scope : List ℕ) → Holds Σ depth scope → lambdasIn scope depth ≡ lambdasOf (bindersOf Σ)
+lambdas-are : (Σ : List Named) (depth : ℕ) (scope : List ℕ) → Holds Σ depth scope → lambdasIn scope depth ≡ lambdasOf (bindersOf Σ)
 unfolding lambdasIn lambdasOf bindersOf
 lambdas-are [] zero scope h = refl
 lambdas-are [] (suc b) scope h = absurd h
@@ -90,7 +90,7 @@ lambdas-are (e ∷ Σ) (suc b) scope h = let l = h .1 in rw (l, lambdas-are Σ b
     by zero = refl
     by (suc j) = rw (eqb·suc-zero j)
 
-pub lambda-is : (x : List ℕ) (Σ : List Named) (depth : ℕ) (scope : List ℕ) → Holds Σ depth scope → lambdaIn scope (packed x) depth ≡ lambdaNamed x (bindersOf Σ)
+lambda-is : (x : List ℕ) (Σ : List Named) (depth : ℕ) (scope : List ℕ) → Holds Σ depth scope → lambdaIn scope (packed x) depth ≡ lambdaNamed x (bindersOf Σ)
 unfolding lambdaIn lambdaNamed bindersOf
 lambda-is x [] zero scope h = refl
 lambda-is x [] (suc b) scope h = absurd h
@@ -120,7 +120,7 @@ module _ (c marks : ℕ) (Σ : List Named) where
   unfolding atLet fault markFault faultNumber
   let-number w = rw part-number (by w (leb 16 marks))
     where
-      by : (w a : Bool) → cond w 9 (cond a 12 (orMany 0 (leb 128 c))) ≡ orMany (faultNumber (ifSo w badCall (ifSo a tooMany fine))) (leb 128 c)
+      by : (w a : Bool) → cond w 9 (cond a 12 (orMany 0 (leb 128 c))) ≡ orMany (faultNumber (cond w badCall (cond a tooMany fine))) (leb 128 c)
       by true a = refl
       by false true = refl
       by false false = refl
@@ -131,7 +131,7 @@ module _ (c marks : ℕ) (Σ : List Named) where
   lambda-number w depth scope h = rw (part-number, lambdas-are Σ depth scope h) (by w (leb 2 (lambdasOf (bindersOf Σ))) (leb 16 marks))
     where
       by : (w l a : Bool)
-          → cond w 9 (cond l 10 (cond a 12 (orMany 0 (leb 128 c)))) ≡ orMany (faultNumber (ifSo w badCall (ifSo l manyLambdas (ifSo a tooMany fine)))) (leb 128 c)
+          → cond w 9 (cond l 10 (cond a 12 (orMany 0 (leb 128 c)))) ≡ orMany (faultNumber (cond w badCall (cond l manyLambdas (cond a tooMany fine)))) (leb 128 c)
       by true l a = refl
       by false true a = refl
       by false false true = refl
@@ -141,7 +141,7 @@ module _ (c marks : ℕ) (Σ : List Named) where
   unfolding atBracket fault markFault faultNumber
   bracket-number w = by w (leb 16 marks)
     where
-      by : (w a : Bool) → cond w 9 (cond a 12 0) ≡ orMany (faultNumber (ifSo w badCall (ifSo a tooMany fine))) false
+      by : (w a : Bool) → cond w 9 (cond a 12 0) ≡ orMany (faultNumber (cond w badCall (cond a tooMany fine))) false
       by true a = refl
       by false true = refl
       by false false = refl
@@ -150,7 +150,7 @@ module _ (c marks : ℕ) (Σ : List Named) where
   unfolding fault faultNumber
   open-number = by (leb 16 marks)
     where
-      by : (a : Bool) → cond a 12 0 ≡ orMany (faultNumber (ifSo a tooMany fine)) false
+      by : (a : Bool) → cond a 12 0 ≡ orMany (faultNumber (cond a tooMany fine)) false
       by true = refl
       by false = refl
 
@@ -158,7 +158,7 @@ module _ (c marks : ℕ) (Σ : List Named) where
   unfolding atName fault nameFault faultNumber
   name-number w x = rw part-number (by (isLong x) w)
     where
-      by : (l w : Bool) → cond l 7 (cond w 9 (orMany 0 (leb 128 c))) ≡ orMany (faultNumber (ifSo l longName (ifSo w badCall fine))) (leb 128 c)
+      by : (l w : Bool) → cond l 7 (cond w 9 (orMany 0 (leb 128 c))) ≡ orMany (faultNumber (cond l longName (cond w badCall fine))) (leb 128 c)
       by true w = refl
       by false true = refl
       by false false = refl
@@ -167,7 +167,7 @@ module _ (c marks : ℕ) (Σ : List Named) where
   unfolding atNumber fault literalFault faultNumber
   literal-number w z = rw part-number (by (isOutside z) w)
     where
-      by : (l w : Bool) → cond l 6 (cond w 9 (orMany 0 (leb 128 c))) ≡ orMany (faultNumber (ifSo l outOfRange (ifSo w badCall fine))) (leb 128 c)
+      by : (l w : Bool) → cond l 6 (cond w 9 (orMany 0 (leb 128 c))) ≡ orMany (faultNumber (cond l outOfRange (cond w badCall fine))) (leb 128 c)
       by true w = refl
       by false true = refl
       by false false = refl
@@ -176,7 +176,7 @@ module _ (c marks : ℕ) (Σ : List Named) where
   unfolding fault letNameFault faultNumber
   let-name-number x = by (isLong x) (isData x)
     where
-      by : (l a : Bool) → cond l 7 (cond a 8 0) ≡ orMany (faultNumber (ifSo l longName (ifSo a dataBound fine))) false
+      by : (l a : Bool) → cond l 7 (cond a 8 0) ≡ orMany (faultNumber (cond l longName (cond a dataBound fine))) false
       by true a = refl
       by false true = refl
       by false false = refl
@@ -186,7 +186,7 @@ module _ (c marks : ℕ) (Σ : List Named) where
   unfolding fault lambdaNameFault faultNumber
   lambda-name-number x depth scope h = rw (lambda-is x Σ depth scope h) (by (isLong x) (isData x) (lambdaNamed x (bindersOf Σ)))
     where
-      by : (l a n : Bool) → cond l 7 (cond a 8 (cond n 11 0)) ≡ orMany (faultNumber (ifSo l longName (ifSo a dataBound (ifSo n reusedName fine)))) false
+      by : (l a n : Bool) → cond l 7 (cond a 8 (cond n 11 0)) ≡ orMany (faultNumber (cond l longName (cond a dataBound (cond n reusedName fine)))) false
       by true a n = refl
       by false true n = refl
       by false false true = refl

@@ -16,7 +16,7 @@ use Rattle.grammar.specs.Machine.{at, over, Trees, finish, readText}
 use Rattle.records.specs.Records.{recordsOf}
 use Rattle.descent.specs.Cursor.{Cursor, endKind, kindOf, headKind, headPlace, isAt, atMark, judge}
 use Rattle.descent.specs.Descent.{State, moved, start, inExpression, run, ended, readWith, readInto}
-use Rattle.descent.specs.Cells.{puts, puts-all, words, length-words}
+use Rattle.descent.specs.Cells.{sets-all, words, length-words}
 use Rattle.descent.specs.Continued.{judgeAt, endedAt, readOn, text-on}
 use Rattle.descent.specs.Fronts.{due}
 use Rattle.descent.specs.Moves.{was-due}
@@ -126,7 +126,7 @@ module _ (text R P S : List ℕ) (f : ℕ) (room : length S ≡ 32) (enough : 2 
   after = readWith f text R P S
 
   start-ready : Ready R [] [] 0 0 (start (tokens text) R P S)
-  unfolding words puts
+  unfolding words
   start-ready = record { number = refl; count = refl; records = refl; holds = tt; room = room; few = omega arith }
 
   all-fits : FitsAt after (Ended R P (readText text)) (readText text)
@@ -159,7 +159,8 @@ module _ (text R P S : List ℕ) (f : ℕ) (room : length S ≡ 32) (enough : 2 
       let parts : after .cursor .parts ≡ length (Z .places) = omega (arith, w .parts) in
       let few : after .cursor .parts ≤ 128 = omega (arith, K .most) in
       let words2 : length (words (Z .records)) ≡ 2 * after .cursor .count = omega (arith, length-words (Z .records), w .count) in
-      let filled : after .records ≡ words (Z .records) ++ drop (2 * after .cursor .count) R = w .records ∙ puts-all (words (Z .records)) R (omega arith) ∙ ap (λ i. words (Z .records) ++ drop i R) words2 in
+      let filled : after .records ≡ words (Z .records) ++ drop (2 * after .cursor .count) R =
+      w .records ∙ sets-all (words (Z .records)) R (omega arith) ∙ ap (λ i. words (Z .records) ++ drop i R) words2 in
       let good = records-linked e in
       record {
         number = z;
@@ -169,7 +170,7 @@ module _ (text R P S : List ℕ) (f : ℕ) (room : length S ≡ 32) (enough : 2 
         count = w .count;
         root = w .root;
         records = filled;
-        places = w .places ∙ puts-all (Z .places) P (omega arith) ∙ ap (λ i. Z .places ++ drop i P) (sym parts);
+        places = w .places ∙ sets-all (Z .places) P (omega arith) ∙ ap (λ i. Z .places ++ drop i P) (sym parts);
         fewParts = few;
         fewRecords = omega arith;
         decoded = ap₂ (λ cells n. recordsFrom cells 0 n) filled (w .count) ∙ records-back (Z .records) _ 0 (good .earlier) (omega (arith, w .count));

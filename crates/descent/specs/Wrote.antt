@@ -1,21 +1,23 @@
 -- What stands in the arrays, in terms of Records: a state that is ready to read behind the records t with the names Σ around it, and a
 -- state in which a tree's records and places have been written. Assumes nothing.
 use mathlib.Core.Path.{_≡_, refl, sym, _∙_}
-use mathlib.Core.Bool.{Bool, true, false}
+use mathlib.Core.Bool.{Bool, true, false, cond}
 use mathlib.Core.List.{List, [], _∷_, _++_}
 use Prim.Native.Nat.{ℕ, zero, suc, _+_, _*_, _-_, _≤_, _<_}
 use native.Mathlib.Omega.{arith}
 use lib.Dec.{eqb, eqb·suc-zero}
 use lib.ListN.{length, length-set, length-append}
+use lib.Seq.{sets}
 use Rattle.language.specs.Names.{packed, isData, dataWord}
 use Rattle.grammar.specs.Tokens.{when}
+use Rattle.grammar.specs.TokensLaws.{by-test}
 use Rattle.table.specs.Memory.{Node}
 use Rattle.table.specs.Nodes.{readingsKind}
-use Rattle.records.specs.Records.{Named, stands, Recorded, node, newRecord, pickRecorded, linked, recordName, recordScoped, behind}
+use Rattle.records.specs.Records.{Named, stands, Recorded, node, newRecord, linked, recordName, recordScoped, behind}
 use Rattle.descent.specs.Cursor.{Cursor, binderLink, binderOf}
 use Rattle.descent.specs.Descent.{State, moved, counted, rooted, put, link, mark, enter, putBound, putScoped, putName}
-use Rattle.descent.specs.Cells.{puts, puts-append, put-before, words, put-word}
-use Rattle.descent.specs.Moves.{Moved, by-test}
+use Rattle.descent.specs.Cells.{sets-append, put-before, words, put-word}
+use Rattle.descent.specs.Moves.{Moved}
 use Rattle.descent.specs.Kept.{Kept}
 use Rattle.descent.specs.Scope.{Holds, holds-kept, holds-entered, foundAt, scoped-is}
 
@@ -23,7 +25,7 @@ use Rattle.descent.specs.Scope.{Holds, holds-kept, holds-entered, foundA
 pub record Ready (R : List ℕ) (Σ : List Named) (t : List Node) (marks depth : ℕ) (s : State) : Type 0 where
   pub number : s .cursor .number ≡ 0
   pub count : s .cursor .count ≡ length t
-  pub records : s .records ≡ puts R 0 (words t)
+  pub records : s .records ≡ sets R 0 (words t)
   pub holds : Holds Σ depth (s .scope)
   pub room : length (s .scope) ≡ 32
   pub few : depth ≤ marks
@@ -32,8 +34,8 @@ pub record Ready (R : List ℕ) (Σ : List Named) (t : List Node) (marks depth :
 pub record Wrote (R B : List ℕ) (p : ℕ) (Z : Recorded) (s : State) : Type 0 where
   pub count : s .cursor .count ≡ length (Z .records)
   pub root : s .cursor .root ≡ Z .root
-  pub records : s .records ≡ puts R 0 (words (Z .records))
-  pub places : s .places ≡ puts B p (Z .places)
+  pub records : s .records ≡ sets R 0 (words (Z .records))
+  pub places : s .places ≡ sets B p (Z .places)
   pub parts : s .cursor .parts ≡ p + length (Z .places)
 
 module _ (R : List ℕ) (Σ : List Named) (t : List Node) (marks depth : ℕ) (s : State) (h : Ready R Σ t marks depth s) where
@@ -62,7 +64,7 @@ module _ (R : List ℕ) (Σ : List Named) (t : List Node) (marks depth : ℕ) (s
       })
 
   -- a record for the part of place p, behind the parts ps that are written already
-  pub wrote-put : (m n : Node) (B : List ℕ) (p : ℕ) (ps : List ℕ) → m ≡ n → s .places ≡ puts B (suc p) ps → s .cursor .parts ≡ suc p + length ps
+  pub wrote-put : (m n : Node) (B : List ℕ) (p : ℕ) (ps : List ℕ) → m ≡ n → s .places ≡ sets B (suc p) ps → s .cursor .parts ≡ suc p + length ps
       → Wrote R B p (newRecord n t (length t ∷ ps)) (put p m s)
   unfolding put counted
   wrote-put m n B p ps i e g =
@@ -77,11 +79,10 @@ module _ (R : List ℕ) (Σ : List Named) (t : List Node) (marks depth : ℕ) (s
       })
 
   wrote-link : (j p : ℕ) → s .cursor .parts ≡ suc p → Wrote R (s .places) p (record { records = t; root = j; places = j ∷ [] }) (link p j s)
-  unfolding link rooted puts
+  unfolding link rooted
   wrote-link j p g = record { count = h .count; root = refl; records = h .records; places = refl; parts = omega arith }
 
   wrote-new : (n : Node) (p : ℕ) → s .cursor .parts ≡ suc p → Wrote R (s .places) p (newRecord n t (length t ∷ [])) (put p n s)
-  unfolding puts
   wrote-new n p g = wrote-put n n (s .places) p [] refl refl (omega arith)
 
   wrote-bound : (x : List ℕ) (p j : ℕ) → s .cursor .parts ≡ suc p → Wrote R (s .places) p (linked j x t) (putBound p (packed x) j s)
@@ -100,7 +101,8 @@ module _ (R : List ℕ) (Σ : List Named) (t : List Node) (marks depth : ℕ) (s
       by (eqb (packed x) (packed dataWord)) (rw (scoped-is x t Σ depth (s .scope) (h .holds)) (wrote-scoped x p (binderOf (s .scope) (packed x) depth) g))
     where
       by : (q : Bool) → Wrote R (s .places) p (recordScoped x Σ t) (putScoped p (packed x) (binderOf (s .scope) (packed x) depth) s)
-          → Wrote R (s .places) p (pickRecorded q (newRecord (node readingsKind 0 0 0) t (length t ∷ [])) (recordScoped x Σ t)) (when q (λ _. put p (node readingsKind 0 0 0) s) (λ _. putScoped p (packed x) (binderOf (s .scope) (packed x) depth) s))
+          → Wrote R (s .places) p (cond q (newRecord (node readingsKind 0 0 0) t (length t ∷ [])) (recordScoped x Σ t))
+          (when q (λ _. put p (node readingsKind 0 0 0) s) (λ _. putScoped p (packed x) (binderOf (s .scope) (packed x) depth) s))
       by true w = wrote-new _ p g
       by false w = w
 
@@ -132,14 +134,14 @@ pub wrote-moved : (R B : List ℕ) (p i g : ℕ) (Z : Recorded) (s : State) (c :
 wrote-moved R B p i g Z s c m e w = record { count = m .count ∙ w .count; root = m .root ∙ w .root; records = w .records; places = w .places; parts = e ∙ w .parts }
 
 -- parts behind parts
-pub wrote-behind : (R B C : List ℕ) (p q : ℕ) (ps : List ℕ) (Z : Recorded) (s : State) → C ≡ puts B p ps → q ≡ p + length ps → Wrote R C q Z s
+pub wrote-behind : (R B C : List ℕ) (p q : ℕ) (ps : List ℕ) (Z : Recorded) (s : State) → C ≡ sets B p ps → q ≡ p + length ps → Wrote R C q Z s
     → Wrote R B p (behind ps Z) s
 wrote-behind R B C p q ps Z s e g w =
     record {
       count = w .count;
       root = w .root;
       records = w .records;
-      places = w .places ∙ rw (e, g) (sym (puts-append ps (Z .places) B p));
+      places = w .places ∙ rw (e, g) (sym (sets-append ps (Z .places) B p));
       parts = simp length-append (omega (arith, w .parts));
     }
 
@@ -149,7 +151,7 @@ pub wrote-let : (R P : List ℕ) (p q i : ℕ) (A B : Recorded) (v u : State) �
 unfolding mark
 wrote-let R P p q i A B v u e g a b =
     let w = wrote-behind R P (v .places) q i (A .places) B u (a .places) (g ∙ a .parts) b in
-    let y : u .places ≡ puts P (suc p) (A .places ++ B .places) = rw e at (w .places) in
+    let y : u .places ≡ sets P (suc p) (A .places ++ B .places) = rw e at (w .places) in
     let z = b .root in
     record {
       count = b .count;

@@ -5,12 +5,13 @@ use mathlib.Core.List.{List, [], _∷_}
 use Prim.Native.Nat.{ℕ}
 use lib.IntN.{ℤ}
 use Rattle.language.specs.Names.{packed, sameName, isData}
+use Rattle.language.specs.Cases.{impossible, split, either, by-cond}
 use Rattle.grammar.specs.Grammar.{Expression, Calls, Arguments, More, letIn, lambda, name, literal, bracket, done, call, none, first, last, next}
 use Rattle.meaning.specs.Forms.{Form, number, variable, unbound, readings, ask, function, same, dependency}
-use Rattle.meaning.specs.FormsLaws.{no-way, either, same-eq, same-self}
-use Rattle.meaning.specs.Binding.{Meaning, means, pickForm, lookUp, named, asLambda, member, formE, formC, formA, formM, called, placesE, placesC, placesA, placesM, orderE, orderC, orderA, orderM, formOf, formsByPlace, formsInOrder}
+use Rattle.meaning.specs.FormsLaws.{same-eq, same-self}
+use Rattle.meaning.specs.Binding.{Meaning, means, lookUp, named, asLambda, member, formE, formC, formA, formM, called, placesE}
+use Rattle.meaning.specs.Binding.{placesC, placesA, placesM, orderE, orderC, orderA, orderM, formOf, formsByPlace, formsInOrder}
 use Rattle.model.specs.Lists.{All, member as isIn}
-use Rattle.model.specs.Cases.{split}
 use Rattle.model.specs.Laws.{Ordered, Among}
 use Rattle.formulas.specs.Formulas.{formulas}
 
@@ -41,7 +42,7 @@ based-more g f fs h d e = in-more g fs d (h d e)
 
 -- forms with no dependency
 based-leaf : (f : Form) (fs : List Form) → ((d : Form) → dependency d f ≡ false) → Based f fs
-based-leaf f fs h d e = no-way (sym (h d) ∙ e)
+based-leaf f fs h d e = impossible (sym (h d) ∙ e)
 
 -- every name stands for a form whose dependencies are in the list
 abbrev Grounded : List Meaning → List Form → Type 0
@@ -51,18 +52,16 @@ grounded-sub : (Γ : List Meaning) (fs gs : List Form) → Sub fs gs → Grounde
 grounded-sub [] fs gs s h = tt
 grounded-sub (e ∷ Γ) fs gs s h = (λ d q. s d (h .0 d q), grounded-sub Γ fs gs s (h .1))
 
-based-pick : (b : Bool) (f g : Form) (fs : List Form) → Based f fs → Based g fs → Based (pickForm b f g) fs
-based-pick true f g fs p q = p
-based-pick false f g fs p q = q
-
 based-lookup : (x : List ℕ) (Γ : List Meaning) (fs : List Form) → Grounded Γ fs → Based (lookUp x Γ) fs
 unfolding lookUp dependency
 based-lookup x [] fs h = based-leaf (unbound (packed x)) fs (λ d. refl)
-based-lookup x (e ∷ Γ) fs h = based-pick (sameName x (e .name)) (e .form) (lookUp x Γ) fs (h .0) (based-lookup x Γ fs (h .1))
+based-lookup x (e ∷ Γ) fs h =
+    by-cond (λ (f : Form). Based f fs) (sameName x (e .name)) (e .form) (lookUp x Γ) (λ _. h .0) (λ _. based-lookup x Γ fs (h .1))
 
 based-named : (x : List ℕ) (Γ : List Meaning) (fs : List Form) → Grounded Γ fs → Based (named x Γ) fs
 unfolding named dependency
-based-named x Γ fs h = based-pick (isData x) readings (lookUp x Γ) fs (based-leaf readings fs (λ d. refl)) (based-lookup x Γ fs h)
+based-named x Γ fs h =
+    by-cond (λ (f : Form). Based f fs) (isData x) readings (lookUp x Γ) (λ _. based-leaf readings fs (λ d. refl)) (λ _. based-lookup x Γ fs h)
 
 grounded-lambda : (x : List ℕ) (Γ : List Meaning) (fs : List Form) → Grounded Γ fs → Grounded (asLambda x Γ) fs
 unfolding dependency
@@ -119,7 +118,8 @@ mutual
   orderedC done f Γ u pre g i h k = k pre (λ x j. j) i h
   orderedC (call m a) f Γ u pre g i h k = orderedA a m f Γ u pre g i k
 
-  orderedA : (a : Arguments) (m : List ℕ) (f : Form) (Γ : List Meaning) (u pre : List Form) → Grounded Γ pre → In f pre → Then pre (formA a m f Γ) u → Ordered formulas pre (orderA a (called a m f Γ) Γ u)
+  orderedA : (a : Arguments) (m : List ℕ) (f : Form) (Γ : List Meaning) (u pre : List Form) → Grounded Γ pre → In f pre → Then pre (formA a m f Γ) u
+      → Ordered formulas pre (orderA a (called a m f Γ) Γ u)
   orderedA (none r) m f Γ u pre g i k =
       emit pre (ask (member m) f) (orderC r (ask (member m) f) Γ u) (based-ask m f pre i)
       (λ q s j h. orderedC r (ask (member m) f) Γ u q (grounded-sub Γ pre q s g) j h (onward pre q _ u s k))
@@ -228,7 +228,7 @@ mutual
 
 all-among : (fs l : List Form) → AllIn l fs → Among formulas fs l
 unfolding isIn
-all-among [] l h f i = no-way i
+all-among [] l h f i = impossible i
 all-among (g ∷ fs) l h f i = split (same g f) (λ e. rw (← same-eq g f e) (h .0)) (λ e. all-among fs l (h .1) f (rw e at i))
 
 -- the whole and every part are bound

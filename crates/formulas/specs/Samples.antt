@@ -48,7 +48,8 @@ expected (x ∷ xs) = edited (x .whole) (x .parts) (x .new) (x .places) ∷ fini
 -- each list of samples is a session of its own after an opening
 abbrev pub starred : List (List Sample)
 starred =
-    (record { text = bytes "let x = 2 in data.skip(1).take(x)"; whole = 4; parts = 7; new = 5; places = 4 ∷ 0 ∷ 1 ∷ 3 ∷ 2 ∷ 4 ∷ 0 ∷ []; worked = 2; shown = aWindow 1 2 } ∷ record { text = bytes "let x = 3 in data.skip(1).take(x)"; whole = 6; parts = 7; new = 2; places = 6 ∷ 5 ∷ 1 ∷ 3 ∷ 2 ∷ 6 ∷ 5 ∷ []; worked = 1; shown = aWindow 1 3 } ∷ [])
+    (record { text = bytes "let x = 2 in data.skip(1).take(x)"; whole = 4; parts = 7; new = 5; places = 4 ∷ 0 ∷ 1 ∷ 3 ∷ 2 ∷ 4 ∷ 0 ∷ []; worked = 2; shown = aWindow 1 2 }
+    ∷ record { text = bytes "let x = 3 in data.skip(1).take(x)"; whole = 6; parts = 7; new = 2; places = 6 ∷ 5 ∷ 1 ∷ 3 ∷ 2 ∷ 6 ∷ 5 ∷ []; worked = 1; shown = aWindow 1 3 } ∷ [])
     ∷ (record { text = bytes "data.countWhere(\\b -> b.gt(150))"; whole = 5; parts = 6; new = 6; places = 0 ∷ 5 ∷ 4 ∷ 1 ∷ 3 ∷ 2 ∷ []; worked = 3; shown = aNumber (pos 3) } ∷ [])
     ∷ (record { text = bytes "data.sum()"; whole = 1; parts = 2; new = 2; places = 0 ∷ 1 ∷ []; worked = 1; shown = aNumber (pos 755) } ∷ [])
     ∷ (record { text = bytes "data.sumBy(\\p -> data.countWhere(\\q -> q.gt(p)))"; whole = 7; parts = 9; new = 8; places = 0 ∷ 7 ∷ 6 ∷ 0 ∷ 5 ∷ 4 ∷ 1 ∷ 3 ∷ 2 ∷ []; worked = 5; shown = aNumber (pos 10) } ∷ [])

@@ -1,52 +1,45 @@
 -- 01's table, refusals 6 to 12: when exactly a single token has each fault, and when it has none.
 -- Assumes nothing.
 use mathlib.Core.Path.{_≡_, refl, sym, ap, _∙_}
-use mathlib.Core.Logic.{_↔_, _⊎_, inl, inr, Iff·rfl, Iff·trans, Iff·not, Iff·and, ⊎-map}
-use mathlib.Core.Bool.{Bool, true, false, not, _&&_, _||_, true≢false, false≢true}
+use mathlib.Core.Logic.{_↔_, _⊎_, inl, inr, Iff·rfl, Iff·symm, Iff·trans, Iff·not, Iff·and, ⊎-map}
+use mathlib.Core.Bool.{Bool, true, false, not, _&&_, _||_, cond, true≢false, false≢true, and-eq-true-iff}
+use mathlib.Mathlib.Data.Bool.Basic.{eq-false-eq-not-eq-true, eq-true-eq-not-eq-false, or-eq-false-eq-eq-false-and-eq-false as neither}
 use mathlib.Core.List.{List, [], _∷_}
 use Prim.Native.Nat.{ℕ, suc, _-_, _<_, _≤_}
 use native.Mathlib.Omega.{arith}
-use lib.Dec.{T, T-not, leb, eqb, leb→le, le→leb, eqb→eq, eqb-refl}
+use borrow.Author.Tests.{leb-true, leb-false, eqb-true, le-leb, lt-leb, eq-eqb}
+use lib.Dec.{T, T-not, leb, eqb, eqb-refl}
 use lib.IntN.{ℤ}
 use lib.ListN.{length, getD}
 use lib.Signed.{ltZ, _≤ℤ_, ltZ-yes, ltZ-no, clashℤ}
 use Rattle.language.specs.Limits.{textParts, openMarks, openLambdas, nameBytes, leastNumber, mostNumber}
 use Rattle.language.specs.Names.{packed, sameName, isLong, isData, dataWord}
-use Rattle.grammar.specs.Faults.{Fault, fine, outOfRange, longName, dataBound, badCall, manyLambdas, reusedName, tooMany, faultNumber, ifSo, Binder, byLet, byLambda, Around}
+use Rattle.grammar.specs.Faults.{Fault, fine, outOfRange, longName, dataBound, badCall, manyLambdas, reusedName, tooMany, faultNumber, Binder, byLet, byLambda, Around}
 use Rattle.grammar.specs.Faults.{lambdasOf, lambdaNamed, deep, markFault, lambdaFault, letNameFault, lambdaNameFault, nameFault, literalFault, callFault, note, orMany, fault}
 use Rattle.grammar.specs.KeptLimits.{NoLambdaNamed, NotData, InRange}
 
 -- tests, as what they test
-is-true : (b : Bool) → T b ↔ (b ≡ true)
-is-true true = (λ t. refl, λ h. tt)
-is-true false = (λ t. absurd t, λ h. absurd (false≢true h))
-
 pub is-false : (b : Bool) → (b ≡ false) ↔ (¬ (b ≡ true))
-is-false true = (λ h. absurd (true≢false h), λ h. absurd (h refl))
-is-false false = (λ h e. false≢true e, λ h. refl)
+is-false b = Iff·symm (eq-false-eq-not-eq-true b)
 
-pub leb-true : (m n : ℕ) → (leb m n ≡ true) ↔ (m ≤ n)
-leb-true m n = (λ h. leb→le m n (is-true (leb m n) .1 h), λ h. is-true (leb m n) .0 (le→leb m n h))
+leb-iff : (m n : ℕ) → (leb m n ≡ true) ↔ (m ≤ n)
+leb-iff m n = (leb-true m n, le-leb m n)
 
-pub leb-false : (m n : ℕ) → (leb m n ≡ false) ↔ (n < m)
-leb-false m n = Iff·trans (is-false (leb m n)) (Iff·trans (Iff·not (leb-true m n)) (λ h. omega arith, λ h k. omega arith))
+pub not-leb-iff : (m n : ℕ) → (leb m n ≡ false) ↔ (n < m)
+not-leb-iff m n = (leb-false m n, lt-leb m n)
 
-pub eqb-true : (m n : ℕ) → (eqb m n ≡ true) ↔ (m ≡ n)
-eqb-true m n = (λ h. eqb→eq m n (is-true (eqb m n) .1 h), λ h. rw h (is-true (eqb n n) .0 (eqb-refl n)))
+pub eqb-iff : (m n : ℕ) → (eqb m n ≡ true) ↔ (m ≡ n)
+eqb-iff m n = (eqb-true m n, eq-eqb m n)
 
 long : (x : List ℕ) → (isLong x ≡ true) ↔ (nameBytes < length x)
-long x = leb-true (suc nameBytes) (length x)
+long x = leb-iff (suc nameBytes) (length x)
 
 short : (x : List ℕ) → (isLong x ≡ false) ↔ (length x ≤ nameBytes)
-short x = Iff·trans (leb-false (suc nameBytes) (length x)) (λ h. omega arith, λ h. omega arith)
-
-neither : (a b : Bool) → ((a || b) ≡ false) ↔ ((a ≡ false) × (b ≡ false))
-neither true b = (λ h. absurd (true≢false h), λ h. absurd (true≢false (h .0)))
-neither false b = (λ h. (refl, h), λ h. h .1)
+short x = Iff·trans (not-leb-iff (suc nameBytes) (length x)) (λ h. omega arith, λ h. omega arith)
 
 is-data : (x : List ℕ) → (isData x ≡ true) ↔ (packed x ≡ packed dataWord)
 unfolding isData
-is-data x = eqb-true (packed x) (packed dataWord)
+is-data x = eqb-iff (packed x) (packed dataWord)
 
 not-data : (x : List ℕ) → (isData x ≡ false) ↔ NotData x
 not-data x = Iff·trans (is-false (isData x)) (Iff·not (is-data x))
@@ -56,10 +49,10 @@ unfolding lambdaNamed
 new-name x [] = (λ h. tt, λ h. refl)
 new-name x (byLet y ∷ bs) = new-name x bs
 new-name x (byLambda y ∷ bs) =
-    Iff·trans (neither (sameName x y) (lambdaNamed x bs)) (Iff·and (Iff·trans (is-false (sameName x y)) (Iff·not (eqb-true (packed x) (packed y)))) (new-name x bs))
+    Iff·trans (neither (sameName x y) (lambdaNamed x bs)) (Iff·and (Iff·trans (is-false (sameName x y)) (Iff·not (eqb-iff (packed x) (packed y)))) (new-name x bs))
 
 not-less : (a b : ℤ) → (ltZ a b ≡ false) ↔ (b ≤ℤ a)
-not-less a b = (λ h. ltZ-no (rw h tt), λ h. is-false (ltZ a b) .1 (λ e. clashℤ (ltZ-yes (is-true (ltZ a b) .1 e)) h))
+not-less a b = (λ h. ltZ-no (rw h tt), λ h. is-false (ltZ a b) .1 (λ e. clashℤ (ltZ-yes (rw e tt)) h))
 
 abbrev outside : ℤ → Bool
 outside z = ltZ z leastNumber || ltZ mostNumber z
@@ -68,8 +61,7 @@ in-range : (z : ℤ) → (outside z ≡ false) ↔ InRange z
 in-range z = Iff·trans (neither (ltZ z leastNumber) (ltZ mostNumber z)) (Iff·and (not-less z leastNumber) (not-less mostNumber z))
 
 true-not : (b : Bool) (A : Type 0) → (b ≡ false) ↔ A → (b ≡ true) ↔ (¬ A)
-true-not true A h = (λ e a. true≢false (h .1 a), λ n. refl)
-true-not false A h = (λ e. absurd (false≢true e), λ n. absurd (n (h .0 refl)))
+true-not b A h = Iff·trans (Iff·symm (eq-true-eq-not-eq-false b)) (Iff·not h)
 
 -- a fault is known by its number
 faultOf : ℕ → Fault
@@ -102,53 +94,51 @@ number-cases manyLambdas b = inl refl
 number-cases reusedName b = inl refl
 number-cases tooMany b = inl refl
 
-both : (a b : Bool) → (a && b) ≡ true → (a ≡ true) × (b ≡ true)
-both true b e = (refl, e)
-both false b e = absurd (false≢true e)
-
-pub number-means : (c : ℕ) (f : Fault) (p : Bool) (g : Fault) → fault c (note f p) ≡ faultNumber g → (f ≡ g) ⊎ ((g ≡ tooMany) × (f ≡ fine) × (p ≡ true) × (textParts ≤ c))
+pub number-means : (c : ℕ) (f : Fault) (p : Bool) (g : Fault) → fault c (note f p) ≡ faultNumber g
+    → (f ≡ g) ⊎ ((g ≡ tooMany) × (f ≡ fine) × (p ≡ true) × (textParts ≤ c))
 unfolding fault
 number-means c f p g h = ⊎-map (λ e. same-fault f g (sym e ∙ h)) many (number-cases f (p && leb textParts c))
   where
-    many : (orMany (faultNumber f) (p && leb textParts c) ≡ faultNumber tooMany) × (f ≡ fine) × ((p && leb textParts c) ≡ true) → (g ≡ tooMany) × (f ≡ fine) × (p ≡ true) × (textParts ≤ c)
-    many z = let y = both p (leb textParts c) (z .2) in (same-fault g tooMany (sym h ∙ z .0), z .1, y .0, leb-true textParts c .0 (y .1))
+    many : (orMany (faultNumber f) (p && leb textParts c) ≡ faultNumber tooMany) × (f ≡ fine) × ((p && leb textParts c) ≡ true)
+        → (g ≡ tooMany) × (f ≡ fine) × (p ≡ true) × (textParts ≤ c)
+    many z = let y = and-eq-true-iff p (leb textParts c) .0 (z .2) in (same-fault g tooMany (sym h ∙ z .0), z .1, y .0, leb-iff textParts c .0 (y .1))
 
 -- two faults that their numbers tell apart
 abbrev Apart : Fault → Fault → Type 0
 Apart f g = T (not (eqb (faultNumber f) (faultNumber g)))
 
 apart : (f g : Fault) → Apart f g → ¬ (f ≡ g)
-apart f g n e = T-not (eqb (faultNumber f) (faultNumber g)) n (is-true (eqb (faultNumber f) (faultNumber g)) .1 (eqb-true (faultNumber f) (faultNumber g) .1 (ap faultNumber e)))
+apart f g n e = T-not (eqb (faultNumber f) (faultNumber g)) n (rw e (eqb-refl (faultNumber g)))
 
 -- of the tests in their order: one that names another fault fails
-past : (b : Bool) (f g h : Fault) → Apart f h → (ifSo b f g ≡ h) ↔ ((b ≡ false) × (g ≡ h))
+past : (b : Bool) (f g h : Fault) → Apart f h → (cond b f g ≡ h) ↔ ((b ≡ false) × (g ≡ h))
 past true f g h n = (λ e. absurd (apart f h n e), λ z. absurd (true≢false (z .0)))
 past false f g h n = (λ e. (refl, e), λ z. z .1)
 
 -- and the one that names this fault holds, where nothing behind it names this fault
-hit : (b : Bool) (f g : Fault) → ¬ (g ≡ f) → (ifSo b f g ≡ f) ↔ (b ≡ true)
+hit : (b : Bool) (f g : Fault) → ¬ (g ≡ f) → (cond b f g ≡ f) ↔ (b ≡ true)
 hit true f g n = (λ e. refl, λ e. refl)
 hit false f g n = (λ e. absurd (n e), λ e. absurd (false≢true e))
 
-lacks : (b : Bool) (f g h : Fault) → Apart f h → ¬ (g ≡ h) → ¬ (ifSo b f g ≡ h)
+lacks : (b : Bool) (f g h : Fault) → Apart f h → ¬ (g ≡ h) → ¬ (cond b f g ≡ h)
 lacks true f g h n m e = apart f h n e
 lacks false f g h n m e = m e
 
 -- the last test
-clear : (b : Bool) (f : Fault) → Apart f fine → (ifSo b f fine ≡ fine) ↔ (b ≡ false)
+clear : (b : Bool) (f : Fault) → Apart f fine → (cond b f fine ≡ fine) ↔ (b ≡ false)
 clear b f n = Iff·trans (past b f fine fine n) (λ h. h .0, λ h. (h, refl))
 
-only : (b : Bool) (f : Fault) → Apart f fine → (ifSo b f fine ≡ f) ↔ (b ≡ true)
+only : (b : Bool) (f : Fault) → Apart f fine → (cond b f fine ≡ f) ↔ (b ≡ true)
 only b f n = hit b f fine (λ e. apart f fine n (sym e))
 
-misses : (b : Bool) (f h : Fault) → Apart f h → Apart fine h → ¬ (ifSo b f fine ≡ h)
+misses : (b : Bool) (f h : Fault) → Apart f h → Apart fine h → ¬ (cond b f fine ≡ h)
 misses b f h n m = lacks b f fine h n (apart fine h m)
 
 -- no fault
 module _ (d : Around) where
   pub deep-fine : (deep d ≡ fine) ↔ (d .marks < openMarks)
   unfolding faultNumber
-  deep-fine = Iff·trans (clear (leb openMarks (d .marks)) tooMany tt) (leb-false openMarks (d .marks))
+  deep-fine = Iff·trans (clear (leb openMarks (d .marks)) tooMany tt) (not-leb-iff openMarks (d .marks))
 
   pub mark-fine : (w : Bool) → (markFault w d ≡ fine) ↔ ((w ≡ false) × (d .marks < openMarks))
   unfolding faultNumber markFault
@@ -158,7 +148,7 @@ module _ (d : Around) where
   unfolding faultNumber lambdaFault
   lambda-fine w =
       Iff·trans (past w badCall _ fine tt) (Iff·and Iff·rfl
-      (Iff·trans (past (leb openLambdas (lambdasOf (d .binders))) manyLambdas (deep d) fine tt) (Iff·and (leb-false openLambdas (lambdasOf (d .binders))) deep-fine)))
+      (Iff·trans (past (leb openLambdas (lambdasOf (d .binders))) manyLambdas (deep d) fine tt) (Iff·and (not-leb-iff openLambdas (lambdasOf (d .binders))) deep-fine)))
 
   pub lambda-name-fine : (x : List ℕ) → (lambdaNameFault x d ≡ fine) ↔ ((length x ≤ nameBytes) × (NotData x × NoLambdaNamed x (d .binders)))
   unfolding faultNumber lambdaNameFault
@@ -246,7 +236,7 @@ unfolding faultNumber lambdaFault
 ten w d =
     Iff·trans (past w badCall _ manyLambdas tt) (Iff·and Iff·rfl
     (Iff·trans (hit (leb openLambdas (lambdasOf (d .binders))) manyLambdas (deep d) (misses (leb openMarks (d .marks)) tooMany manyLambdas tt tt))
-    (leb-true openLambdas (lambdasOf (d .binders)))))
+    (leb-iff openLambdas (lambdasOf (d .binders)))))
 
 -- 11: the name of a lambda around
 pub eleven : (x : List ℕ) (d : Around) → (lambdaNameFault x d ≡ reusedName) ↔ ((length x ≤ nameBytes) × (NotData x × (¬ NoLambdaNamed x (d .binders))))
@@ -259,7 +249,7 @@ eleven x d =
 -- 12: a 17th open mark; a 129th part is in number-means
 pub twelve : (d : Around) → (deep d ≡ tooMany) ↔ (openMarks ≤ d .marks)
 unfolding faultNumber
-twelve d = Iff·trans (only (leb openMarks (d .marks)) tooMany tt) (leb-true openMarks (d .marks))
+twelve d = Iff·trans (only (leb openMarks (d .marks)) tooMany tt) (leb-iff openMarks (d .marks))
 
 pub twelve-mark : (w : Bool) (d : Around) → (markFault w d ≡ tooMany) ↔ ((w ≡ false) × (openMarks ≤ d .marks))
 unfolding faultNumber markFault
@@ -269,4 +259,4 @@ pub twelve-lambda : (w : Bool) (d : Around) → (lambdaFault w d ≡ tooMany) �
 unfolding faultNumber lambdaFault
 twelve-lambda w d =
     Iff·trans (past w badCall _ tooMany tt) (Iff·and Iff·rfl
-    (Iff·trans (past (leb openLambdas (lambdasOf (d .binders))) manyLambdas (deep d) tooMany tt) (Iff·and (leb-false openLambdas (lambdasOf (d .binders))) (twelve d))))
+    (Iff·trans (past (leb openLambdas (lambdasOf (d .binders))) manyLambdas (deep d) tooMany tt) (Iff·and (not-leb-iff openLambdas (lambdasOf (d .binders))) (twelve d))))

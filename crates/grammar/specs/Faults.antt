@@ -2,7 +2,7 @@
 -- Each token of a tree has a note: the lowest refusal that applies there, and whether the token is a part.
 -- Assumes nothing: these are definitions.
 use mathlib.Core.Path.{_≡_}
-use mathlib.Core.Bool.{Bool, true, false, _&&_, _||_}
+use mathlib.Core.Bool.{Bool, true, false, _&&_, _||_, cond}
 use mathlib.Core.List.{List, [], _∷_}
 use Prim.Native.Nat.{ℕ, zero, suc, _-_}
 use lib.Dec.{leb, eqb}
@@ -26,11 +26,6 @@ faultNumber badCall = 9
 faultNumber manyLambdas = 10
 faultNumber reusedName = 11
 faultNumber tooMany = 12
-
--- this fault where the test holds, else that one
-abbrev pub ifSo : Bool → Fault → Fault → Fault
-ifSo true f g = f
-ifSo false f g = g
 
 -- where an expression stands: how many of let, \ and ( are open, and the names bound around it
 pub data Binder : Type 0 where
@@ -66,28 +61,28 @@ lambdaNamed x (byLambda y ∷ bs) = sameName x y || lambdaNamed x bs
 
 -- the faults of single tokens; refused: an expression begins where a member takes no argument
 abbrev pub deep : Around → Fault
-deep d = ifSo (leb openMarks (d .marks)) tooMany fine
+deep d = cond (leb openMarks (d .marks)) tooMany fine
 
 unfoldable pub markFault : Bool → Around → Fault
-markFault refused d = ifSo refused badCall (deep d)
+markFault refused d = cond refused badCall (deep d)
 
 unfoldable pub lambdaFault : Bool → Around → Fault
-lambdaFault refused d = ifSo refused badCall (ifSo (leb openLambdas (lambdasOf (d .binders))) manyLambdas (deep d))
+lambdaFault refused d = cond refused badCall (cond (leb openLambdas (lambdasOf (d .binders))) manyLambdas (deep d))
 
 unfoldable pub letNameFault : List ℕ → Fault
-letNameFault x = ifSo (isLong x) longName (ifSo (isData x) dataBound fine)
+letNameFault x = cond (isLong x) longName (cond (isData x) dataBound fine)
 
 unfoldable pub lambdaNameFault : List ℕ → Around → Fault
-lambdaNameFault x d = ifSo (isLong x) longName (ifSo (isData x) dataBound (ifSo (lambdaNamed x (d .binders)) reusedName fine))
+lambdaNameFault x d = cond (isLong x) longName (cond (isData x) dataBound (cond (lambdaNamed x (d .binders)) reusedName fine))
 
 unfoldable pub nameFault : Bool → List ℕ → Fault
-nameFault refused x = ifSo (isLong x) longName (ifSo refused badCall fine)
+nameFault refused x = cond (isLong x) longName (cond refused badCall fine)
 
 unfoldable pub literalFault : Bool → ℤ → Fault
-literalFault refused z = ifSo (ltZ z leastNumber || ltZ mostNumber z) outOfRange (ifSo refused badCall fine)
+literalFault refused z = cond (ltZ z leastNumber || ltZ mostNumber z) outOfRange (cond refused badCall fine)
 
 unfoldable pub callFault : Bool → Fault
-callFault wrong = ifSo wrong badCall fine
+callFault wrong = cond wrong badCall fine
 
 -- a token's note: its fault, and whether it is a part
 pub data Note : Type 0 where

@@ -16,7 +16,7 @@ use Rattle.grammar.specs.Faults.{Fault, fine, faultNumber, Around, outer
 use Rattle.grammar.specs.Faults.{callFault, Note, note, plain, notesE, notesC, notesA, notesM, orMany, fault, counted, faults, faultsOf, Clean}
 use Rattle.grammar.specs.KeptLimits.{partsE, partsC, partsA, partsM, givenM, givenA, Site, aLet, aLambda, aBracket, aName, aNumber, aCall, EverywhereE, EverywhereC, EverywhereA, EverywhereM}
 use Rattle.grammar.specs.KeptLimits.{FewMarks, FewLambdas, NoLambdaNamed, NewLambdas, ShortNames, NotData, DataUnbound, InRange, SmallNumbers, RightCalls, KeepsLimits}
-use Rattle.grammar.specs.FaultLaws.{leb-false, eqb-true, is-false, same-fault, deep-fine, mark-fine, lambda-fine, lambda-name-fine, let-name-fine, name-fine, literal-fine, call-fine}
+use Rattle.grammar.specs.FaultLaws.{not-leb-iff, eqb-iff, is-false, same-fault, deep-fine, mark-fine, lambda-fine, lambda-name-fine, let-name-fine, name-fine, literal-fine, call-fine}
 
 abbrev AllFine : List Note → Type 0
 AllFine [] = Unit {0}
@@ -42,11 +42,11 @@ clean-fine [] c h = (λ k. (tt, omega arith), λ k. tt)
 clean-fine (note f true ∷ ns) c h = (
   λ k.
       let y = no-fault f (leb textParts c) .0 (k .0) in
-      let z = clean-fine ns (suc c) (leb-false textParts c .0 (y .1)) .0 (k .1) in
+      let z = clean-fine ns (suc c) (not-leb-iff textParts c .0 (y .1)) .0 (k .1) in
       ((y .0, z .0), omega arith),
   λ k.
       let l : c + suc (partsIn ns) ≤ textParts = k .1 in
-      (no-fault f (leb textParts c) .1 (k .0 .0, leb-false textParts c .1 (omega arith)), clean-fine ns (suc c) (omega arith) .1 (k .0 .1, omega arith)),
+      (no-fault f (leb textParts c) .1 (k .0 .0, not-leb-iff textParts c .1 (omega arith)), clean-fine ns (suc c) (omega arith) .1 (k .0 .1, omega arith)),
 )
 clean-fine (note f false ∷ ns) c h = (
   λ k. let z = clean-fine ns c h .0 (k .1) in ((no-fault f false .0 (k .0) .0, z .0), z .1),
@@ -89,10 +89,10 @@ Good (aCall m n) d = ((isUnknown (memberOf m) ≡ false) × (n ≡ takes (member
 
 -- a ) with no argument to come; an argument or a comma with one to come
 none-left : (k : ℕ) → (callFault (leb 1 k) ≡ fine) ↔ (0 ≡ k)
-none-left k = Iff·trans (call-fine (leb 1 k)) (Iff·trans (leb-false 1 k) (λ h. omega arith, λ h. omega arith))
+none-left k = Iff·trans (call-fine (leb 1 k)) (Iff·trans (not-leb-iff 1 k) (λ h. omega arith, λ h. omega arith))
 
 some-left : (k : ℕ) → (eqb k 0 ≡ false) ↔ (1 ≤ k)
-some-left k = Iff·trans (is-false (eqb k 0)) (Iff·trans (Iff·not (eqb-true k 0)) (λ h. omega arith, λ h e. omega arith))
+some-left k = Iff·trans (is-false (eqb k 0)) (Iff·trans (Iff·not (eqb-iff k 0)) (λ h. omega arith, λ h e. omega arith))
 
 mutual
   unfolding notesE givenA
@@ -181,7 +181,7 @@ mutual
 -- what holds everywhere, with something else that does
 module _ (P Q R : Site → Around → Type 0) (f : (s : Site) (d : Around) → P s d → Q s d → R s d) where
   mutual
-    weave-E : (e : Expression) (d : Around) → EverywhereE P e d → EverywhereE Q e d → EverywhereE R e d
+    pub weave-E : (e : Expression) (d : Around) → EverywhereE P e d → EverywhereE Q e d → EverywhereE R e d
     weave-E (letIn x a b) d p q = (f (aLet x) d (p .0) (q .0), weave-E a (opened d) (p .1) (q .1), weave-E b (inLet x d) (p .2) (q .2))
     weave-E (lambda x b) d p q = (f (aLambda x) d (p .0) (q .0), weave-E b (inLambda x d) (p .1) (q .1))
     weave-E (name x r) d p q = (f (aName x) d (p .0) (q .0), weave-C r d (p .1) (q .1))
@@ -200,7 +200,7 @@ module _ (P Q R : Site → Around → Type 0) (f : (s : Site) (d : Around) → P
     weave-M (last r) d p q = weave-C r d p q
     weave-M (next e x) d p q = (weave-E e (opened d) (p .0) (q .0), weave-M x d (p .1) (q .1))
 
-abbrev Both : (P Q : Site → Around → Type 0) → Site → Around → Type 0
+abbrev pub Both : (P Q : Site → Around → Type 0) → Site → Around → Type 0
 Both P Q s d = P s d × Q s d
 
 abbrev OfNames : Site → Around → Type 0
@@ -221,10 +221,10 @@ all-good (aNumber z) d = (λ h. h .1 .1 .0, λ h. ((tt, tt), ((tt, (tt, tt)), (h
 all-good (aCall m n) d = (λ h. (h .1 .1 .1, h .0 .0), λ h. ((h .1, tt), ((tt, (tt, tt)), (tt, h .0))))
 
 module _ (e : Expression) where
-  onward : (P Q : Site → Around → Type 0) → ((s : Site) (d : Around) → P s d → Q s d) → EverywhereE P e outermost → EverywhereE Q e outermost
+  pub onward : (P Q : Site → Around → Type 0) → ((s : Site) (d : Around) → P s d → Q s d) → EverywhereE P e outermost → EverywhereE Q e outermost
   onward P Q f h = weave-E P P Q (λ s d p q. f s d p) e outermost h h
 
-  both : (P Q : Site → Around → Type 0) → EverywhereE P e outermost → EverywhereE Q e outermost → EverywhereE (Both P Q) e outermost
+  pub both : (P Q : Site → Around → Type 0) → EverywhereE P e outermost → EverywhereE Q e outermost → EverywhereE (Both P Q) e outermost
   both P Q = weave-E P Q (Both P Q) (λ s d p q. (p, q)) e outermost
 
   keeps-good : (EverywhereE Good e outermost × (partsE e ≤ textParts)) ↔ KeepsLimits e

@@ -1,4 +1,5 @@
 pub mod Tokens
+pub mod TokensLaws
 pub mod Grammar
 pub mod Faults
 pub mod Reading
@@ -11,4 +12,5 @@ pub mod KeptLimitsLaws
 pub mod Places
 pub mod ReadingLaws
 pub mod Theorems
+pub mod Words
 pub mod Refusals

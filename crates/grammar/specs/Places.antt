@@ -1,13 +1,13 @@
 -- The tokens of a text stand in the order of their byte places, so the first token at fault is the one at the lowest byte place.
 -- Assumes nothing.
 use mathlib.Core.Path.{_≡_}
-use mathlib.Core.Bool.{Bool, true, false}
 use mathlib.Core.List.{List, [], _∷_}
 use Prim.Native.Nat.{ℕ, zero, suc, _+_, _-_, _<_, _≤_}
 use native.Mathlib.Omega.{arith}
 use lib.ListN.{length}
 use Rattle.language.specs.Names.{isBlank}
-use Rattle.grammar.specs.Tokens.{when, tokenAt, Located, scan, tokens}
+use Rattle.grammar.specs.Tokens.{tokenAt, Located, scan, tokens}
+use Rattle.grammar.specs.TokensLaws.{by-test}
 use Rattle.grammar.specs.Reading.{placeIn, placeOf}
 
 -- the places rise, from one that is at or behind the start to the end
@@ -19,19 +19,14 @@ rises-sooner : (start end : ℕ) (xs : List Located) → Rises (suc start) end x
 rises-sooner start end [] h = omega arith
 rises-sooner start end (x ∷ xs) h = (omega arith, h .1)
 
-rises-when : (start end : ℕ) (b : Bool) (x y : Unit {0} → List Located) → Rises start end (x tt) → Rises start end (y tt) → Rises start end (when b x y)
-unfolding when
-rises-when start end true x y h k = h
-rises-when start end false x y h k = k
-
 scan-rises : (bs : List ℕ) (inside start end : ℕ) → end ≡ start + length bs → Rises start end (scan inside start bs)
 unfolding scan
 scan-rises [] inside start end e = omega arith
 scan-rises (b ∷ bs) (suc n) start end e = rises-sooner start end (scan n (suc start) bs) (scan-rises bs n (suc start) end (omega arith))
 scan-rises (b ∷ bs) zero start end e =
-    rises-when start end (isBlank b) _ _
-    (rises-sooner start end (scan zero (suc start) bs) (scan-rises bs zero (suc start) end (omega arith)))
-    (omega arith, scan-rises bs (tokenAt b bs .width - 1) (suc start) end (omega arith))
+    by-test (Rises start end) (isBlank b) _ _
+    (λ _. rises-sooner start end (scan zero (suc start) bs) (scan-rises bs zero (suc start) end (omega arith)))
+    (λ _. (omega arith, scan-rises bs (tokenAt b bs .width - 1) (suc start) end (omega arith)))
 
 place-from : (start end : ℕ) (xs : List Located) (j : ℕ) → Rises start end xs → start ≤ placeIn xs end j
 unfolding placeIn

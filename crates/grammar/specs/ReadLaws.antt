@@ -62,7 +62,8 @@ complete-end s tooEarly q f = absurd f
 complete-end s (finished r p i) q f = ap whole f
 
 module _ (s : State) (c : ℕ) (t : Token) (ts : List Token) (k : (b : State) → ℕ → Answer (Trees b)) where
-  complete-step : (x : Step s t) → ((b : State) (c' : ℕ) (r : Trees b) → Reads b c' ts r → k b c' ≡ whole r) → (q : Trees s) → From x q → Reads s c (t ∷ ts) q → judge c x k ≡ whole q
+  complete-step : (x : Step s t) → ((b : State) (c' : ℕ) (r : Trees b) → Reads b c' ts r → k b c' ≡ whole r)
+      → (q : Trees s) → From x q → Reads s c (t ∷ ts) q → judge c x k ≡ whole q
   unfolding judge further faults
   complete-step stop ih q f h = absurd f
   complete-step (go n b back p i) ih q f h =
@@ -94,7 +95,8 @@ pub record Refuses (s : State) (c : ℕ) (ts : List Token) (n j : ℕ) : Type 0 
 
 -- at the first token, or at the end where there is none
 module _ (s : State) (c : ℕ) (ts : List Token) (n j : ℕ) where
-  refuses-here : ¬ (n ≡ 0) → j ≡ 0 → (¬ (n ≡ 5) → (q : Trees s) × Agrees s 1 ts q) → ((q : Trees s) → Agrees s 1 ts q → getD (faults c (notes s q)) 0 0 ≡ n) → Refuses s c ts n j
+  refuses-here : ¬ (n ≡ 0) → j ≡ 0 → (¬ (n ≡ 5) → (q : Trees s) × Agrees s 1 ts q)
+      → ((q : Trees s) → Agrees s 1 ts q → getD (faults c (notes s q)) 0 0 ≡ n) → Refuses s c ts n j
   refuses-here z e b f = rw e (record { number = z; inside = omega arith; before = (sample s, refl); beyond = b; clear = λ q m. tt; fault = f })
 
   -- by 5: no tree goes on

@@ -4,12 +4,11 @@
 use mathlib.Core.Path.{_≡_, refl, sym, ap}
 use mathlib.Core.Logic.{_↔_, Iff·trans, _⊎_, inl, inr}
 use mathlib.Core.List.{List}
-use Prim.Native.Nat.{ℕ, _≤_}
+use Prim.Native.Nat.{ℕ}
 use native.Mathlib.Omega.{arith}
-use lib.ListN.{length}
 use Rattle.grammar.specs.Tokens.{Token}
 use Rattle.grammar.specs.Grammar.{Expression, Spells}
-use Rattle.grammar.specs.Reading.{ReadsAs, RefusedBy, Reading, tree, refused, placeOf, tokensOf}
+use Rattle.grammar.specs.Reading.{ReadsAs, RefusedBy, tree, refused, placeOf, tokensOf}
 use Rattle.grammar.specs.KeptLimits.{KeepsLimits}
 use Rattle.grammar.specs.KeptLimitsLaws.{limits-kept}
 use Rattle.grammar.specs.Machine.{Trees, spell, notes, Answer, whole, stopped, readFrom, begin, alone, read, placed, readText}
@@ -21,11 +20,8 @@ pub one-tree : (ts : List Token) (e e' : Expression) → Spells e ts → Spells 
 unfolding spell
 one-tree ts e e' h h' = ap (λ (q : Trees begin). q .0) (same-trees begin ts (e, tt) (e', tt) h h')
 
-pub one-reading : (ts : List Token) (e e' : Expression) → ReadsAs ts e → ReadsAs ts e' → e ≡ e'
-one-reading ts e e' h h' = one-tree ts e e' (h .spelled) (h' .spelled)
-
 -- tokens are read as a tree
-pub read-sound : (ts : List Token) (e : Expression) → read ts ≡ whole e → ReadsAs ts e
+read-sound : (ts : List Token) (e : Expression) → read ts ≡ whole e → ReadsAs ts e
 unfolding read spell notes
 read-sound ts e h = by (readFrom begin 0 ts) refl h
   where
@@ -33,12 +29,9 @@ read-sound ts e h = by (readFrom begin 0 ts) refl h
     by (whole q) g h = let c : q .0 ≡ e = cc in let z = sound begin 0 ts q g in rw (← c) (record { spelled = z .spelled; clean = z .clean })
     by (stopped n j) g h = absurd (no-whole h)
 
-pub read-complete : (ts : List Token) (e : Expression) → ReadsAs ts e → read ts ≡ whole e
+read-complete : (ts : List Token) (e : Expression) → ReadsAs ts e → read ts ≡ whole e
 unfolding read spell notes
 read-complete ts e h = rw (complete begin 0 ts (e, tt) (record { spelled = h .spelled; clean = h .clean }))
-
-pub read-exactly : (ts : List Token) (e : Expression) → (read ts ≡ whole e) ↔ ReadsAs ts e
-read-exactly ts e = (read-sound ts e, read-complete ts e)
 
 -- or they are refused
 stopped-refuses : (ts : List Token) (n j : ℕ) → read ts ≡ stopped n j → Refuses begin 0 ts n j
@@ -49,7 +42,7 @@ stopped-refuses ts n j h = by (readFrom begin 0 ts) refl h
     by (whole q) g h = absurd (no-whole (sym h))
     by (stopped m i) g h = let a : m ≡ n = cc in let b : i ≡ j = cc in refuses begin 0 ts n j (rw (a, b) at g)
 
-pub read-refused : (ts : List Token) (n j : ℕ) → read ts ≡ stopped n j → RefusedBy ts n j
+read-refused : (ts : List Token) (n j : ℕ) → read ts ≡ stopped n j → RefusedBy ts n j
 unfolding spell notes
 read-refused ts n j h =
     let v = stopped-refuses ts n j h in
@@ -62,19 +55,12 @@ read-refused ts n j h =
       fault = λ e. v .fault (e, tt);
     }
 
-pub refused-read : (ts : List Token) (n j : ℕ) → RefusedBy ts n j → read ts ≡ stopped n j
+refused-read : (ts : List Token) (n j : ℕ) → RefusedBy ts n j → read ts ≡ stopped n j
 refused-read ts n j r = by (read ts) refl
   where
     by : (x : Answer Expression) → read ts ≡ x → x ≡ stopped n j
     by (whole e) h = absurd (not-both ts e n j (read-sound ts e h) r)
     by (stopped n' j') h = let z = one-refusal ts n' j' n j (read-refused ts n' j' h) r in let a = z .0 in let b = z .1 in rw (a, b) refl
-
-pub refused-exactly : (ts : List Token) (n j : ℕ) → (read ts ≡ stopped n j) ↔ RefusedBy ts n j
-refused-exactly ts n j = (read-refused ts n j, refused-read ts n j)
-
--- the token refused is one of them, or the end
-pub refused-inside : (ts : List Token) (n j : ℕ) → RefusedBy ts n j → j ≤ length ts
-refused-inside ts n j r = stopped-refuses ts n j (refused-read ts n j r) .inside
 
 -- one of the two holds of all tokens
 pub read-total : (ts : List Token) → ((e : Expression) × ReadsAs ts e) ⊎ ((n : ℕ) × (j : ℕ) × RefusedBy ts n j)
@@ -85,7 +71,7 @@ read-total ts = by (read ts) refl
     by (stopped n j) h = inr (n, j, read-refused ts n j h)
 
 -- texts
-pub text-read : (text : List ℕ) (e : Expression) → (readText text ≡ tree e) ↔ ReadsAs (tokensOf text) e
+text-read : (text : List ℕ) (e : Expression) → (readText text ≡ tree e) ↔ ReadsAs (tokensOf text) e
 unfolding readText
 text-read text e = (λ h. read-sound (tokensOf text) e (by (read (tokensOf text)) h), λ h. rw (read-complete (tokensOf text) e h))
   where
@@ -106,10 +92,3 @@ text-refused text n p = (λ h. by (read (tokensOf text)) refl h, λ z. let r = r
     by : (x : Answer Expression) → read (tokensOf text) ≡ x → placed text x ≡ refused n p → (j : ℕ) × RefusedBy (tokensOf text) n j × (p ≡ placeOf text j)
     by (whole e) g h = let z : _≡_ {A = ℕ} 0 1 = cc in absurd (omega arith)
     by (stopped m j) g h = let a : m ≡ n = cc in (j, rw a at (read-refused (tokensOf text) m j g), cc)
-
-pub text-total : (text : List ℕ) → ((e : Expression) × (readText text ≡ tree e)) ⊎ ((n : ℕ) × (p : ℕ) × (readText text ≡ refused n p))
-text-total text = by (readText text) refl
-  where
-    by : (x : Reading) → readText text ≡ x → ((e : Expression) × (readText text ≡ tree e)) ⊎ ((n : ℕ) × (p : ℕ) × (readText text ≡ refused n p))
-    by (tree e) h = inl (e, h)
-    by (refused n p) h = inr (n, p, h)

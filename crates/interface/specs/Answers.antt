@@ -1,5 +1,5 @@
 -- 01's number and values of each case of the enums that the calls answer, and of what is shown. Assumes nothing: these are definitions.
-use mathlib.Core.Bool.{Bool, true, false, cond}
+use mathlib.Core.Bool.{cond}
 use mathlib.Core.List.{List, [], _∷_}
 use Prim.Native.Nat.{ℕ}
 use lib.Dec.{eqb}
@@ -31,11 +31,7 @@ abbrev pub editReply : Edited → (places : List ℕ) → Reply
 editReply (E.Done whole parts added) places = edited whole parts added (take parts places)
 editReply (E.Refused n at) places = refused n at
 
--- what is shown: 1 a number, 2 a window, 3 a function, 4 a delay with its names up to the first that is 0, 5 a reason
-abbrev pub pickShown : Bool → Shown → Shown → Shown
-pickShown true a b = a
-pickShown false a b = b
-
+-- the names of a delay, up to the first that is 0
 abbrev pub namesOf : ℕ → ℕ → List ℕ
 namesOf name other = cond (eqb name 0) [] (cond (eqb other 0) (name ∷ []) (name ∷ other ∷ []))
 
@@ -44,14 +40,14 @@ abbrev pub natural : ℤ → ℕ
 natural (pos n) = n
 natural (negsuc n) = 4294967296
 
--- any other kind is that of no value: there is no reason 0
+-- what is shown: 1 a number, 2 a window, 3 a function, 4 a delay, 5 a reason; any other kind is that of no value: there is no reason 0
 unfoldable pub shownOf : View → Shown
 shownOf v =
-    pickShown (eqb (v .kind) 1) (aNumber (v .first))
-    (pickShown (eqb (v .kind) 2) (aWindow (natural (v .first)) (v .second))
-    (pickShown (eqb (v .kind) 3) (aFunction (v .name))
-    (pickShown (eqb (v .kind) 4) (aDelay (namesOf (v .name) (v .other)))
-    (pickShown (eqb (v .kind) 5) (aReason (natural (v .first)))
+    cond (eqb (v .kind) 1) (aNumber (v .first))
+    (cond (eqb (v .kind) 2) (aWindow (natural (v .first)) (v .second))
+    (cond (eqb (v .kind) 3) (aFunction (v .name))
+    (cond (eqb (v .kind) 4) (aDelay (namesOf (v .name) (v .other)))
+    (cond (eqb (v .kind) 5) (aReason (natural (v .first)))
     (aReason 0)))))
 
 abbrev pub previewReply : Previewed → Reply

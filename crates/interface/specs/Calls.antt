@@ -1,6 +1,6 @@
 -- 01, "Four calls" and "When a call is declined": what open, edit and preview answer and what they leave in the lent memory, and what fetch
 -- hands out, for every text, recording, number and memory. Assumes nothing: these are definitions.
-use mathlib.Core.Bool.{Bool, true, false, cond, not, _&&_, _||_}
+use mathlib.Core.Bool.{Bool, cond, not, _&&_, _||_}
 use mathlib.Core.List.{List, [], _++_, map}
 use Prim.Native.Nat.{ℕ, _-_}
 use lib.Dec.{leb, ltb}
@@ -24,10 +24,6 @@ use Rattle.interface.specs.declared.answers.Previewed.{Previewed}
 use Rattle.interface.specs.declared.answers.Previewed.the-variants.{NotYet, Finished, Refused}
 use Rattle.interface.specs.Answers.{Reply, previewReply}
 
-abbrev pub pickMemory : Bool → Memory → Memory → Memory
-pickMemory true m n = m
-pickMemory false m n = n
-
 -- Open: the counts and the recording are written, and nothing else.
 unfoldable pub openAnswer : Memory → List ℤ → Reply
 openAnswer m r = cond (ltb tableReadings (length r)) (refused 2 0) (cond (fits m) opened (refused 3 0))
@@ -42,7 +38,7 @@ openedMemory m r =
     }
 
 unfoldable pub openMemory : Memory → List ℤ → Memory
-openMemory m r = pickMemory (not (ltb tableReadings (length r)) && fits m) (openedMemory m r) m
+openMemory m r = cond (not (ltb tableReadings (length r)) && fits m) (openedMemory m r) m
 
 -- Edit: the records of the text are bound to the entries held.
 abbrev pub held : Memory → Bound
@@ -61,7 +57,7 @@ editedAs m R b =
     (edited (getD (b .numbers) (R .root) 0) (length (R .places)) (length (b .nodes) - entryCount m) (map (λ (j : ℕ). getD (b .numbers) j 0) (R .places)))
 
 abbrev pub editedMemory : Memory → Bound → Memory
-editedMemory m b = pickMemory (tooMany b) m (appendAll m (drop (entryCount m) (b .nodes)))
+editedMemory m b = cond (tooMany b) m (appendAll m (drop (entryCount m) (b .nodes)))
 
 unfoldable pub readAnswer : Memory → Reading → Reply
 readAnswer m (refusedAt n at) = refused n at
@@ -83,7 +79,7 @@ editAnswer m places text =
     (readAnswer m (readText text))))
 
 unfoldable pub editMemory : Memory → (places text : List ℕ) → Memory
-editMemory m places text = pickMemory (declines m places text) m (readMemory m (readText text))
+editMemory m places text = cond (declines m places text) m (readMemory m (readText text))
 
 -- the first parts' places get their numbers, and the others keep their contents
 abbrev pub editPlaces : Memory → (places text : List ℕ) → List ℕ
@@ -96,26 +92,22 @@ workOn m n a = worked (recordingOf m) (m .links) (m .cells) n a
 abbrev pub workedMemory : Memory → Work → Memory
 workedMemory m w = record { readings = m .readings; heads = m .heads; links = m .links; cells = w .cells }
 
-abbrev pub pickPreview : Bool → Previewed → Previewed → Previewed
-pickPreview true a b = a
-pickPreview false a b = b
-
 -- what the entry shows, unless some of the work is left
 abbrev pub previewedAs : Memory → ℕ → Work → Previewed
-previewedAs m n w = pickPreview (w .left) (NotYet (w .count)) (Finished (w .count) (showOf (readingCount m) (m .links) (w .cells) n))
+previewedAs m n w = cond (w .left) (NotYet (w .count)) (Finished (w .count) (showOf (readingCount m) (m .links) (w .cells) n))
 
 unfoldable pub previewed : Memory → (number allowance : ℕ) → Previewed
 previewed m n a =
-    pickPreview (not (fits m)) (Refused 3)
-    (pickPreview (not (wellFormed m)) (Refused 4)
-    (pickPreview (not (ltb n (entryCount m))) (Refused 14)
+    cond (not (fits m)) (Refused 3)
+    (cond (not (wellFormed m)) (Refused 4)
+    (cond (not (ltb n (entryCount m))) (Refused 14)
     (previewedAs m n (workOn m n a))))
 
 abbrev pub previewAnswer : Memory → (number allowance : ℕ) → Reply
 previewAnswer m n a = previewReply (previewed m n a)
 
 unfoldable pub previewMemory : Memory → (number allowance : ℕ) → Memory
-previewMemory m n a = pickMemory (fits m && (wellFormed m && ltb n (entryCount m))) (workedMemory m (workOn m n a)) m
+previewMemory m n a = cond (fits m && (wellFormed m && ltb n (entryCount m))) (workedMemory m (workOn m n a)) m
 
 -- Fetch: the part of the readings that entry n shows. For an entry not worked out, not a window or not existing, or a cache refused under 3
 -- or 4, it is the empty part at the start.
@@ -130,13 +122,9 @@ windowIn Function = record { start = 0; length = 0 }
 windowIn Delayed = record { start = 0; length = 0 }
 windowIn (Missing r) = record { start = 0; length = 0 }
 
-abbrev pub pickPart : Bool → Part → Part → Part
-pickPart true a b = a
-pickPart false a b = b
-
 unfoldable pub partOf : Memory → ℕ → Part
 partOf m n =
-    pickPart (fits m && (wellFormed m && doneAt (entriesOf m) n)) (windowIn (unpackOf (startAt (readingCount m) (m .links) (m .cells) n)))
+    cond (fits m && (wellFormed m && doneAt (entriesOf m) n)) (windowIn (unpackOf (startAt (readingCount m) (m .links) (m .cells) n)))
     (record { start = 0; length = 0 })
 
 abbrev pub fetched : Memory → ℕ → List ℤ

@@ -1,15 +1,13 @@
 -- Laws of the calls' definitions: the part that fetch hands out, and what a well-formed cache keeps. Assumes nothing.
 use mathlib.Core.Path.{_≡_, refl, sym, _∙_}
-use mathlib.Core.Bool.{Bool, true, false, _&&_}
+use mathlib.Core.Bool.{Bool, true, false, _&&_, and-eq-true-iff, cond}
 use mathlib.Core.List.{List}
 use Prim.Native.Nat.{ℕ, _+_, _*_, _<_}
 use native.Mathlib.Omega.{arith}
 use borrow.Author.Tests.{le-leb, lt-leb, leb-false, ltb-true, ltb-false}
 use lib.Dec.{ltb, leb}
 use lib.ListN.{getD}
-use Rattle.meaning.specs.FormsLaws.{and-left, and-right}
-use Rattle.meaning.specs.EvaluationLaws.{split}
-use Rattle.model.specs.Cases.{impossible}
+use Rattle.language.specs.Cases.{impossible, split}
 use Rattle.table.specs.Memory.{Memory, fits, entryCount, readingCount, keptAt, entryAt, entriesFrom, entriesOf}
 use Rattle.table.specs.WellFormed.{distinct, awaitsFew, doneAt, settled, namesRight, keptRight, wellFormed}
 use Rattle.table.specs.Right.{allFrom}
@@ -20,7 +18,7 @@ use Rattle.values.specs.Packing.{unpackOf}
 use Rattle.values.specs.PackingLaws.{unpack-number}
 use Rattle.table.specs.Links.{kindAt}
 use Rattle.evaluator.specs.Frames.{startAt}
-use Rattle.interface.specs.Calls.{Part, windowIn, pickPart, partOf}
+use Rattle.interface.specs.Calls.{Part, windowIn, partOf}
 
 -- an entry that is not worked out has the cell 0, which is no window's
 module _ (m : Memory) (n : ℕ) where
@@ -40,7 +38,7 @@ module _ (m : Memory) (n : ℕ) where
       (λ v. impossible (sym e ∙ rw (h, le-leb 4 (kindAt (m .links) n) (ltb-false (kindAt (m .links) n) 4 t), v)))
       (λ v. let z = leb-false 1 (getD (m .cells) (4 * n + 1) 0) v in rw t (rw (unpack-number (getD (m .cells) (4 * n + 1) 0) (omega arith)))))
 
-  pub part-held : partOf m n ≡ pickPart (fits m && (wellFormed m && ltb n (entryCount m))) shownPart noPart
+  pub part-held : partOf m n ≡ cond (fits m && (wellFormed m && ltb n (entryCount m))) shownPart noPart
   unfolding partOf
   part-held =
       split (doneAt (entriesOf m) n)
@@ -48,9 +46,9 @@ module _ (m : Memory) (n : ℕ) where
       (λ d. split (ltb n (entryCount m)) (λ h. rw (d, h) (both-empty (fits m) (wellFormed m) (unworked d h))) (λ h. rw (d, h)))
     where
       done-held : doneAt (entriesOf m) n ≡ true → ltb n (entryCount m) ≡ true
-      done-held d = and-left _ _ (done-is (m .links) (m .cells) (entryCount m) n (kindAt (m .links) n) (getD (m .cells) (4 * n + 1) 0) refl refl ∙ d)
+      done-held d = and-eq-true-iff _ _ .0 (done-is (m .links) (m .cells) (entryCount m) n (kindAt (m .links) n) (getD (m .cells) (4 * n + 1) 0) refl refl ∙ d) .0
 
-      both-empty : (a b : Bool) → shownPart ≡ noPart → pickPart (a && (b && false)) shownPart noPart ≡ pickPart (a && (b && true)) shownPart noPart
+      both-empty : (a b : Bool) → shownPart ≡ noPart → cond (a && (b && false)) shownPart noPart ≡ cond (a && (b && true)) shownPart noPart
       both-empty true true e = sym e
       both-empty true false e = refl
       both-empty false b e = refl
@@ -59,14 +57,15 @@ pub kept-right : (links cells : List ℕ) (k count n : ℕ) → entriesRight lin
 unfolding entriesRight keptOk
 kept-right links cells k count n e h =
     let here : 0 + n ≡ n = omega arith in
-    let all : allFrom (keptOk links cells count k) count 0 ≡ true = and-right (awaitsFew _) _ (and-right (distinct _) _ (and-right (allFrom _ _ _) _ e)) in
+    let behind = and-eq-true-iff (distinct _) _ .0 (and-eq-true-iff (allFrom _ _ _) _ .0 e .1) .1 in
+    let all : allFrom (keptOk links cells count k) count 0 ≡ true = and-eq-true-iff (awaitsFew _) _ .0 behind .1 in
     let right : keptOk links cells count k n ≡ true = rw here at (all-at (keptOk links cells count k) count n 0 all h) in
-    and-right (settled (entriesFrom links cells 0 count) (entryAt links cells n)) _ right
+    and-eq-true-iff (settled (entriesFrom links cells 0 count) (entryAt links cells n)) _ .0 right .1
 
 -- what a well-formed cache has beside the kept values
 pub kept-names : (m : Memory) (n : ℕ) → wellFormed m ≡ true → n < entryCount m → namesRight (keptAt (m .cells) n) ≡ true
 unfolding keptRight
 kept-names m n w h =
     let e = sym (well-is (m .readings) (m .heads) (m .links) (m .cells)) ∙ w in
-    and-left _ _ (kept-right (m .links) (m .cells) (readingCount m) (entryCount m) n (and-right (leb (readingCount m) 1024) _ (and-right (leb (entryCount m) 512) _ e)) h)
-
+    let entries = and-eq-true-iff (leb (readingCount m) 1024) _ .0 (and-eq-true-iff (leb (entryCount m) 512) _ .0 e .1) .1 in
+    and-eq-true-iff _ _ .0 (kept-right (m .links) (m .cells) (readingCount m) (entryCount m) n entries h) .0

@@ -67,7 +67,8 @@ caches =
     ∷ []
 
 pub caches-judged : map wellFormed caches ≡ true ∷ true ∷ true ∷ true ∷ replicate 13 false
-unfolding wellFormed every nodeAt keptAt entriesFrom memberOfKind memberAt arity kids sameNode wordNumber isName keyRight arityRight hasNode distinct awaitedBy awaitedAfter doneAt allDone namesRight keptRight isPacked row bytes packOnto letWord inWord! dataWord hasName joined without
+unfolding wellFormed every nodeAt keptAt entriesFrom memberOfKind memberAt arity kids sameNode wordNumber isName keyRight arityRight hasNode distinct
+    awaitedBy awaitedAfter doneAt allDone namesRight keptRight isPacked row bytes packOnto letWord inWord! dataWord hasName joined without
 caches-judged = refl
 
 -- the same cache, lent without its links
@@ -80,5 +81,7 @@ pub refusals-ordered :
     editAnswer itself (replicate 127 0) (replicate 1025 32) ∷ editAnswer itself (replicate 127 0) [] ∷ editAnswer cut (replicate 128 0) []
     ∷ editAnswer itself (replicate 128 0) [] ∷ previewAnswer cut 9 1 ∷ previewAnswer itself 9 1 ∷ []
     ≡ refused 1 0 ∷ refused 3 0 ∷ refused 3 0 ∷ refused 4 0 ∷ refused 3 0 ∷ refused 4 0 ∷ []
-unfolding editAnswer previewed fits wellFormed every nodeAt keptAt entriesFrom memberOfKind memberAt arity kids sameNode wordNumber isName keyRight arityRight hasNode distinct awaitedBy awaitedAfter doneAt allDone namesRight keptRight isPacked row bytes packOnto letWord inWord! dataWord hasName joined without
+unfolding editAnswer previewed fits wellFormed every nodeAt keptAt entriesFrom memberOfKind memberAt arity kids sameNode wordNumber isName keyRight
+    arityRight hasNode distinct awaitedBy awaitedAfter doneAt allDone namesRight keptRight isPacked row bytes packOnto letWord inWord! dataWord
+    hasName joined without
 refusals-ordered = refl

@@ -2,7 +2,7 @@
 -- A name means the innermost let or lambda around it that binds it; one that nothing binds is marked unbound. A let's name stands for
 -- the form of its value. That this is capture-avoiding substitution, where no lambda takes the name of one around it (refusal 11), is
 -- `lets-substituted` in SubstitutionLaws. Assumes nothing: these are definitions.
-use mathlib.Core.Bool.{Bool, true, false}
+use mathlib.Core.Bool.{cond}
 use mathlib.Core.List.{List, [], _∷_}
 use Prim.Native.Nat.{ℕ}
 use Rattle.language.specs.Names.{packed, sameName, isData}
@@ -22,17 +22,13 @@ pub record Meaning : Type 0 where
 abbrev pub means : List ℕ → Form → Meaning
 means x f = record { name = x; form = f }
 
-abbrev pub pickForm : Bool → Form → Form → Form
-pickForm true f g = f
-pickForm false f g = g
-
 unfoldable pub lookUp : List ℕ → List Meaning → Form
 lookUp x [] = unbound (packed x)
-lookUp x (e ∷ Γ) = pickForm (sameName x (e .name)) (e .form) (lookUp x Γ)
+lookUp x (e ∷ Γ) = cond (sameName x (e .name)) (e .form) (lookUp x Γ)
 
 -- a name in use
 unfoldable pub named : List ℕ → List Meaning → Form
-named x Γ = pickForm (isData x) readings (lookUp x Γ)
+named x Γ = cond (isData x) readings (lookUp x Γ)
 
 abbrev pub asLambda : List ℕ → List Meaning → List Meaning
 asLambda x Γ = means x (variable (packed x)) ∷ Γ

@@ -32,13 +32,9 @@ pub data Environment : Type 0 where
   nowhere : Environment
   bind : ℕ → Value → Environment → Environment
 
-abbrev pub pickValue : Bool → Value → Value → Value
-pickValue true v w = v
-pickValue false v w = w
-
 unfoldable pub lookup : Environment → ℕ → Value
 lookup nowhere y = Delayed
-lookup (bind x v ρ) y = pickValue (eqb x y) v (lookup ρ y)
+lookup (bind x v ρ) y = cond (eqb x y) v (lookup ρ y)
 
 -- no variable is awaited: each free one stands for a number
 unfoldable pub settled : Environment → Form → Bool

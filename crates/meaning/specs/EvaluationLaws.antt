@@ -1,32 +1,28 @@
 -- A run of a function puts the number for the variable in the body: evaluating the body where the variable stands for the number is
 -- evaluating the body with the number put for the variable (01, "Members"). Assumes nothing.
 use mathlib.Core.Path.{_≡_, refl, sym, ap, _∙_}
-use mathlib.Core.Bool.{Bool, true, false, not}
+use mathlib.Core.Bool.{Bool, true, false, not, cond}
 use mathlib.Core.List.{List}
 use Prim.Native.Nat.{ℕ}
 use borrow.Author.Tests.{eqb-true, eqb-false}
 use lib.Dec.{eqb}
 use lib.IntN.{ℤ, pos}
+pub use Rattle.language.specs.Cases.{split}
 use Rattle.values.specs.declared.Value.{Value}
 use Rattle.values.specs.declared.Value.the-variants.{Number, Delayed}
 use Rattle.values.specs.Apply.{isDelayed}
 use Rattle.meaning.specs.Forms.{Form, number, variable, unbound, readings, ask, call, function}
-use Rattle.meaning.specs.Evaluation.{Result, plain, valueOf, Environment, bind, pickValue, lookup, settled, functionOf, evaluate, putFor}
-
--- by a test, with its value
-pub split : {A : Type 0} (b : Bool) → (b ≡ true → A) → (b ≡ false → A) → A
-split true t f = t refl
-split false t f = f refl
+use Rattle.meaning.specs.Evaluation.{Result, plain, valueOf, Environment, bind, lookup, settled, functionOf, evaluate, putFor}
 
 -- two environments in which every variable stands for the same
-abbrev pub Alike : Environment → Environment → Type 0
+abbrev Alike : Environment → Environment → Type 0
 Alike ρ σ = (y : ℕ) → lookup ρ y ≡ lookup σ y
 
 alike-bind : (x : ℕ) (v : Value) (ρ σ : Environment) → Alike ρ σ → Alike (bind x v ρ) (bind x v σ)
 unfolding lookup
-alike-bind x v ρ σ h y = ap (pickValue (eqb x y) v) (h y)
+alike-bind x v ρ σ h y = ap (cond (eqb x y) v) (h y)
 
-pub settled-alike : (ρ σ : Environment) (f : Form) → Alike ρ σ → settled ρ f ≡ settled σ f
+settled-alike : (ρ σ : Environment) (f : Form) → Alike ρ σ → settled ρ f ≡ settled σ f
 unfolding settled
 settled-alike ρ σ (number z) h = refl
 settled-alike ρ σ (variable x) h = ap (λ v. not (isDelayed v)) (h x)
@@ -40,7 +36,7 @@ settled-alike ρ σ (function x b) h = settled-alike (bind x (Number (pos 0)) ρ
 function-alike : (v w : Value) (s t : Bool) (g h : ℤ → Result) → v ≡ w → s ≡ t → ((z : ℤ) → g z ≡ h z) → functionOf v s g ≡ functionOf w t h
 function-alike v w s t g h p q r = λ i. functionOf (p i) (q i) (λ z. r z i)
 
-pub evaluate-alike : (xs : List ℤ) (ρ σ : Environment) (f : Form) → Alike ρ σ → evaluate xs ρ f ≡ evaluate xs σ f
+evaluate-alike : (xs : List ℤ) (ρ σ : Environment) (f : Form) → Alike ρ σ → evaluate xs ρ f ≡ evaluate xs σ f
 unfolding evaluate
 evaluate-alike xs ρ σ (number z) h = refl
 evaluate-alike xs ρ σ (variable x) h = ap plain (h x)
@@ -59,7 +55,7 @@ alike-again : (x y : ℕ) (v w : Value) (ρ : Environment) → x ≡ y → Alike
 unfolding lookup
 alike-again x y v w ρ e k = rw e (by (eqb y k))
   where
-    by : (b : Bool) → pickValue b w (pickValue b v (lookup ρ k)) ≡ pickValue b w (lookup ρ k)
+    by : (b : Bool) → cond b w (cond b v (lookup ρ k)) ≡ cond b w (lookup ρ k)
     by true = refl
     by false = refl
 
@@ -67,7 +63,7 @@ alike-swap : (x y : ℕ) (v w : Value) (ρ : Environment) → eqb x y ≡ false 
 unfolding lookup
 alike-swap x y v w ρ e k = by (eqb y k) (eqb x k) refl refl
   where
-    by : (b c : Bool) → eqb y k ≡ b → eqb x k ≡ c → pickValue b w (pickValue c v (lookup ρ k)) ≡ pickValue c v (pickValue b w (lookup ρ k))
+    by : (b c : Bool) → eqb y k ≡ b → eqb x k ≡ c → cond b w (cond c v (lookup ρ k)) ≡ cond c v (cond b w (lookup ρ k))
     by true true p q = absurd (eqb-false x y e (eqb-true x k q ∙ sym (eqb-true y k p)))
     by true false p q = refl
     by false true p q = refl

@@ -1,12 +1,12 @@
 -- The test `same` is equality of forms, and what lies within a form is the form itself or lies within a dependency. Assumes nothing.
 use mathlib.Core.Path.{_≡_, refl, sym, ap, _∙_}
 use mathlib.Core.Logic.{_⊎_, inl, inr}
-use mathlib.Core.Bool.{Bool, true, false, _&&_, _||_}
+use mathlib.Core.Bool.{Bool, true, _&&_, _||_, and-eq-true-iff}
 use Prim.Native.Nat.{ℕ, zero, suc}
-use native.Mathlib.Omega.{arith}
 use borrow.Author.Tests.{eqb-true, eq-eqb}
-use lib.Dec.{eqb}
 use lib.IntN.{ℤ, pos, negsuc}
+use Rattle.language.specs.Cases.{impossible}
+pub use Rattle.language.specs.Cases.{impossible as no-way, either, or-right}
 use Rattle.language.specs.Members.{memberNumber, members, foundIn}
 use Rattle.language.specs.declared.members.Found.the-variants.{Is}
 use Rattle.language.specs.declared.members.Member.{Member}
@@ -14,35 +14,18 @@ use Rattle.language.specs.declared.members.Member.the-variants.{Add, Sub, Mul, 
 use Rattle.values.specs.Values.{sameℤ}
 use Rattle.meaning.specs.Forms.{Form, number, variable, unbound, readings, ask, call, function, sameMember, shapeOf, integerOf, nameOf, memberOf, firstOf, secondOf, same, dependency, within}
 
--- tests on Bool
-pub no-way : {A : Type 0} → false ≡ true → A
-no-way e = absurd (never (cc))
-  where
-    never : _≡_ {A = ℕ} 0 1 → ⊥
-    never z = omega arith
-
+-- the two halves of a true `&&`
 pub and-left : (a b : Bool) → (a && b) ≡ true → a ≡ true
-and-left true b h = refl
-and-left false b h = h
+and-left a b h = and-eq-true-iff a b .0 h .0
 
 pub and-right : (a b : Bool) → (a && b) ≡ true → b ≡ true
-and-right true b h = h
-and-right false b h = no-way h
-
--- by whichever holds
-pub either : {A : Type 0} (a b : Bool) → (a || b) ≡ true → (a ≡ true → A) → (b ≡ true → A) → A
-either true b h f g = f refl
-either false b h f g = g h
-
-pub or-right : (a b : Bool) → b ≡ true → (a || b) ≡ true
-or-right true b h = refl
-or-right false b h = h
+and-right a b h = and-eq-true-iff a b .0 h .1
 
 -- pieces
 sameℤ-eq : (a b : ℤ) → sameℤ a b ≡ true → a ≡ b
 sameℤ-eq (pos m) (pos n) h = ap pos (eqb-true m n h)
-sameℤ-eq (pos m) (negsuc n) h = no-way h
-sameℤ-eq (negsuc m) (pos n) h = no-way h
+sameℤ-eq (pos m) (negsuc n) h = impossible h
+sameℤ-eq (negsuc m) (pos n) h = impossible h
 sameℤ-eq (negsuc m) (negsuc n) h = ap negsuc (eqb-true m n h)
 
 sameℤ-self : (a : ℤ) → sameℤ a a ≡ true
@@ -67,7 +50,7 @@ found CountWhere = refl
 found LongestRun = refl
 found SumBy = refl
 
-pub sameMember-eq : (m n : Member) → sameMember m n ≡ true → m ≡ n
+sameMember-eq : (m n : Member) → sameMember m n ≡ true → m ≡ n
 sameMember-eq m n h =
     let e : Is m ≡ Is n = sym (found m) ∙ ap (foundIn members) (eqb-true (memberNumber m) (memberNumber n) h) ∙ found n in
     cc
@@ -95,39 +78,45 @@ remade (function x b) = refl
 pub same-eq : (f g : Form) → same f g ≡ true → f ≡ g
 unfolding same remake
 same-eq (number z) g h =
-    let s = eqb-true 0 (shapeOf g) (and-left _ _ h) in
-    let i = sameℤ-eq z (integerOf g) (and-right (eqb 0 (shapeOf g)) _ h) in
+    let p = and-eq-true-iff _ _ .0 h in
+    let s = eqb-true 0 (shapeOf g) (p .0) in
+    let i = sameℤ-eq z (integerOf g) (p .1) in
     rw (← s, ← i) at (remade g)
 same-eq (variable x) g h =
-    let s = eqb-true 1 (shapeOf g) (and-left _ _ h) in
-    let i = eqb-true x (nameOf g) (and-right (eqb 1 (shapeOf g)) _ h) in
+    let p = and-eq-true-iff _ _ .0 h in
+    let s = eqb-true 1 (shapeOf g) (p .0) in
+    let i = eqb-true x (nameOf g) (p .1) in
     rw (← s, ← i) at (remade g)
 same-eq (unbound x) g h =
-    let s = eqb-true 2 (shapeOf g) (and-left _ _ h) in
-    let i = eqb-true x (nameOf g) (and-right (eqb 2 (shapeOf g)) _ h) in
+    let p = and-eq-true-iff _ _ .0 h in
+    let s = eqb-true 2 (shapeOf g) (p .0) in
+    let i = eqb-true x (nameOf g) (p .1) in
     rw (← s, ← i) at (remade g)
 same-eq readings g h =
     let s = eqb-true 3 (shapeOf g) h in
     rw (← s) at (remade g)
 same-eq (ask m f) g h =
-    let s = eqb-true 4 (shapeOf g) (and-left _ _ h) in
-    let r = and-right (eqb 4 (shapeOf g)) _ h in
-    let i = sameMember-eq m (memberOf g) (and-left _ _ r) in
-    let j = same-eq f (firstOf g) (and-right (sameMember m (memberOf g)) _ r) in
+    let p = and-eq-true-iff _ _ .0 h in
+    let q = and-eq-true-iff _ _ .0 (p .1) in
+    let s = eqb-true 4 (shapeOf g) (p .0) in
+    let i = sameMember-eq m (memberOf g) (q .0) in
+    let j = same-eq f (firstOf g) (q .1) in
     rw (← s, ← i, ← j) at (remade g)
 same-eq (call m f a) g h =
-    let s = eqb-true 5 (shapeOf g) (and-left _ _ h) in
-    let r = and-right (eqb 5 (shapeOf g)) _ h in
-    let i = sameMember-eq m (memberOf g) (and-left _ _ r) in
-    let q = and-right (sameMember m (memberOf g)) _ r in
-    let j = same-eq f (firstOf g) (and-left _ _ q) in
-    let k = same-eq a (secondOf g) (and-right (same f (firstOf g)) _ q) in
+    let p = and-eq-true-iff _ _ .0 h in
+    let q = and-eq-true-iff _ _ .0 (p .1) in
+    let r = and-eq-true-iff _ _ .0 (q .1) in
+    let s = eqb-true 5 (shapeOf g) (p .0) in
+    let i = sameMember-eq m (memberOf g) (q .0) in
+    let j = same-eq f (firstOf g) (r .0) in
+    let k = same-eq a (secondOf g) (r .1) in
     rw (← s, ← i, ← j, ← k) at (remade g)
 same-eq (function x b) g h =
-    let s = eqb-true 6 (shapeOf g) (and-left _ _ h) in
-    let r = and-right (eqb 6 (shapeOf g)) _ h in
-    let i = eqb-true x (nameOf g) (and-left _ _ r) in
-    let j = same-eq b (firstOf g) (and-right (eqb x (nameOf g)) _ r) in
+    let p = and-eq-true-iff _ _ .0 h in
+    let q = and-eq-true-iff _ _ .0 (p .1) in
+    let s = eqb-true 6 (shapeOf g) (p .0) in
+    let i = eqb-true x (nameOf g) (q .0) in
+    let j = same-eq b (firstOf g) (q .1) in
     rw (← s, ← i, ← j) at (remade g)
 
 pub same-self : (f : Form) → same f f ≡ true
@@ -154,10 +143,10 @@ within-self (function x b) = rw (same-self (function x b))
 -- a dependency of what lies within g lies within g
 pub dependency-within : (d f : Form) → dependency d f ≡ true → within d f ≡ true
 unfolding dependency within
-dependency-within d (number z) h = no-way h
-dependency-within d (variable x) h = no-way h
-dependency-within d (unbound x) h = no-way h
-dependency-within d readings h = no-way h
+dependency-within d (number z) h = impossible h
+dependency-within d (variable x) h = impossible h
+dependency-within d (unbound x) h = impossible h
+dependency-within d readings h = impossible h
 dependency-within d (ask m f) h = or-right (same d (ask m f)) _ (rw (same-eq d f h) (within-self f))
 dependency-within d (call m f a) h =
     or-right (same d (call m f a)) _

@@ -4,7 +4,7 @@
 -- let's name, as looking a name up takes the innermost. That let elimination does this is in SubstitutionLaws.
 -- Assumes nothing: these are definitions.
 use mathlib.Core.Path.{_≡_}
-use mathlib.Core.Bool.{false}
+use mathlib.Core.Bool.{false, cond}
 use mathlib.Core.List.{List, [], _∷_}
 use Prim.Native.Nat.{ℕ}
 use lib.Dec.{eqb}
@@ -14,7 +14,7 @@ use Rattle.grammar.specs.Grammar.{Expression, Calls, Arguments, More, letIn, la
 use Rattle.grammar.specs.Faults.{Around}
 use Rattle.grammar.specs.KeptLimits.{Site, aLet, aLambda, aBracket, aName, aNumber, aCall}
 use Rattle.meaning.specs.Forms.{Form, number, variable, unbound, readings, ask, function}
-use Rattle.meaning.specs.Binding.{Meaning, means, pickForm, asLambda, formE}
+use Rattle.meaning.specs.Binding.{Meaning, means, asLambda, formE}
 use Rattle.meaning.specs.Evaluation.{hasName, awaited}
 
 abbrev pub hole : Form
@@ -24,7 +24,7 @@ hole = unbound 0
 unfoldable pub fill : Form → Form → Form
 fill f (number z) = number z
 fill f (variable x) = variable x
-fill f (unbound x) = pickForm (eqb x 0) f (unbound x)
+fill f (unbound x) = cond (eqb x 0) f (unbound x)
 fill f readings = readings
 fill f (ask m g) = ask m (fill f g)
 fill f (Form.call m g a) = Form.call m (fill f g) (fill f a)

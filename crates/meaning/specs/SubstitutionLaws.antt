@@ -2,7 +2,8 @@
 -- as refusal 11 demands, and in which no name in use packs to 0, so that the hole is none of its unbound names. No word packs to 0.
 -- Assumes nothing.
 use mathlib.Core.Path.{_≡_, refl, sym, ap, _∙_}
-use mathlib.Core.Bool.{Bool, true, false, _||_}
+use mathlib.Core.Bool.{Bool, true, false, cond}
+use mathlib.Mathlib.Data.Bool.Basic.{or-eq-false-eq-eq-false-and-eq-false as neither}
 use mathlib.Core.List.{List, [], _∷_, _++_}
 use Prim.Native.Nat.{ℕ}
 use native.Mathlib.Omega.{arith}
@@ -10,14 +11,13 @@ use borrow.Author.Tests.{eqb-false, ne-eqb}
 use lib.Dec.{eqb}
 use Rattle.language.specs.Names.{packOnto, packed, sameName, isData}
 use Rattle.language.specs.NamesLaws.{Each, NameByte, packed-injective}
+use Rattle.language.specs.Cases.{split, by-cond}
 use Rattle.grammar.specs.Grammar.{Expression, Calls, Arguments, More, letIn, lambda, name, literal, bracket, done, call, none, first, last, next}
 use Rattle.grammar.specs.Faults.{Around, outermost, opened, inLet, inLambda}
 use Rattle.grammar.specs.KeptLimits.{EverywhereE, EverywhereC, EverywhereA, EverywhereM, NoLambdaNamed, NewLambdas, KeepsLimits}
 use Rattle.meaning.specs.Forms.{Form, number, variable, unbound, readings, ask, function}
-use Rattle.meaning.specs.FormsLaws.{no-way}
-use Rattle.meaning.specs.Binding.{Meaning, means, pickForm, lookUp, named, asLambda, member, formE, formC, formA, formM}
+use Rattle.meaning.specs.Binding.{Meaning, means, lookUp, named, asLambda, member, formE, formC, formA, formM}
 use Rattle.meaning.specs.Evaluation.{hasName, joined, without, awaited}
-use Rattle.meaning.specs.EvaluationLaws.{split}
 use Rattle.meaning.specs.Substitution.{hole, fill, NotFree, Avoids, EveryLetE, EveryLetC, EveryLetA, EveryLetM, NonzeroNames}
 
 -- no word packs to 0
@@ -32,27 +32,23 @@ abbrev Forms : (Form → Type 0) → List Meaning → Type 0
 Forms P [] = Unit {0}
 Forms P (e ∷ Γ) = P (e .form) × Forms P Γ
 
-picked : (P : Form → Type 0) (t : Bool) (f g : Form) → P f → P g → P (pickForm t f g)
-picked P true f g p q = p
-picked P false f g p q = q
-
 looked-up : (P : Form → Type 0) (x : List ℕ) (Γ : List Meaning) → P (unbound (packed x)) → Forms P Γ → P (lookUp x Γ)
 unfolding lookUp
 looked-up P x [] u h = u
-looked-up P x (e ∷ Γ) u h = picked P (sameName x (e .name)) (e .form) (lookUp x Γ) (h .0) (looked-up P x Γ u (h .1))
+looked-up P x (e ∷ Γ) u h = by-cond P (sameName x (e .name)) (e .form) (lookUp x Γ) (λ _. h .0) (λ _. looked-up P x Γ u (h .1))
 
 of-name : (P : Form → Type 0) (x : List ℕ) (Γ : List Meaning) → P readings → P (unbound (packed x)) → Forms P Γ → P (named x Γ)
 unfolding named
-of-name P x Γ r u h = picked P (isData x) readings (lookUp x Γ) r (looked-up P x Γ u h)
+of-name P x Γ r u h = by-cond P (isData x) readings (lookUp x Γ) (λ _. r) (λ _. looked-up P x Γ u h)
 
 -- ---- filling the form of a tree is filling the forms of its environment
 
 module _ (f : Form) where
-  unfoldable pub fillAll : List Meaning → List Meaning
+  unfoldable fillAll : List Meaning → List Meaning
   fillAll [] = []
   fillAll (e ∷ Γ) = means (e .name) (fill f (e .form)) ∷ fillAll Γ
 
-  fill-pick : (t : Bool) (g h : Form) → fill f (pickForm t g h) ≡ pickForm t (fill f g) (fill f h)
+  fill-pick : (t : Bool) (g h : Form) → fill f (cond t g h) ≡ cond t (fill f g) (fill f h)
   fill-pick true g h = refl
   fill-pick false g h = refl
 
@@ -68,7 +64,7 @@ module _ (f : Form) where
   mutual
     unfolding fill fillAll formE
 
-    pub fill-E : (e : Expression) (Γ : List Meaning) (d : Around) → EverywhereE NonzeroNames e d → fill f (formE e Γ) ≡ formE e (fillAll Γ)
+    fill-E : (e : Expression) (Γ : List Meaning) (d : Around) → EverywhereE NonzeroNames e d → fill f (formE e Γ) ≡ formE e (fillAll Γ)
     fill-E (letIn x a b) Γ d n = fill-E b (means x (formE a Γ) ∷ Γ) (inLet x d) (n .2) ∙ rw (fill-E a Γ (opened d) (n .1))
     fill-E (lambda x b) Γ d n = ap (function (packed x)) (fill-E b (asLambda x Γ) (inLambda x d) (n .1))
     fill-E (name x r) Γ d n = fill-C r (named x Γ) Γ d (n .1) ∙ rw (fill-named x Γ (n .0))
@@ -105,7 +101,7 @@ module _ (Γ : List Meaning) (w : Forms Whole Γ) where
   whole-E : (e : Expression) (d : Around) → EverywhereE NonzeroNames e d → Whole (formE e Γ)
   whole-E e d n f = fill-E f e Γ d n ∙ ap (formE e) (fill-whole f Γ w)
 
-  pub let-filled : (x : List ℕ) (a b : Expression) (d : Around) → EverywhereE NonzeroNames b d
+  let-filled : (x : List ℕ) (a b : Expression) (d : Around) → EverywhereE NonzeroNames b d
       → formE (letIn x a b) Γ ≡ fill (formE a Γ) (formE b (means x hole ∷ Γ))
   unfolding fill fillAll formE
   let-filled x a b d n =
@@ -114,20 +110,16 @@ module _ (Γ : List Meaning) (w : Forms Whole Γ) where
 
 -- ---- a name that is free in the form of a tree is free in a form of its environment
 
-or-false : (a b : Bool) → (a || b) ≡ false → (a ≡ false) × (b ≡ false)
-or-false true b h = no-way (sym h)
-or-false false b h = (refl, h)
-
 not-append : (y : ℕ) (xs ys : List ℕ) → hasName y xs ≡ false → hasName y ys ≡ false → hasName y (xs ++ ys) ≡ false
 unfolding hasName
 not-append y [] ys p q = q
-not-append y (x ∷ xs) ys p q = let r = or-false (eqb y x) (hasName y xs) p in rw (r .0, not-append y xs ys (r .1) q)
+not-append y (x ∷ xs) ys p q = let r = neither (eqb y x) (hasName y xs) .0 p in rw (r .0, not-append y xs ys (r .1) q)
 
 not-joined : (y : ℕ) (xs ys : List ℕ) → hasName y xs ≡ false → hasName y ys ≡ false → hasName y (joined xs ys) ≡ false
 unfolding joined hasName
 not-joined y xs [] p q = p
 not-joined y xs (x ∷ ys) p q =
-    let r = or-false (eqb y x) (hasName y ys) q in
+    let r = neither (eqb y x) (hasName y ys) .0 q in
     split (hasName x xs)
     (λ e. rw e (not-joined y xs ys p (r .1)))
     (λ e. rw e (not-joined y (xs ++ (x ∷ [])) ys (not-append y xs (x ∷ []) p (rw (r .0))) (r .1)))
@@ -136,7 +128,7 @@ not-without : (y x : ℕ) (ys : List ℕ) → (¬ (y ≡ x) → hasName y ys ≡
 unfolding without hasName
 not-without y x [] h = refl
 not-without y x (z ∷ ys) h =
-    let both : ¬ (y ≡ x) → (eqb y z ≡ false) × (hasName y ys ≡ false) = λ n. or-false (eqb y z) (hasName y ys) (h n) in
+    let both : ¬ (y ≡ x) → (eqb y z ≡ false) × (hasName y ys ≡ false) = λ n. neither (eqb y z) (hasName y ys) .0 (h n) in
     let more = not-without y x ys (λ n. both n .1) in
     split (eqb x z)
     (λ e. rw e more)

@@ -6,8 +6,8 @@ use Prim.Native.Nat.{ℕ, zero, suc, _≤_}
 use borrow.Author.Tests.{ltb-true, ltb-false}
 use lib.Dec.{ltb}
 use lib.ListN.{length}
+use Rattle.language.specs.Cases.{impossible, split}
 use Rattle.model.specs.Limits.{readingsMost}
-use Rattle.model.specs.Cases.{impossible, split}
 use Rattle.model.specs.Language.{Language}
 use Rattle.model.specs.Model.{Request, Open, Edit, Preview, Answer, opened, placesAfter, start, onOpen, onRequest, respond, answer, next}
 use Rattle.model.specs.Since.{isOpening, SoundRequest, Sendable}

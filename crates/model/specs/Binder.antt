@@ -8,9 +8,10 @@ use mathlib.Core.Option.{some}
 use Prim.Native.Nat.{ℕ, suc, _<_}
 use native.Mathlib.Omega.{arith}
 use lib.ListN.{length, getD, getElem?, List·getD-append}
+use lib.Seq.{getD-at}
 use Rattle.model.specs.Lists.{member, index, insert, insertAll, Distinct}
 use Rattle.model.specs.Language.{Language}
-use Rattle.model.specs.ListLaws.{nth-below, nth-has, old-or-last, getD-nth, getD-last, length-snoc, member-nth, nth-index, index-nth, insert-has, insert-old, nth-insert, distinct-insert}
+use Rattle.model.specs.ListLaws.{nth-below, nth-has, old-or-last, getD-nth, length-snoc, member-nth, nth-index, index-nth, insert-has, insert-old, nth-insert, distinct-insert}
 use Rattle.model.specs.Laws.{Tests}
 use Rattle.model.specs.Graph.{among, Graph, GraphLaws, formAt, Placed, Stands, bind-stands, bind-number}
 
@@ -96,7 +97,7 @@ module _ (L : Language) (G : Graph L) where
               let z = ft .size in rw (List·getD-append (b .numbers) (v ∷ []) 0 k (omega arith)) (nth-insert (T .equality) f fs (numberAt b k) g (ft .numbered k g h))
 
           last : (k : ℕ) (g : Form) → k ≡ length rf → f ≡ g → getElem? (insert (L .same) f fs) (getD (b .numbers ++ (v ∷ [])) k 0) ≡ some g
-          last k g q p = rw (getD-last (b .numbers) v k 0 (q ∙ sym (ft .size))) (e ∙ ap some p)
+          last k g q p = rw (getD-at (b .numbers) v [] 0 k (ft .size ∙ sym q)) (e ∙ ap some p)
 
       fits-one : (b : Bound) (rf fs : List Form) (x : Record Node) → Fits b rf fs → Earlier (length rf) x
           → Fits (bindOne b x) (rf ++ (recordForm rf x ∷ [])) (insert (L .same) (recordForm rf x) fs)

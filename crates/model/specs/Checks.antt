@@ -6,7 +6,7 @@ use mathlib.Core.Option.{some}
 use Prim.Native.Nat.{ℕ, zero, suc}
 use native.Mathlib.Omega.{arith}
 use lib.ListN.{getElem?}
-use Rattle.model.specs.Cases.{impossible, split}
+use Rattle.language.specs.Cases.{impossible, split}
 use Rattle.model.specs.Language.{Language}
 use Rattle.model.specs.ListLaws.{nth-below, nth-has, nth-map, all-nth, index-nth}
 use Rattle.model.specs.Model.{Entry, State, forms, marked}

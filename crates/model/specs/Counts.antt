@@ -6,9 +6,9 @@ use mathlib.Core.List.{List, [], _∷_, _++_, map}
 use Prim.Native.Nat.{ℕ, zero, suc, _+_, _≤_}
 use native.Mathlib.Omega.{arith}
 use lib.ListN.{length, length-append}
+use Rattle.language.specs.Cases.{impossible, split}
 use Rattle.model.specs.Limits.{readingsMost}
 use Rattle.model.specs.Lists.{countIf, firsts, onFirsts, occurrences}
-use Rattle.model.specs.Cases.{impossible, split}
 use Rattle.model.specs.ListLaws.{count-append}
 use Rattle.model.specs.Language.{Language}
 use Rattle.model.specs.Model.{Entry, State, marked, start, Call, unmarked, holdAll, pending, workOut, answer, next}
@@ -57,7 +57,7 @@ module _ (L : Language) where
         ≡ cond (isOpening L (answer L s c)) 0 (marksOf L f (s .entries) + occurrences same f (newlyMarked L (s .entries) (next L s c .entries)))
     pub size : isOpening L (answer L s c) ≡ false → length (newlyMarked L (s .entries) (next L s c .entries)) ≡ workedIn L (answer L s c)
 
-  pub counted : (H : Laws L) (s : State L) (c : Call L) → Counted s c
+  counted : (H : Laws L) (s : State L) (c : Call L) → Counted s c
   unfolding countIf
   counted H s c = go (step L H s c)
     where

@@ -1,14 +1,15 @@
 -- What edits and previews do to the entries. Assumes nothing.
 use mathlib.Core.Path.{_≡_, refl, sym, ap, _∙_, subst}
-use mathlib.Core.Bool.{Bool, true, false, not, _&&_}
-use mathlib.Core.List.{List, [], _∷_, _++_, map, append-nil, append-assoc, append-cancel-left}
+use mathlib.Core.Bool.{Bool, true, false, not, _&&_, and-eq-true-iff}
+use mathlib.Core.List.{List, [], _∷_, _++_, map, append-nil, append-assoc, append-cancel-left, map-append}
 use Prim.Native.Nat.{ℕ, zero, suc, _+_, _-_, _≤_, _<_, min}
 use native.Mathlib.Omega.{arith}
 use borrow.Author.Tests.{not-true}
 use lib.ListN.{length, length-map}
+use Rattle.language.specs.Cases.{impossible, split}
 use Rattle.model.specs.Lists.{All, countIf, firsts, onFirsts, member, occurrences, insert, insertAll, Distinct}
-use Rattle.model.specs.Cases.{impossible, split, both}
-use Rattle.model.specs.ListLaws.{length-snoc, map-append, all-append, all-always, all-map, unheld-front, count-append, count-none, count-every, count-map, firsts-length, on-map, on-length, on-all, on-count, on-count-less, on-count-more}
+use Rattle.model.specs.ListLaws.{length-snoc, all-append, all-always, all-map, unheld-front, count-append, count-none, count-every}
+use Rattle.model.specs.ListLaws.{count-map, firsts-length, on-map, on-length, on-all, on-count, on-count-less, on-count-more}
 use Rattle.model.specs.Language.{Language}
 use Rattle.model.specs.Model.{Entry, forms, marked, unmarked, hold, holdAll, pending, left, markWith, workOut}
 use Rattle.model.specs.Runs.{marks}
@@ -119,8 +120,8 @@ module _ (L : Language) where
   pub is-pending : (f : Form) (e : Entry L) → pending L f e ≡ true → Pending f e
   unfolding pending
   is-pending f e h =
-      let p = both (not (marked L e)) (works (e .form) && reach (e .form) f) h in
-      let q = both (works (e .form)) (reach (e .form) f) (p .1) in
+      let p = and-eq-true-iff (not (marked L e)) (works (e .form) && reach (e .form) f) .0 h in
+      let q = and-eq-true-iff (works (e .form)) (reach (e .form) f) .0 (p .1) in
       record { bare = not-true (marked L e) (p .0); works = q .0; below = q .1 }
 
   -- a marked entry is pending no longer, and keeps its form

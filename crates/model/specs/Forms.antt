@@ -3,8 +3,8 @@ use mathlib.Core.Path.{_≡_, sym, _∙_, subst}
 use mathlib.Core.Logic.{_⊎_, inl, inr, ⊎-elim}
 use mathlib.Core.Bool.{true}
 use mathlib.Core.List.{List, [], _∷_, _++_}
+use Rattle.language.specs.Cases.{impossible, split}
 use Rattle.model.specs.Lists.{member, insert, insertAll}
-use Rattle.model.specs.Cases.{impossible, split}
 use Rattle.model.specs.Language.{Language}
 use Rattle.model.specs.ListLaws.{member-self, member-tail, insert-by, insert-has, member-insert}
 use Rattle.model.specs.Laws.{Ordered, Among, Tests}

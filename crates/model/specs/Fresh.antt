@@ -8,9 +8,9 @@ use native.Mathlib.Omega.{arith}
 use borrow.Author.Tests.{eqb-false}
 use lib.Dec.{eqb}
 use lib.ListN.{length, getElem?}
+use Rattle.language.specs.Cases.{split}
 use Rattle.model.specs.Limits.{partsMost}
 use Rattle.model.specs.Lists.{member}
-use Rattle.model.specs.Cases.{split}
 use Rattle.model.specs.ListLaws.{nth-map, member-tail, member-nth, nth-index, insertAll-has}
 use Rattle.model.specs.Language.{Language}
 use Rattle.model.specs.Model.{State, forms, start, Edit, Preview, Call, finished, holdAll, numberOf, left, workOut, previewed, answer, next}

@@ -10,10 +10,10 @@ use Prim.Native.Nat.{ℕ, suc, _<_}
 use native.Mathlib.Omega.{arith}
 use lib.Dec.{eqb}
 use lib.ListN.{length, getD, getElem?, List·getD-append}
+use Rattle.language.specs.Cases.{impossible, split}
 use Rattle.model.specs.Lists.{member, index, insert, Distinct}
-use Rattle.model.specs.Cases.{impossible, split}
 use Rattle.model.specs.Language.{Language}
-use Rattle.model.specs.ListLaws.{nth-below, nth-has, nth-front, nth-last, old-or-last, getD-nth, length-snoc, Equality, member-nth, nth-index, index-nth, index-last}
+use Rattle.model.specs.ListLaws.{nth-below, nth-has, nth-front, nth-seam, old-or-last, getD-nth, length-snoc, Equality, member-nth, nth-index, index-nth, index-last}
 use Rattle.model.specs.Laws.{Tests}
 
 -- the number j is one of the links
@@ -92,7 +92,7 @@ module _ (L : Language) (G : Graph L) where
       build-front : (m : Node) → ((j : ℕ) → among j (links m) ≡ true → j < length fs) → build m (formAt fs) ≡ build m (formAt new)
       build-front m h = B .agree m (formAt fs) (formAt new) (λ j q. sym (List·getD-append fs (build n (formAt fs) ∷ []) (G .nowhere) j (h j q)))
 
-      pub stands-snoc : Stands (ns ++ (n ∷ [])) new
+      stands-snoc : Stands (ns ++ (n ∷ [])) new
       stands-snoc =
           record {
             size = length-snoc ns n ∙ ap suc (st .size) ∙ sym (length-snoc fs (build n (formAt fs)));
@@ -113,7 +113,7 @@ module _ (L : Language) (G : Graph L) where
           last-form i m q e =
               let z = st .size in
               let last : i ≡ length fs = omega arith in
-              ap (getElem? new) last ∙ nth-last fs (build n (formAt fs))
+              ap (getElem? new) last ∙ nth-seam fs (build n (formAt fs)) []
               ∙ ap some (build-front n (λ j h. let u = p .lower j h in omega arith))
               ∙ ap (λ (x : Node). some (build x (formAt new))) e
 
@@ -167,7 +167,7 @@ module _ (L : Language) (G : Graph L) where
           member-nth (B .equality) ns i n (m .1 ∙ ap some same-node)
 
       -- the node is in the table where its form is among the forms
-      pub same-held : member (G .same) n ns ≡ member (L .same) form fs
+      same-held : member (G .same) n ns ≡ member (L .same) form fs
       same-held =
           split (member (G .same) n ns)
           (λ q. rw q (sym (member-nth (T .equality) fs (index (G .same) n ns) form (found q))))

@@ -23,12 +23,9 @@ pub mod Fresh
 pub mod Engine
 pub mod Agreement
 pub mod Demand
-pub mod Reference
 -- From tables of entries to the model: for the engine's own proof that it implements it.
 pub mod Graph
 pub mod Binder
 pub mod Sweep
 pub mod Previews
 pub mod Checks
--- An instance.
-pub mod Sample

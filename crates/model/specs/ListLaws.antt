@@ -3,13 +3,14 @@ use mathlib.Core.Path.{_≡_, refl, sym, ap, _∙_, subst}
 use mathlib.Core.Logic.{_⊎_, inl, inr}
 use mathlib.Core.Bool.{Bool, true, false, not}
 use mathlib.Core.List.{List, [], _∷_, _++_, map, List·Memᴰ, List·Memᴰ·head, List·Memᴰ·tail}
+pub use mathlib.Core.List.{map-append}
 use mathlib.Core.Option.{some}
 use Prim.Native.Nat.{ℕ, zero, suc, _+_, _-_, _≤_, _<_, min}
 use native.Mathlib.Omega.{arith}
 use native.Mathlib.Decide.{decLt}
 use lib.ListN.{length, getD, getElem?, length-append}
+use Rattle.language.specs.Cases.{impossible, split}
 use Rattle.model.specs.Lists.{All, countIf, firsts, onFirsts, member, index, insert, insertAll, Distinct}
-use Rattle.model.specs.Cases.{impossible, split}
 
 -- Elements by number.
 module _ {A : Type 0} where
@@ -31,10 +32,6 @@ module _ {A : Type 0} where
   pub nth-old : (xs ys : List A) (n : ℕ) (x : A) → getElem? xs n ≡ some x → getElem? (xs ++ ys) n ≡ some x
   nth-old xs ys n x e = nth-front xs ys n (nth-below xs n x e) ∙ e
 
-  pub nth-last : (xs : List A) (x : A) → getElem? (xs ++ (x ∷ [])) (length xs) ≡ some x
-  nth-last [] x = refl
-  nth-last (y ∷ ys) x = nth-last ys x
-
   pub nth-seam : (xs : List A) (x : A) (ys : List A) → getElem? (xs ++ (x ∷ ys)) (length xs) ≡ some x
   nth-seam [] x ys = refl
   nth-seam (z ∷ zs) x ys = nth-seam zs x ys
@@ -48,7 +45,7 @@ module _ {A : Type 0} where
             let l = nth-below (xs ++ (x ∷ [])) i y e in
             let z = length-append xs (x ∷ []) in
             let q : i ≡ length xs = omega arith in
-            let w : some x ≡ some y = sym (nth-last xs x) ∙ subst (λ (k : ℕ). getElem? (xs ++ (x ∷ [])) k ≡ some y) q e in
+            let w : some x ≡ some y = sym (nth-seam xs x []) ∙ subst (λ (k : ℕ). getElem? (xs ++ (x ∷ [])) k ≡ some y) q e in
             inr (q, cc)
       ]
 
@@ -56,9 +53,6 @@ module _ {A : Type 0} where
   getD-nth [] n x d e = impossible (cc)
   getD-nth (y ∷ ys) zero x d e = cc
   getD-nth (y ∷ ys) (suc n) x d e = getD-nth ys n x d e
-
-  pub getD-last : (xs : List A) (x : A) (n : ℕ) (d : A) → n ≡ length xs → getD (xs ++ (x ∷ [])) n d ≡ x
-  getD-last xs x n d q = getD-nth (xs ++ (x ∷ [])) n x d (ap (getElem? (xs ++ (x ∷ []))) q ∙ nth-last xs x)
 
   pub length-snoc : (xs : List A) (x : A) → length (xs ++ (x ∷ [])) ≡ suc (length xs)
   length-snoc xs x = length-append xs (x ∷ []) ∙ omega arith
@@ -68,10 +62,6 @@ module _ {A B : Type 0} (g : A → B) where
   nth-map [] n x e = impossible (cc)
   nth-map (y ∷ ys) zero x e = let z : y ≡ x = cc in ap (λ (w : A). some (g w)) z
   nth-map (y ∷ ys) (suc n) x e = nth-map ys n x e
-
-  pub map-append : (xs ys : List A) → map g (xs ++ ys) ≡ map g xs ++ map g ys
-  map-append [] ys = refl
-  map-append (x ∷ xs) ys = ap (λ (l : List B). g x ∷ l) (map-append xs ys)
 
 -- A property of each element.
 module _ {A : Type 0} (P : A → Type 0) where
@@ -236,16 +226,16 @@ module _ {A : Type 0} {same : A → A → Bool} (Q : Equality same) where
       (λ p. rw p (ap suc (index-nth ys (d .1) n x e)))
 
   -- a list that is extended
-  pub member-old : (x : A) (xs ys : List A) → member same x xs ≡ true → member same x (xs ++ ys) ≡ true
+  member-old : (x : A) (xs ys : List A) → member same x xs ≡ true → member same x (xs ++ ys) ≡ true
   unfolding member
   member-old x [] ys h = impossible h
   member-old x (y ∷ xs) ys h = split (same y x) (λ p. rw p) (λ p. rw p (member-old x xs ys (rw p at h)))
 
-  pub member-last : (x : A) (xs : List A) → member same x (xs ++ (x ∷ [])) ≡ true
+  member-last : (x : A) (xs : List A) → member same x (xs ++ (x ∷ [])) ≡ true
   member-last x [] = member-self x []
   member-last x (y ∷ ys) = member-tail y x (ys ++ (x ∷ [])) (member-last x ys)
 
-  pub index-old : (x : A) (xs ys : List A) → member same x xs ≡ true → index same x (xs ++ ys) ≡ index same x xs
+  index-old : (x : A) (xs ys : List A) → member same x xs ≡ true → index same x (xs ++ ys) ≡ index same x xs
   unfolding member index
   index-old x [] ys h = impossible h
   index-old x (y ∷ xs) ys h = split (same y x) (λ p. rw p) (λ p. rw p (ap suc (index-old x xs ys (rw p at h))))
@@ -291,7 +281,7 @@ module _ {A : Type 0} {same : A → A → Bool} (Q : Equality same) where
   index-insert x y xs h = insert-by (λ (l : List A). index same x l ≡ index same x xs) y xs (λ p. refl) (λ p. index-old x xs (y ∷ []) h)
 
   -- all of a list, one after the other: what each insertion keeps
-  pub insertAll-by : (P : List A → Type 0) → ((x : A) (xs : List A) → P xs → P (insert same x xs)) → (ys xs : List A) → P xs
+  insertAll-by : (P : List A → Type 0) → ((x : A) (xs : List A) → P xs → P (insert same x xs)) → (ys xs : List A) → P xs
       → P (insertAll same ys xs)
   unfolding insertAll
   insertAll-by P step [] xs h = h

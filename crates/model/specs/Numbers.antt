@@ -107,7 +107,7 @@ module _ (L : Language) where
         go (previews n a f q z e) =
             rw (e, q, answer, next) (rw (of-preview (isOpening L) false _ _ _ refl refl) (rw (forms-workOut L (s .recording) a f (s .entries)) k))
 
-    pub known-run : (s : State L) (xs : List (Part L)) (cs : List (Call L)) → All (Known (forms L (s .entries))) xs
+    known-run : (s : State L) (xs : List (Part L)) (cs : List (Call L)) → All (Known (forms L (s .entries))) xs
         → All (Known (forms L (after (model L) s cs .entries))) (partsGiven L xs cs (answers (model L) s cs))
     unfolding after partsGiven answers
     known-run s xs [] k = k

@@ -6,9 +6,9 @@ use Prim.Native.Nat.{ℕ, _≤_}
 use native.Mathlib.Omega.{arith}
 use lib.Dec.{eqb}
 use lib.ListN.{length}
+use Rattle.language.specs.Cases.{impossible, split}
 use Rattle.model.specs.Limits.{textBytes, readingsMost, entriesMost}
 use Rattle.model.specs.Lists.{All, member}
-use Rattle.model.specs.Cases.{impossible, split}
 use Rattle.model.specs.ListLaws.{distinct-insertAll, all-insertAll}
 use Rattle.model.specs.Language.{Language, parts}
 use Rattle.model.specs.Model.{State, forms, start, Call, Answer, refused, holdAll, left, workOut, answer, next}

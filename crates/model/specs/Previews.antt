@@ -3,16 +3,16 @@
 use mathlib.Core.Path.{_≡_, refl, sym, ap, _∙_, subst}
 use mathlib.Core.Logic.{⊎-elim}
 use mathlib.Core.Bool.{Bool, true, false, cond, not, _&&_}
-use mathlib.Core.List.{List, [], _∷_, _++_}
+use mathlib.Core.List.{List, [], _∷_, _++_, map-append}
 use mathlib.Core.Option.{Option, none, some}
 use Prim.Native.Nat.{ℕ, zero, suc, _+_, _≤_, _<_}
 use native.Mathlib.Omega.{arith}
 use lib.ListN.{length, getElem?}
 use lib.Seq.{append-snoc}
+use Rattle.language.specs.Cases.{impossible, split}
 use Rattle.model.specs.Lists.{All, countIf, onFirsts}
-use Rattle.model.specs.Cases.{impossible, split}
 use Rattle.model.specs.Language.{Language}
-use Rattle.model.specs.ListLaws.{nth-front, nth-seam, nth-map, old-or-last, length-snoc, map-append, all-append, count-none-nth, on-zero, on-none}
+use Rattle.model.specs.ListLaws.{nth-front, nth-seam, nth-map, old-or-last, length-snoc, all-append, count-none-nth, on-zero, on-none}
 use Rattle.model.specs.Model.{Entry, State, forms, marked, pending, left, markWith, workOut}
 use Rattle.model.specs.Laws.{Tests, Laws}
 use Rattle.model.specs.Invariant.{Kept, holds, done, Invariant}
@@ -92,7 +92,7 @@ module _ (L : Language) (flag : ℕ → Bool) where
   chosen-seam f k xs e ys h = ap (chosen (length xs)) (nth-seam xs e ys) ∙ chosen-first f k (length xs) e ys h
 
   -- xs are behind, ys are ahead
-  pub chosen-left : (f : Form) (k : ℕ) (xs ys : List (Entry L)) → Flagged f k (length xs) ys → chosenFrom k (length xs) (xs ++ ys) ≡ left L f ys
+  chosen-left : (f : Form) (k : ℕ) (xs ys : List (Entry L)) → Flagged f k (length xs) ys → chosenFrom k (length xs) (xs ++ ys) ≡ left L f ys
   unfolding chosenFrom countIf
   chosen-left f zero xs ys h = sym (count-none-nth (pending L f) ys (λ i e g. h .past i e g (omega arith)))
   chosen-left f (suc k) xs [] h = absurd (let z = h .room in omega arith)
@@ -120,7 +120,7 @@ module _ (L : Language) (flag : ℕ → Bool) where
         (λ o. subst (λ (y : Entry L). done L y ≡ true) (o .1) (new (subst (λ (y : Entry L). reach (y .form) f ≡ true) (sym (o .1)) q)))
         (old-or-last xs e j x g)
 
-    pub upward-workOut : (k a : ℕ) (xs ys : List (Entry L)) → Flagged f k (length xs) ys → forms L (xs ++ ys) ≡ fs → All (Kept L r) xs
+    upward-workOut : (k a : ℕ) (xs ys : List (Entry L)) → Flagged f k (length xs) ys → forms L (xs ++ ys) ≡ fs → All (Kept L r) xs
         → All (Kept L r) ys → Behind a xs
         → upward value k (length xs) a (xs ++ ys) ≡ xs ++ workOut L r a f ys
     unfolding upward onFirsts done

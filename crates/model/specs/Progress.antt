@@ -1,6 +1,6 @@
 -- A repeated preview is finished in time, whatever but an opening comes between. Assumes nothing.
 use mathlib.Core.Path.{_≡_, refl, sym, ap, _∙_}
-use mathlib.Core.Bool.{true, false, cond, _&&_}
+use mathlib.Core.Bool.{true, false, cond, _&&_, and-eq-true-iff}
 use mathlib.Core.List.{List, [], _∷_}
 use mathlib.Core.Option.{some}
 use Prim.Native.Nat.{ℕ, suc, _+_, _-_, _*_, _/_, _≤_, _<_, min}
@@ -9,7 +9,7 @@ use native.Mathlib.Omega.{arith}
 use borrow.Author.Tests.{eqb-true}
 use lib.Dec.{eqb}
 use lib.ListN.{getElem?}
-use Rattle.model.specs.Cases.{impossible, split, both}
+use Rattle.language.specs.Cases.{impossible, split}
 use Rattle.model.specs.ListLaws.{member-nth, nth-insertAll}
 use Rattle.model.specs.Language.{Language}
 use Rattle.model.specs.Model.{State, forms, Preview, Call, Answer, finished, Outcome, left, workOut, answer, next}
@@ -67,7 +67,7 @@ module _ (L : Language) where
         matched : (m b : ℕ) (g : Form) → getElem? (forms L (s .entries)) m ≡ some g → (eqb n m && eqb a b) ≡ true
             → left L f (workOut L (s .recording) b g (s .entries)) ≤ left L f (s .entries) - a
         matched m b g z p =
-            let pq = both (eqb n m) (eqb a b) p in
+            let pq = and-eq-true-iff (eqb n m) (eqb a b) .0 p in
             let nm : n ≡ m = eqb-true n m (pq .0) in
             let ab : b ≡ a = sym (eqb-true a b (pq .1)) in
             let z′ : getElem? (forms L (s .entries)) n ≡ some g = ap (getElem? (forms L (s .entries))) nm ∙ z in
@@ -98,7 +98,7 @@ module _ (L : Language) where
                   (λ p. rw p (rw none-of (let u = left-other L (s .recording) b g f (s .entries) in omega arith)))));
             }
 
-    pub later-run : (n a : ℕ) (f : Form) (s : State L) (cs : List (Call L)) → Sendable L cs → Invariant L H s
+    later-run : (n a : ℕ) (f : Form) (s : State L) (cs : List (Call L)) → Sendable L cs → Invariant L H s
         → getElem? (forms L (s .entries)) n ≡ some f → noOpening L (answers (model L) s cs) ≡ true
         → Later n a f s (after (model L) s cs) (previewsOf L n a cs (answers (model L) s cs))
     unfolding after answers previewsOf noOpening

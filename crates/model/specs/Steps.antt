@@ -3,15 +3,16 @@ use mathlib.Core.Path.{_≡_, refl, ap, _∙_}
 use mathlib.Core.Bool.{Bool, true, false, not, _||_}
 use mathlib.Core.List.{List}
 use mathlib.Core.Option.{Option, none, some}
+use mathlib.Mathlib.Data.Bool.Basic.{or-eq-false-eq-eq-false-and-eq-false as neither}
 use Prim.Native.Nat.{ℕ, _≤_, _<_}
 use native.Mathlib.Omega.{arith}
 use borrow.Author.Tests.{ltb-false, le-ltb, lt-ltb}
 use lib.Dec.{ltb}
 use lib.ListN.{length, getElem?}
+use Rattle.language.specs.Cases.{split}
 use Rattle.model.specs.Limits.{textBytes, partsMost, readingsMost, entriesMost}
-use Rattle.model.specs.Cases.{split, neither}
 use Rattle.model.specs.Language.{Language, Parsed, rejected, parts}
-use Rattle.model.specs.Model.{State, forms, Request, Open, Edit, Preview, Call, refuse, openedWith, onOpen, holdAll, editedTo, bind, onEdit, previewed, look, onPreview, onRequest, respond, answer, next}
+use Rattle.model.specs.Model.{State, forms, Request, Open, Edit, Preview, Call, refuse, openedWith, onOpen, holdAll, editedTo, bind, onEdit, previewed, look, onPreview, onRequest, respond, next}
 use Rattle.model.specs.Laws.{Laws}
 
 module _ (L : Language) where
@@ -48,14 +49,7 @@ module _ (L : Language) where
   unfolding onRequest onPreview look
   accepts-preview s n a f e = ap (look L s a) e
 
-  -- too little memory: the answer does not depend on the state, which stays
-  pub short-answer : (s s′ : State L) (q : Request L)
-      → answer L s (record { enough = false; request = q }) ≡ answer L s′ (record { enough = false; request = q })
-  unfolding onRequest onOpen onEdit onPreview
-  short-answer s s′ (Open r) = split (ltb readingsMost (length r)) (λ p. rw (p, answer)) (λ p. rw (p, answer))
-  short-answer s s′ (Edit ps t) = split (ltb textBytes (length t)) (λ p. rw (p, answer)) (λ p. rw (p, answer))
-  short-answer s s′ (Preview n a) = refl
-
+  -- too little memory: the state stays
   pub short-next : (s : State L) (q : Request L) → next L s (record { enough = false; request = q }) ≡ s
   unfolding onRequest onOpen onEdit onPreview
   short-next s (Open r) = split (ltb readingsMost (length r)) (λ p. rw (p, next)) (λ p. rw (p, next))
@@ -74,7 +68,7 @@ module _ (L : Language) where
     step-edit s b ps t =
         split (ltb textBytes (length t)) (λ p. declines 1 0 (omega arith) (rw p))
         (λ p. split (not b || ltb (length ps) partsMost) (λ q. declines 3 0 (omega arith) (rw (p, q)))
-        (λ q. go (ltb-false _ _ p) (ltb-false _ _ (neither (not b) (ltb (length ps) partsMost) q .1)) (rw (p, q)) (read t) refl))
+        (λ q. go (ltb-false _ _ p) (ltb-false _ _ (neither (not b) (ltb (length ps) partsMost) .0 q .1)) (rw (p, q)) (read t) refl))
       where
         go : length t ≤ textBytes → partsMost ≤ length ps → onRequest L s b (Edit ps t) ≡ bind L s (read t) → (x : Parsed Form) → read t ≡ x
             → Step s (record { enough = b; request = Edit ps t })

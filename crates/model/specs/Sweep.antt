@@ -10,8 +10,8 @@ use native.Mathlib.Decide.{decLt}
 use borrow.Author.Tests.{eqb-true, eq-eqb, ne-eqb}
 use lib.Dec.{eqb}
 use lib.ListN.{getElem?}
+use Rattle.language.specs.Cases.{impossible, split}
 use Rattle.model.specs.Lists.{member, Distinct}
-use Rattle.model.specs.Cases.{impossible, split}
 use Rattle.model.specs.Language.{Language}
 use Rattle.model.specs.ListLaws.{nth-below, nth-has, getD-nth, index-nth}
 use Rattle.model.specs.Laws.{Tests}

@@ -1,7 +1,7 @@
 -- A cache that a call accepts, whatever was in it, is accepted by the next call: none leaves a cache that refusal 4 declines or that no longer
 -- fits. And a preview of any cache works out as many entries as it says. Assumes nothing.
 use mathlib.Core.Path.{_≡_, sym, ap, _∙_}
-use mathlib.Core.Bool.{true, _&&_}
+use mathlib.Core.Bool.{true, _&&_, and-eq-true-iff}
 use mathlib.Core.List.{List}
 use Prim.Native.Nat.{ℕ, _+_}
 use native.Mathlib.Omega.{arith}
@@ -10,9 +10,9 @@ use lib.Dec.{leb, ltb}
 use lib.IntN.{ℤ}
 use lib.ListN.{length}
 use Rattle.language.specs.Limits.{textBytes, textParts, tableReadings}
+use Rattle.language.specs.Cases.{impossible, split}
 use Rattle.grammar.specs.Machine.{readText}
 use Rattle.model.specs.Lists.{All}
-use Rattle.model.specs.Cases.{impossible, split, both}
 use Rattle.model.specs.Model.{refused, opened}
 use Rattle.table.specs.Memory.{Memory, fits, entryCount, recordingOf}
 use Rattle.table.specs.WellFormed.{wellFormed}
@@ -64,7 +64,7 @@ unfolding editMemory
 edit-well m places text w =
     split (ltb textBytes (length text)) (λ p. rw p w)
     (λ p. split (fits m && leb textParts (length places))
-    (λ q. rw (p, q, w) (read-well m text (both (fits m) _ q .0) w))
+    (λ q. rw (p, q, w) (read-well m text (and-eq-true-iff (fits m) _ .0 q .0) w))
     (λ q. rw (p, q) w))
 
 -- ---- preview
@@ -78,8 +78,8 @@ unfolding previewMemory
 preview-well m n a w sound =
     split (fits m && (wellFormed m && ltb n (entryCount m)))
     (λ p.
-    let b = both (fits m) _ p in
-    rw p (well-from (workedMemory m (workOn m n a)) (worked-well m (b .0) (well-parts m w) sound n (ltb-true n (entryCount m) (both (wellFormed m) _ (b .1) .1)) a)))
+    let b = and-eq-true-iff (fits m) _ .0 p in
+    rw p (well-from (workedMemory m (workOn m n a)) (worked-well m (b .0) (well-parts m w) sound n (ltb-true n (entryCount m) (and-eq-true-iff (wellFormed m) _ .0 (b .1) .1)) a)))
     (λ p. rw p w)
 
 -- how many entries the answer says were worked out

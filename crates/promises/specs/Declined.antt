@@ -7,9 +7,9 @@ use lib.Dec.{leb, ltb}
 use lib.IntN.{ℤ}
 use lib.ListN.{length}
 use Rattle.language.specs.Limits.{textBytes, textParts, tableReadings}
+use Rattle.language.specs.Cases.{impossible, split}
 use Rattle.grammar.specs.Reading.{Reading, tree, refused as refusedAt}
 use Rattle.grammar.specs.Machine.{readText}
-use Rattle.model.specs.Cases.{impossible, split}
 use Rattle.model.specs.Model.{refused, opened, written}
 use Rattle.table.specs.Memory.{Memory, fits, entryCount}
 use Rattle.table.specs.WellFormed.{wellFormed}

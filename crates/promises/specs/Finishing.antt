@@ -5,7 +5,7 @@ use Prim.Native.Nat.{ℕ, _<_}
 use native.Mathlib.Omega.{arith}
 use borrow.Author.Tests.{ltb-true}
 use lib.Dec.{ltb}
-use Rattle.model.specs.Cases.{split}
+use Rattle.language.specs.Cases.{split}
 use Rattle.model.specs.Lists.{All}
 use Rattle.formulas.specs.Formulas.{IsReading}
 use Rattle.table.specs.Memory.{Memory, fits, entryCount, readingCount, recordingOf}

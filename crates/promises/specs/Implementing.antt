@@ -4,7 +4,7 @@ use mathlib.Core.Bool.{true, false}
 use lib.Dec.{ltb}
 use lib.ListN.{length}
 use Rattle.language.specs.Limits.{textBytes, tableReadings}
-use Rattle.model.specs.Cases.{split}
+use Rattle.language.specs.Cases.{split}
 use Rattle.model.specs.Model as Model
 use Rattle.model.specs.Model.{State, Request, Open, Edit, Preview, Outcome, Answer, answer}
 use Rattle.model.specs.Engine.{Engine, Lent, whole, part, says, leaves, Sent, isWhole, told, lendTo, Agrees, Implements}

@@ -1,15 +1,15 @@
 -- 01, "The plain book": each call is lent the cache as the last one left it, or too little of it. The ways to lend too little, each with how
 -- the part that was lent goes back. Assumes nothing.
-use mathlib.Core.Path.{_≡_, refl, sym, ap, _∙_}
-use mathlib.Core.Bool.{Bool, true, false, _&&_}
-use mathlib.Core.List.{List, [], _∷_, _++_}
-use Prim.Native.Nat.{ℕ, zero, suc, _*_}
+use mathlib.Core.Path.{_≡_, sym, _∙_}
+use mathlib.Core.Bool.{Bool, true, false, _&&_, and-eq-true-iff}
+use mathlib.Core.List.{List, _++_}
+use Prim.Native.Nat.{ℕ, _*_}
 use native.Mathlib.Omega.{arith}
 use borrow.Author.Tests.{leb-true, le-leb}
 use lib.Dec.{leb}
-use lib.ListN.{length, take, drop, length-take}
+use lib.ListN.{length, take, drop, length-take, take-append-drop}
 use Rattle.language.specs.Limits.{tableEntries, tableReadings}
-use Rattle.model.specs.Cases.{impossible, split}
+use Rattle.language.specs.Cases.{impossible, split}
 use Rattle.table.specs.Memory.{Memory, fits}
 
 -- how many cells of each slice are lent; some slice is under its size
@@ -43,10 +43,6 @@ restore c m p =
     }
 
 -- what is lent is too short
-both : (a b : Bool) → (a && b) ≡ true → (a ≡ true) × (b ≡ true)
-both true b e = (refl, e)
-both false b e = impossible e
-
 no-more : {A : Type 0} (size k : ℕ) (xs : List A) → leb size (length (take k xs)) ≡ true → leb size k ≡ true
 no-more size k xs e = let l = leb-true size (length (take k xs)) e in let t = length-take k xs in le-leb size k (omega arith)
 
@@ -56,22 +52,18 @@ too-short c m = split (fits (lend c m)) (λ e. impossible (sym (c .short) ∙ wh
   where
     whole : fits (lend c m) ≡ true → enough (c .readings) (c .heads) (c .links) (c .cells) ≡ true
     whole e =
-        let p = both _ _ e in
-        let q = both _ _ (p .1) in
-        let r = both _ _ (q .1) in
-        rw (no-more tableReadings (c .readings) (m .readings) (p .0), no-more 2 (c .heads) (m .heads) (q .0), no-more (3 * tableEntries) (c .links) (m .links) (r .0), no-more (4 * tableEntries) (c .cells) (m .cells) (r .1))
+        let p = and-eq-true-iff _ _ .0 e in
+        let q = and-eq-true-iff _ _ .0 (p .1) in
+        let r = and-eq-true-iff _ _ .0 (q .1) in
+        rw (no-more tableReadings (c .readings) (m .readings) (p .0), no-more 2 (c .heads) (m .heads) (q .0))
+        (rw (no-more (3 * tableEntries) (c .links) (m .links) (r .0), no-more (4 * tableEntries) (c .cells) (m .cells) (r .1)))
 
 -- put back as it was
-whole-again : {A : Type 0} (k : ℕ) (xs : List A) → take k xs ++ drop k xs ≡ xs
-whole-again zero xs = refl
-whole-again (suc k) [] = refl
-whole-again (suc k) (x ∷ xs) = ap (λ l. x ∷ l) (whole-again k xs)
-
 pub restored : (c : Cut) (m : Memory) → restore c m (lend c m) ≡ m
 restored c m =
     λ i. record {
-      readings = whole-again (c .readings) (m .readings) i;
-      heads = whole-again (c .heads) (m .heads) i;
-      links = whole-again (c .links) (m .links) i;
-      cells = whole-again (c .cells) (m .cells) i;
+      readings = take-append-drop (c .readings) (m .readings) i;
+      heads = take-append-drop (c .heads) (m .heads) i;
+      links = take-append-drop (c .links) (m .links) i;
+      cells = take-append-drop (c .cells) (m .cells) i;
     }

@@ -1,19 +1,18 @@
 -- Cells lent beyond the sizes keep their contents whatever is called. Assumes nothing.
-use mathlib.Core.Path.{_≡_, refl, sym, ap, _∙_}
-use mathlib.Core.Bool.{Bool, true, false, _&&_}
+use mathlib.Core.Path.{_≡_, refl, _∙_, subst}
+use mathlib.Core.Bool.{true, _&&_, and-eq-true-iff}
 use mathlib.Core.List.{List, [], _∷_, _++_}
-use Prim.Native.Nat.{ℕ, zero, suc, _+_, _*_, _≤_, _<_}
+use Prim.Native.Nat.{ℕ, zero, suc, _+_, _*_, _≤_, _<_, _-_}
 use native.Mathlib.Omega.{arith}
 use borrow.Author.Tests.{ltb-true, ltb-false, leb-true}
 use lib.Dec.{leb, ltb}
 use lib.IntN.{ℤ}
 use lib.ListN.{length, getD, set, drop, length-set, length-drop}
-use lib.Seq.{drop-set-lt, getD-set-same}
+use lib.Seq.{drop-set-lt, getD-set-same, drop-append-add, drop-drop}
 use Rattle.language.specs.Limits.{textBytes, textParts, tableEntries, tableReadings}
-use Rattle.meaning.specs.FormsLaws.{and-left}
+use Rattle.language.specs.Cases.{split}
 use Rattle.grammar.specs.Reading.{Reading, tree, refused as refusedAt}
 use Rattle.grammar.specs.Machine.{readText}
-use Rattle.model.specs.Cases.{impossible, split}
 use Rattle.table.specs.Memory.{Memory, Node, fits, entryCount}
 use Rattle.table.specs.WellFormed.{wellFormed}
 use Rattle.table.specs.Bind.{Bound, append, appendAll}
@@ -32,15 +31,11 @@ same : (m : Memory) → Outside m m
 same m = record { readings = refl; heads = refl; links = refl; cells = refl }
 
 -- open
-drop-none : {A : Type 0} (k : ℕ) → drop {A = A} k [] ≡ []
-drop-none zero = refl
-drop-none (suc k) = refl
-
 behind : {A : Type 0} (n : ℕ) (r xs : List A) → length r ≤ n → drop n (r ++ drop (length r) xs) ≡ drop n xs
-behind n [] xs h = refl
-behind zero (x ∷ r) xs h = absurd (omega arith)
-behind (suc n) (x ∷ r) [] h = ap (λ l. drop n (r ++ l)) (sym (drop-none (length r))) ∙ behind n r [] (omega arith) ∙ drop-none n
-behind (suc n) (x ∷ r) (y ∷ ys) h = behind n r ys (omega arith)
+behind n r xs h =
+    let e : length r + (n - length r) ≡ n = omega arith in
+    subst (λ (k : ℕ). drop k (r ++ drop (length r) xs) ≡ drop k xs) e
+    (drop-append-add r (drop (length r) xs) (n - length r) ∙ drop-drop (n - length r) (length r) xs)
 
 pub open-outside : (m : Memory) (r : List ℤ) → Outside m (openMemory m r)
 unfolding openMemory
@@ -112,7 +107,7 @@ edited-outside m b h few =
 
 few-entries : (m : Memory) → wellFormed m ≡ true → entryCount m ≤ tableEntries
 unfolding wellFormed
-few-entries m w = leb-true _ _ (and-left _ _ w)
+few-entries m w = leb-true _ _ (and-eq-true-iff _ _ .0 w .0)
 
 read-outside : (m : Memory) (x : Reading) → fits m ≡ true → wellFormed m ≡ true → Outside m (readMemory m x)
 unfolding readMemory
@@ -124,7 +119,7 @@ unfolding editMemory
 edit-outside m places text =
     split (ltb textBytes (length text)) (λ p. rw p (same m))
     (λ p. split (fits m && leb textParts (length places))
-    (λ q. split (wellFormed m) (λ w. rw (p, q, w) (read-outside m (readText text) (and-left _ _ q) w)) (λ w. rw (p, q, w) (same m)))
+    (λ q. split (wellFormed m) (λ w. rw (p, q, w) (read-outside m (readText text) (and-eq-true-iff _ _ .0 q .0) w)) (λ w. rw (p, q, w) (same m)))
     (λ q. rw (p, q) (same m)))
 
 -- preview
@@ -139,7 +134,9 @@ work-outside value links waits flags a zero i cells frame count h = refl
 work-outside value links waits flags a (suc k) i cells frame count h =
     split (chosen links flags frame i)
     (λ p. split (ltb count a)
-    (λ q. rw (p, q) (work-outside value links waits flags a k (suc i) (kept cells i (value frame i) (getD waits i 0)) (set frame i (value frame i)) (suc count) (omega arith) ∙ kept-outside cells i (value frame i) (nameFor cells i (value frame i) (getD waits i 0)) (otherFor cells (value frame i) (getD waits i 0)) (omega arith)))
+    (λ q. let v = value frame i in let w = getD waits i 0 in rw (p, q)
+    (work-outside value links waits flags a k (suc i) (kept cells i v w) (set frame i v) (suc count) (omega arith)
+    ∙ kept-outside cells i v (nameFor cells i v w) (otherFor cells v w) (omega arith)))
     (λ q. rw (p, q)))
     (λ p. rw p (work-outside value links waits flags a k (suc i) cells frame count (omega arith)))
 
@@ -147,12 +144,8 @@ pub preview-outside : (m : Memory) (n a : ℕ) → Outside m (previewMemory m n 
 unfolding previewMemory worked
 preview-outside m n a =
     split (fits m && (wellFormed m && ltb n (entryCount m)))
-    (λ p. rw p (by (and-left _ _ (right (fits m) _ p)) (ltb-true _ _ (right (wellFormed m) _ (right (fits m) _ p)))))
+    (λ p. let q = and-eq-true-iff (wellFormed m) _ .0 (and-eq-true-iff (fits m) _ .0 p .1) in rw p (by (q .0) (ltb-true _ _ (q .1))))
     (λ p. rw p (same m))
   where
-    right : (a b : Bool) → (a && b) ≡ true → b ≡ true
-    right true b e = e
-    right false b e = impossible e
-
     by : wellFormed m ≡ true → n < entryCount m → Outside m (workedMemory m (workOn m n a))
     by w l = let few = few-entries m w in record { readings = refl; heads = refl; links = refl; cells = work-outside _ _ _ _ a (suc n) 0 (m .cells) _ 0 (omega arith) }

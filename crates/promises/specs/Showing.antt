@@ -1,20 +1,19 @@
 -- A field of an answer that has no value is 0: the numbers and names that preview gives are those of what it shows, and no others.
 -- Assumes nothing.
 use mathlib.Core.Path.{_≡_, refl, sym, ap, _∙_}
-use mathlib.Core.Bool.{true, false, _&&_, _||_}
+use mathlib.Core.Bool.{true, false, _&&_, _||_, and-eq-true-iff}
 use Prim.Native.Nat.{ℕ, _+_, _*_, _<_}
 use native.Mathlib.Omega.{arith}
 use borrow.Author.Tests.{eqb-true}
 use lib.Dec.{ltb, eqb}
 use lib.ListN.{getD}
+use Rattle.language.specs.Cases.{impossible, split}
 use Rattle.values.specs.declared.Value.{Value}
 use Rattle.values.specs.declared.Value.the-variants.{Number, Window, Function, Delayed, Missing}
 use Rattle.values.specs.Packing.{functionCell, delayedCell, unpackOf, isFunctionCell, isDelayedCell}
 use Rattle.values.specs.PackingLaws.{unpack-function, unpack-delayed}
 use Rattle.values.specs.Shown.{shownNumbers}
-use Rattle.model.specs.Cases.{impossible, split}
 use Rattle.model.specs.Lists.{All}
-use Rattle.meaning.specs.FormsLaws.{and-left, and-right}
 use Rattle.table.specs.Memory.{Memory, Kept, entryCount, readingCount, recordingOf, keptAt}
 use Rattle.table.specs.Nodes.{isName}
 use Rattle.table.specs.WellFormed.{nameless, namesRight, wellFormed}
@@ -63,16 +62,17 @@ kept-named : (k : Kept) → namesRight k ≡ true → Named (unpackOf (k .value)
 unfolding namesRight
 kept-named k h =
     split (isFunctionCell (k .value))
-    (λ p. let c = eqb-true (k .value) functionCell p in rw (unpack-function (k .value) (omega arith) (omega arith)) (eqb-true (k .other) 0 (and-right (isName (k .name)) _ (rw p at h))))
+    (λ p. let c = eqb-true (k .value) functionCell p in rw (unpack-function (k .value) (omega arith) (omega arith)) (eqb-true (k .other) 0 (and-eq-true-iff (isName (k .name)) _ .0 (rw p at h) .1)))
     (λ p. split (isDelayedCell (k .value))
     (λ q. let c = eqb-true (k .value) delayedCell q in rw (unpack-delayed (k .value) (omega arith) (omega arith)) (delayed (rw (p, q) at h)))
-    (λ q. let z = rw (p, q) at h in let a = eqb-true (k .name) 0 (and-left _ _ z) in let b = eqb-true (k .other) 0 (and-right (eqb (k .name) 0) _ z) in rw (a, b) (none-named (unpackOf (k .value)))))
+    (λ q. let z = and-eq-true-iff (eqb (k .name) 0) _ .0 (rw (p, q) at h) in
+    rw (eqb-true (k .name) 0 (z .0), eqb-true (k .other) 0 (z .1)) (none-named (unpackOf (k .value)))))
   where
     delayed : (nameless k || (isName (k .name) && (eqb (k .other) 0 || isName (k .other)))) ≡ true → k .name ≡ 0 → k .other ≡ 0
     delayed e z =
         split (nameless k)
-        (λ p. eqb-true (k .other) 0 (and-right (eqb (k .name) 0) _ p))
-        (λ p. impossible (sym (name-some (k .name) (and-left _ _ (rw p at e))) ∙ rw z))
+        (λ p. eqb-true (k .other) 0 (and-eq-true-iff (eqb (k .name) 0) _ .0 p .1))
+        (λ p. impossible (sym (name-some (k .name) (and-eq-true-iff _ _ .0 (rw p at e) .0)) ∙ rw z))
 
 -- an entry of a well-formed cache
 module _ (m : Memory) (n : ℕ) where
@@ -88,7 +88,7 @@ module _ (m : Memory) (n : ℕ) where
   unfolding startAt keptAt
   names-kept q h = rw q (kept-named (keptAt (m .cells) n) h)
 
-  pub show-plain : wellFormed m ≡ true → n < entryCount m
+  show-plain : wellFormed m ≡ true → n < entryCount m
       → showOf (readingCount m) (m .links) (m .cells) n ≡ viewOf (shownOf (showOf (readingCount m) (m .links) (m .cells) n))
   unfolding showOf
   show-plain w l =

@@ -1,7 +1,7 @@
 -- The records that a tree is read to: one for each part but lets and uses of their names, in the order of binding (01, "Binding"), with
 -- links to earlier records; and, by place, the record of each part. A let's name stands for the record of its value, so that what is
 -- shared stays shared. Assumes nothing: these are definitions. That they unfold to the let-free forms is bridge's Recorded.
-use mathlib.Core.Bool.{Bool, true, false}
+use mathlib.Core.Bool.{cond}
 use mathlib.Core.List.{List, [], _∷_, _++_}
 use Prim.Native.Nat.{ℕ, zero, suc}
 use lib.IntN.{ℤ, pos, natAbs, _+ℤ_}
@@ -37,21 +37,17 @@ newRecord n t ps = record { records = t ++ (n ∷ []); root = length t; places =
 abbrev pub numberKey : ℤ → ℕ
 numberKey z = natAbs (z +ℤ pos 2147483648)
 
-abbrev pub pickRecorded : Bool → Recorded → Recorded → Recorded
-pickRecorded true a b = a
-pickRecorded false a b = b
-
 abbrev pub linked : ℕ → List ℕ → List Node → Recorded
 linked zero x t = newRecord (node variableKind (packed x) 0 0) t (length t ∷ [])
 linked (suc j) x t = record { records = t; root = j; places = j ∷ [] }
 
 unfoldable pub recordScoped : List ℕ → List Named → List Node → Recorded
 recordScoped x [] t = newRecord (node unboundKind (packed x) 0 0) t (length t ∷ [])
-recordScoped x (e ∷ Σ) t = pickRecorded (sameName x (e .name)) (linked (e .link) x t) (recordScoped x Σ t)
+recordScoped x (e ∷ Σ) t = cond (sameName x (e .name)) (linked (e .link) x t) (recordScoped x Σ t)
 
 -- a name in use
 unfoldable pub recordName : List ℕ → List Named → List Node → Recorded
-recordName x Σ t = pickRecorded (isData x) (newRecord (node readingsKind 0 0 0) t (length t ∷ [])) (recordScoped x Σ t)
+recordName x Σ t = cond (isData x) (newRecord (node readingsKind 0 0 0) t (length t ∷ [])) (recordScoped x Σ t)
 
 -- what comes behind an atom or a call, whose parts stand before its own
 abbrev pub behind : List ℕ → Recorded → Recorded
