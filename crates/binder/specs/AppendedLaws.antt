@@ -3,22 +3,23 @@
 use mathlib.Core.Path.{_≡_, refl, sym, ap, _∙_, subst}
 use mathlib.Core.Bool.{Bool, true, false, _&&_}
 use mathlib.Core.List.{List, [], _∷_, _++_}
-use Prim.Native.Nat.{ℕ, zero, suc, _+_, _*_, _≤_, _<_}
+use Prim.Native.Nat.{ℕ, zero, suc, _+_, _≤_, _<_}
 use native.Mathlib.Decide.{decLt}
 use native.Mathlib.Omega.{arith}
 use borrow.Author.Tests.{leb-true, le-leb}
 use lib.Dec.{eqb, leb}
-use lib.ListN.{length, getD, set, length-set}
+use lib.ListN.{length, length-set}
 use lib.Seq.{getD-set-same, getD-set-other}
 use Rattle.meaning.specs.FormsLaws.{no-way, and-left, and-right}
 use Rattle.meaning.specs.EvaluationLaws.{split}
-use Rattle.table.specs.Memory.{Memory, Node, Entry, nothingKept, fits, entryCount, readingCount, nodeAt, keptAt, entryAt, entriesFrom, entriesOf}
+use Rattle.table.specs.Links.{secondIndex, otherIndex, linksWith, cellsWith}
+use Rattle.table.specs.LinksLaws.{links-length, links-apart, links-here, cells-length, cells-apart, cells-kept, cells-key, cells-nothing}
+use Rattle.table.specs.Memory.{Memory, Node, Entry, nothingKept, fits, entryCount, readingCount, nodeAt, entryAt, entriesFrom, entriesOf}
 use Rattle.table.specs.Nodes.{kids}
 use Rattle.table.specs.WellFormed.{every, hasNode, distinct, awaitedBy, awaitedAfter, awaitsFew, doneAt, allDone, settled, namesRight, keptRight, wellFormed}
 use Rattle.table.specs.Bind.{append, appendAll}
 use Rattle.table.specs.Right.{allFrom, numbered, nodeRight, rightAt}
 use Rattle.table.specs.RightLaws.{all-at, all-of, right-at}
-use Rattle.binder.specs.Written.{linksWith, cellsWith}
 use Rattle.binder.specs.WrittenLaws.{whole-is}
 use Rattle.table.specs.ChainLaws.{numbered-last, numbered-agree, distinct-snoc}
 use Rattle.table.specs.AwaitsLaws.{after-snoc}
@@ -31,66 +32,27 @@ newEntry n = record { node = n; kept = nothingKept }
 
 module _ (links cells : List ℕ) (k : ℕ) (n : Node) where
   abbrev links′ : List ℕ
-  links′ = linksWith links k n
+  links′ = linksWith links k (n .kind) (n .first) (n .second)
 
   abbrev cells′ : List ℕ
   cells′ = cellsWith cells k (n .key)
 
-  cell-old : (j : ℕ) → j < 4 * k → getD cells′ j 0 ≡ getD cells j 0
-  unfolding cellsWith
-  cell-old j h =
-      getD-set-other (set (set (set cells (4 * k) (n .key)) (4 * k + 1) 0) (4 * k + 2) 0) (4 * k + 3) j 0 0 (λ e. omega arith)
-      ∙ getD-set-other (set (set cells (4 * k) (n .key)) (4 * k + 1) 0) (4 * k + 2) j 0 0 (λ e. omega arith)
-      ∙ getD-set-other (set cells (4 * k) (n .key)) (4 * k + 1) j 0 0 (λ e. omega arith)
-      ∙ getD-set-other cells (4 * k) j (n .key) 0 (λ e. omega arith)
-
-  link-old : (j : ℕ) → j < 3 * k → getD links′ j 0 ≡ getD links j 0
-  unfolding linksWith
-  link-old j h =
-      getD-set-other (set (set links (3 * k) (n .kind)) (3 * k + 1) (n .first)) (3 * k + 2) j (n .second) 0 (λ e. omega arith)
-      ∙ getD-set-other (set links (3 * k) (n .kind)) (3 * k + 1) j (n .first) 0 (λ e. omega arith)
-      ∙ getD-set-other links (3 * k) j (n .kind) 0 (λ e. omega arith)
-
   -- entries held stay as they are
   entry-old : (i : ℕ) → i < k → entryAt links′ cells′ i ≡ entryAt links cells i
-  unfolding nodeAt keptAt
   entry-old i h =
       rw (
-        link-old (3 * i) (omega arith),
-        link-old (3 * i + 1) (omega arith),
-        link-old (3 * i + 2) (omega arith),
-        cell-old (4 * i) (omega arith),
-        cell-old (4 * i + 1) (omega arith),
-        cell-old (4 * i + 2) (omega arith),
-        cell-old (4 * i + 3) (omega arith),
+        links-apart links k (n .kind) (n .first) (n .second) cells′ i (λ e. omega arith),
+        cells-apart cells k (n .key) links i (λ e. omega arith),
+        cells-kept cells k (n .key) i (λ e. omega arith),
       )
 
   -- the new one is n, with nothing kept
-  entry-new : 3 * k + 2 < length links → 4 * k + 3 < length cells → entryAt links′ cells′ k ≡ newEntry n
-  unfolding nodeAt keptAt linksWith cellsWith
+  entry-new : secondIndex k < length links → otherIndex k < length cells → entryAt links′ cells′ k ≡ newEntry n
   entry-new hl hc =
-      let a = length-set links (3 * k) (n .kind) in
-      let b = length-set (set links (3 * k) (n .kind)) (3 * k + 1) (n .first) in
-      let d = length-set cells (4 * k) (n .key) in
-      let e = length-set (set cells (4 * k) (n .key)) (4 * k + 1) 0 in
-      let f = length-set (set (set cells (4 * k) (n .key)) (4 * k + 1) 0) (4 * k + 2) 0 in
       rw (
-        getD-set-other (set (set links (3 * k) (n .kind)) (3 * k + 1) (n .first)) (3 * k + 2) (3 * k) (n .second) 0 (λ e. omega arith),
-        getD-set-other (set links (3 * k) (n .kind)) (3 * k + 1) (3 * k) (n .first) 0 (λ e. omega arith),
-        getD-set-same links (3 * k) (n .kind) 0 (omega arith),
-        getD-set-other (set (set links (3 * k) (n .kind)) (3 * k + 1) (n .first)) (3 * k + 2) (3 * k + 1) (n .second) 0 (λ e. omega arith),
-        getD-set-same (set links (3 * k) (n .kind)) (3 * k + 1) (n .first) 0 (omega arith),
-        getD-set-same (set (set links (3 * k) (n .kind)) (3 * k + 1) (n .first)) (3 * k + 2) (n .second) 0 (omega arith),
-        getD-set-other (set (set (set cells (4 * k) (n .key)) (4 * k + 1) 0) (4 * k + 2) 0) (4 * k + 3) (4 * k) 0 0 (λ e. omega arith),
-        getD-set-other (set (set cells (4 * k) (n .key)) (4 * k + 1) 0) (4 * k + 2) (4 * k) 0 0 (λ e. omega arith),
-        getD-set-other (set cells (4 * k) (n .key)) (4 * k + 1) (4 * k) 0 0 (λ e. omega arith),
-        getD-set-same cells (4 * k) (n .key) 0 (omega arith),
-        getD-set-other (set (set (set cells (4 * k) (n .key)) (4 * k + 1) 0) (4 * k + 2) 0) (4 * k + 3) (4 * k + 1) 0 0 (λ e. omega arith),
-        getD-set-other (set (set cells (4 * k) (n .key)) (4 * k + 1) 0) (4 * k + 2) (4 * k + 1) 0 0 (λ e. omega arith),
-        getD-set-same (set cells (4 * k) (n .key)) (4 * k + 1) 0 0 (omega arith),
-        getD-set-other (set (set (set cells (4 * k) (n .key)) (4 * k + 1) 0) (4 * k + 2) 0) (4 * k + 3) (4 * k + 2) 0 0 (λ e. omega arith),
-        getD-set-same (set (set cells (4 * k) (n .key)) (4 * k + 1) 0) (4 * k + 2) 0 0 (omega arith),
-        getD-set-same (set (set (set cells (4 * k) (n .key)) (4 * k + 1) 0) (4 * k + 2) 0) (4 * k + 3) 0 0 (omega arith),
+        links-here links k (n .kind) (n .first) (n .second) cells′ hl,
+        cells-key cells k (n .key) hc,
+        cells-nothing cells k (n .key) hc,
       )
 
   entries-old : (i m : ℕ) → i + m ≤ k → entriesFrom links′ cells′ i m ≡ entriesFrom links cells i m
@@ -103,20 +65,20 @@ module _ (links cells : List ℕ) (k : ℕ) (n : Node) where
   entries-last ls cs i zero = let q : i + 0 ≡ i = omega arith in rw q
   entries-last ls cs i (suc m) = let q : suc i + m ≡ i + suc m = omega arith in rw (entries-last ls cs (suc i) m, q)
 
-  entries-more : 3 * k + 2 < length links → 4 * k + 3 < length cells → entriesFrom links′ cells′ 0 (suc k) ≡ entriesFrom links cells 0 k ++ (newEntry n ∷ [])
+  entries-more : secondIndex k < length links → otherIndex k < length cells → entriesFrom links′ cells′ 0 (suc k) ≡ entriesFrom links cells 0 k ++ (newEntry n ∷ [])
   entries-more hl hc =
       let q : 0 + k ≡ k = omega arith in
       entries-last links′ cells′ 0 k ∙ rw (entries-old 0 k (omega arith), q, entry-new hl hc)
 
-append-as : (m : Memory) (n : Node) (j : ℕ) → entriesFrom (append m n .links) (append m n .cells) 0 j ≡ entriesFrom (linksWith (m .links) (entryCount m) n) (cellsWith (m .cells) (entryCount m) (n .key)) 0 j
-unfolding append linksWith cellsWith
+append-as : (m : Memory) (n : Node) (j : ℕ) → entriesFrom (append m n .links) (append m n .cells) 0 j ≡ entriesFrom (linksWith (m .links) (entryCount m) (n .kind) (n .first) (n .second)) (cellsWith (m .cells) (entryCount m) (n .key)) 0 j
+unfolding append
 append-as m n j = refl
 
 -- The memory with one entry more.
 module _ (m : Memory) (n : Node) where
   pub append-fits : fits (append m n) ≡ fits m
   unfolding fits append
-  append-fits = simp length-set
+  append-fits = simp (length-set, links-length, cells-length)
 
   module _ (f : fits m ≡ true) where
     pub append-count : entryCount (append m n) ≡ suc (entryCount m)
@@ -132,7 +94,7 @@ module _ (m : Memory) (n : Node) where
         let w = whole-is m f in
         rw append-count (at-count ∙ entries-more (m .links) (m .cells) (entryCount m) n (omega arith) (omega arith))
       where
-        at-count : entriesFrom (append m n .links) (append m n .cells) 0 (suc (entryCount m)) ≡ entriesFrom (linksWith (m .links) (entryCount m) n) (cellsWith (m .cells) (entryCount m) (n .key)) 0 (suc (entryCount m))
+        at-count : entriesFrom (append m n .links) (append m n .cells) 0 (suc (entryCount m)) ≡ entriesFrom (linksWith (m .links) (entryCount m) (n .kind) (n .first) (n .second)) (cellsWith (m .cells) (entryCount m) (n .key)) 0 (suc (entryCount m))
         at-count = append-as m n (suc (entryCount m))
 
 pub append-all-fits : (m : Memory) (ns : List Node) → fits (appendAll m ns) ≡ fits m
@@ -228,7 +190,7 @@ module _ (m : Memory) (n : Node) (f : fits m ≡ true) (w : Well m) (room : entr
   old = entriesFrom (m .links) (m .cells) 0 k
 
   abbrev ls : List ℕ
-  ls = linksWith (m .links) k n
+  ls = linksWith (m .links) k (n .kind) (n .first) (n .second)
 
   abbrev cs : List ℕ
   cs = cellsWith (m .cells) k (n .key)
@@ -279,7 +241,7 @@ module _ (m : Memory) (n : Node) (f : fits m ≡ true) (w : Well m) (room : entr
     few-more = rw (after-snoc (nodeAt ls cs) [] held n) (every-snoc (λ (x : List ℕ). leb (length x) 2) 0 (awaitedAfter [] held) (awaitedBy (awaitedAfter [] held) n) (w .names) (le-leb _ _ a))
 
     pub append-well : wellFormed (append m n) ≡ true
-    unfolding append linksWith cellsWith
+    unfolding append
     append-well =
         let c = append-count m n f in
         let d = append-readings m n f in

@@ -11,7 +11,9 @@ use lib.Dec.{leb}
 use lib.IntN.{ℤ}
 use lib.ListN.{length, getD, set, take, drop, length-append, length-map}
 use lib.Seq.{getD-set-same, take-suc, drop-cons, set-at, length-take-le}
+use Rattle.language.specs.Limits.{tableReadings}
 use Rattle.meaning.specs.FormsLaws.{and-left, and-right}
+use Rattle.table.specs.Links.{tableLinks, tableCells, linksWith, cellsWith}
 use Rattle.table.specs.Memory.{Memory, Node, fits}
 use Rattle.table.specs.Bind.{append, appendAll}
 use Rattle.table.specs.Right.{numbered}
@@ -19,11 +21,11 @@ use Rattle.table.specs.RightLaws.{left-suc}
 use Rattle.table.specs.Held.{freshAt}
 use Rattle.table.specs.ChainLaws.{numbered-zero}
 use Rattle.table.specs.Checked.{memory}
-use Rattle.binder.specs.Written.{Whole, linksWith, cellsWith, placed}
+use Rattle.binder.specs.Written.{Whole, placed}
 
-pub append-is : (heads links cells heads′ links′ cells′ : List ℕ) (k : ℕ) (n : Node) → k ≡ getD heads 0 0 → links′ ≡ linksWith links k n → cells′ ≡ cellsWith cells k (n .key)
+pub append-is : (heads links cells heads′ links′ cells′ : List ℕ) (k : ℕ) (n : Node) → k ≡ getD heads 0 0 → links′ ≡ linksWith links k (n .kind) (n .first) (n .second) → cells′ ≡ cellsWith cells k (n .key)
     → heads′ ≡ set heads 0 (k + 1) → (readings : List ℤ) → memory readings heads′ links′ cells′ ≡ append (memory readings heads links cells) n
-unfolding append linksWith cellsWith
+unfolding append
 append-is heads links cells heads′ links′ cells′ k n q p c h readings = rw (h, p, c, q, add-one (getD heads 0 0))
 
 append-none : (m : Memory) → appendAll m [] ≡ m
@@ -33,12 +35,12 @@ append-none m = refl
 pub whole-is : (m : Memory) → fits m ≡ true → Whole (m .heads) (m .links) (m .cells)
 unfolding fits
 whole-is m e =
-    let r = and-right (leb 1024 (length (m .readings))) _ e in
+    let r = and-right (leb tableReadings (length (m .readings))) _ e in
     let l = and-right (leb 2 (length (m .heads))) _ r in
     record {
       in-heads = leb-true 2 (length (m .heads)) (and-left _ _ r);
-      in-links = leb-true 1536 (length (m .links)) (and-left _ _ l);
-      in-cells = leb-true 2048 (length (m .cells)) (and-right (leb 1536 (length (m .links))) _ l);
+      in-links = leb-true tableLinks (length (m .links)) (and-left _ _ l);
+      in-cells = leb-true tableCells (length (m .cells)) (and-right (leb tableLinks (length (m .links))) _ l);
     }
 
 -- the loop over the entries that wait

@@ -1,17 +1,21 @@
 // 01, "Binding": a text's records are bound to entries one by one, found or appended, in the call's own frame. No lent cell is written.
 // A record is two words: its kind and its links to earlier records, each 0 or one more than the record's number; and its key.
+use language::limits::Table;
+use language::limits::Text;
 use table::cells::at64;
+use table::chain::CHAIN_CELLS;
 use table::chain::enter;
 use table::chain::enter_all;
 use table::chain::hash;
 use table::chain::seek;
 use table::nodes::Shape;
+use table::nodes::TEXT_WORDS;
 use table::nodes::add_fresh;
-use language::limits::Table;
 ghost use mathlib.Core.Path.{_≡_};
 ghost use mathlib.Core.Bool.{true};
 ghost use Prim.Native.Nat.{ℕ, _≤_, _<_};
 ghost use lib.ListN.{length, getD, take};
+ghost use Rattle.language.specs.Limits.{textParts, tableEntries};
 ghost use Rattle.table.specs.Memory.{nodeAt};
 ghost use Rattle.table.specs.WellFormed.{distinct};
 ghost use Rattle.table.specs.Bind.{relinked, relink};
@@ -34,8 +38,8 @@ fn record_at(records: &[u64], r: u16) -> Shape
 }
 
 // A link to a record, as a link to the record's entry. The first r records have their numbers.
-fn relinked(numbers: &[u16; 128], r: u16, link: u16) -> u16
-    requires { ⌜ (r ≤ 128) × (length (now numbers) ≡ 128) ⌝ }
+fn relinked(numbers: &[u16; Text::PARTS], r: u16, link: u16) -> u16
+    requires { ⌜ (r ≤ textParts) × (length (now numbers) ≡ textParts) ⌝ }
     requires { ⌜ ((j : ℕ) → j < r → getD (now numbers) j 0 < 640) ⌝ }
     ensures { λ x. ⌜ x ≡ relinked (take r (now (numbers .entry))) link ⌝ }
 {
@@ -49,8 +53,8 @@ fn relinked(numbers: &[u16; 128], r: u16, link: u16) -> u16
 }
 
 // Record r, its links those of entries.
-fn relink(records: &[u64; 256], numbers: &[u16; 128], r: u16) -> Shape
-    requires { ⌜ (r ≤ 128) × (length (now numbers) ≡ 128) ⌝ }
+fn relink(records: &[u64; TEXT_WORDS], numbers: &[u16; Text::PARTS], r: u16) -> Shape
+    requires { ⌜ (r ≤ textParts) × (length (now numbers) ≡ textParts) ⌝ }
     requires { ⌜ ((j : ℕ) → j < r → getD (now numbers) j 0 < 640) ⌝ }
     ensures { λ x. ⌜ shaped x ≡ relink (take r (now (numbers .entry))) (recordAt (now (records .entry)) r) ⌝ }
 {
@@ -69,14 +73,14 @@ fn bind_one(
     cells: &[u64],
     count: u16,
     total: u16,
-    records: &[u64; 256],
+    records: &[u64; TEXT_WORDS],
     r: u16,
-    numbers: &mut [u16; 128],
-    fresh: &mut [u64; 256],
-    chain: &mut [u16; 1152],
+    numbers: &mut [u16; Text::PARTS],
+    fresh: &mut [u64; TEXT_WORDS],
+    chain: &mut [u16; CHAIN_CELLS],
 ) -> u16
     requires { ⌜ Ready (now links) (now cells) count total r (now numbers) (now fresh) (now chain) ⌝ }
-    requires { ⌜ r < 128 ⌝ }
+    requires { ⌜ r < textParts ⌝ }
     ensures { λ t. ⌜ BoundOne (now (links .entry)) (now (cells .entry)) count total (now (records .entry)) r (now (numbers .entry)) (now (fresh .entry)) t (now (numbers .exit)) (now (fresh .exit)) (now (chain .exit)) ⌝ }
 {
     let x = relink(records, numbers, r);
@@ -97,16 +101,16 @@ pub fn bind(
     links: &[u16],
     cells: &[u64],
     count: u16,
-    records: &[u64; 256],
+    records: &[u64; TEXT_WORDS],
     n: u16,
-    numbers: &mut [u16; 128],
-    fresh: &mut [u64; 256],
+    numbers: &mut [u16; Text::PARTS],
+    fresh: &mut [u64; TEXT_WORDS],
 ) -> u16
-    requires { ⌜ (count ≤ 512) × (n ≤ 128) × (length (now numbers) ≡ 128) × (length (now fresh) ≡ 256) ⌝ }
+    requires { ⌜ (count ≤ tableEntries) × (n ≤ textParts) × (length (now numbers) ≡ textParts) × (length (now fresh) ≡ 256) ⌝ }
     requires { ⌜ distinct (numbered (nodeAt (now links) (now cells)) 0 count) ≡ true ⌝ }
     ensures { λ t. ⌜ BoundAll (now (links .entry)) (now (cells .entry)) count (now (records .entry)) n t (now (numbers .exit)) (now (fresh .exit)) ⌝ }
 {
-    let mut chain = [0u16; 1152];
+    let mut chain = [0u16; CHAIN_CELLS];
     enter_all(links, cells, count, fresh, &mut chain);
     let mut total = count;
     let mut r: u16 = 0;

@@ -1,31 +1,28 @@
 -- The tests that come before a preview and a fetch, and laws of both, each with a premise for every call and test on the code's way. That a
 -- fetched part lies within the readings follows from well-formedness. Assumes nothing.
-use mathlib.Core.Path.{_≡_, refl, sym, ap, _∙_}
+use mathlib.Core.Path.{_≡_, sym, ap, _∙_}
 use mathlib.Core.Bool.{Bool, true, false, cond, _&&_, _||_}
 use mathlib.Core.List.{List}
-use Prim.Native.Nat.{ℕ, _+_, _-_, _*_, _%_, _≤_, _<_}
+use Prim.Native.Nat.{ℕ, _+_, _-_, _%_, _≤_, _<_}
 use native.Mathlib.Omega.{arith}
-use borrow.Author.Tests.{lt-ltb, le-ltb, le-leb, lt-leb, leb-true, leb-false, ltb-true, ltb-false, eqb-true}
+use borrow.Author.Tests.{lt-ltb, le-ltb, leb-true, ltb-true, eqb-true}
 use lib.Dec.{ltb, leb, eqb}
 use lib.IntN.{ℤ}
 use lib.ListN.{length, getD, take, drop}
 use lib.Seq.{length-take-le}
 use Rattle.meaning.specs.FormsLaws.{and-left, and-right}
 use Rattle.meaning.specs.EvaluationLaws.{split}
-use Rattle.model.specs.Cases.{impossible}
-use Rattle.table.specs.Memory.{Memory, fits, entryCount, readingCount, nodeAt, keptAt, entryAt, entriesFrom, entriesOf}
-use Rattle.table.specs.WellFormed.{distinct, awaitsFew, doneAt, settled, namesRight, keptRight, wellFormed}
-use Rattle.table.specs.Right.{allFrom}
-use Rattle.table.specs.RightLaws.{all-at}
-use Rattle.table.specs.Checked.{memory, keptOk, entriesRight}
-use Rattle.table.specs.CheckedLaws.{done-is, well-is}
+use Rattle.table.specs.Memory.{Memory, fits, entryCount, readingCount, nodeAt, keptAt}
+use Rattle.table.specs.WellFormed.{namesRight, keptRight, wellFormed}
+use Rattle.table.specs.Checked.{memory, entriesRight}
+use Rattle.table.specs.CheckedLaws.{well-is}
 use Rattle.binder.specs.WrittenLaws.{whole-is}
 use Rattle.values.specs.declared.Value.{Value}
 use Rattle.values.specs.declared.Value.the-variants.{Number, Window, Function, Delayed, Missing}
 use Rattle.values.specs.Packing.{windowCell, delayedCell, missingCell, unpackOf, isPacked}
 use Rattle.values.specs.PackingLaws.{unpack-number, unpack-window, unpack-delayed, unpack-missing, passes-packs}
 use Rattle.values.specs.Kept.{Inside}
-use Rattle.table.specs.Links.{kindAt, keyAt}
+use Rattle.table.specs.Links.{kindAt, keyAt, valueAt}
 use Rattle.evaluator.specs.Frames.{leafOf, startAt}
 use Rattle.scheduler.specs.declared.works.View.{View}
 use Rattle.scheduler.specs.Works.{Lent, Works, showOf}
@@ -193,10 +190,10 @@ leaf-inside k kind key h =
     (λ d. rw (a, b, d) (rw (unpack-missing (missingCell + 1) (omega arith)) tt))
     (λ d. rw (a, b, d) (rw (unpack-window (windowCell + k) (omega arith) (omega arith)) (omega arith)))))
 
-kept-inside : (links cells : List ℕ) (k count n : ℕ) → entriesRight links cells k count ≡ true → n < count → Inside k (unpackOf (getD cells (4 * n + 1) 0))
+kept-inside : (links cells : List ℕ) (k count n : ℕ) → entriesRight links cells k count ≡ true → n < count → Inside k (unpackOf (valueAt cells n))
 unfolding keptRight keptAt
 kept-inside links cells k count n e h =
-    let c = getD cells (4 * n + 1) 0 in
+    let c = valueAt cells n in
     let kept : (eqb c 0 || (leb 4 (nodeAt links cells n .kind) && isPacked c k)) ≡ true = and-right (namesRight (keptAt cells n)) _ (kept-right links cells k count n e h) in
     split (eqb c 0)
     (λ t. rw (unpack-number c (omega (arith, eqb-true c 0 t))) tt)

@@ -1,21 +1,23 @@
 // Edit (01, "Four calls"): a text is read and bound in the call's own frame, and lent cells are written only when nothing declines it.
-use interface::answers::Edited;
 use crate::lent::fits;
+use binder::bind::bind;
+use binder::bind::is_full;
+use binder::commit::commit;
+use binder::commit::write_places;
+use interface::answers::Edited;
 use language::limits::Text;
 use reader::answer::Read;
 use reader::parser::read;
-use binder::bind::bind;
-use binder::bind::is_full;
 use table::cells::at32;
 use table::check::well_formed;
-use binder::commit::commit;
-use binder::commit::write_places;
+use table::nodes::TEXT_WORDS;
 ghost use mathlib.Core.Path.{_≡_};
 ghost use mathlib.Core.Bool.{true};
 ghost use mathlib.Core.List.{List};
 ghost use Prim.Native.Nat.{ℕ, _≤_};
 ghost use lib.IntN.{ℤ};
 ghost use lib.ListN.{length, getD};
+ghost use Rattle.language.specs.Limits.{textParts, tableEntries};
 ghost use Rattle.table.specs.Memory.{nodeAt};
 ghost use Rattle.table.specs.WellFormed.{distinct, wellFormed};
 ghost use Rattle.table.specs.Right.{numbered};
@@ -41,15 +43,15 @@ fn plan_edit(
     links: &[u16],
     cells: &[u64],
     count: u16,
-    parts: &mut [u16; 128],
-    numbers: &mut [u16; 128],
-    fresh: &mut [u64; 256],
+    parts: &mut [u16; Text::PARTS],
+    numbers: &mut [u16; Text::PARTS],
+    fresh: &mut [u64; TEXT_WORDS],
 ) -> Plan
-    requires { ⌜ (count ≤ 512) × (length (now parts) ≡ 128) × (length (now numbers) ≡ 128) × (length (now fresh) ≡ 256) ⌝ }
+    requires { ⌜ (count ≤ tableEntries) × (length (now parts) ≡ textParts) × (length (now numbers) ≡ textParts) × (length (now fresh) ≡ 256) ⌝ }
     requires { ⌜ distinct (numbered (nodeAt (now links) (now cells)) 0 count) ≡ true ⌝ }
     ensures { λ p. ⌜ ((readings : List ℤ) (heads : List ℕ) → getD heads 0 0 ≡ count → Planned (memory readings heads (now (links .entry)) (now (cells .entry))) (now (text .entry)) p (now (parts .exit)) (now (numbers .exit)) (now (fresh .exit))) ⌝ }
 {
-    let mut records = [0u64; 256];
+    let mut records = [0u64; TEXT_WORDS];
     match read(text, &mut records, parts) {
         Read::Refused { number, place } => Plan {
             number,
@@ -92,14 +94,14 @@ fn edit_checked(
     links: &mut [u16],
     cells: &mut [u64],
 ) -> Edited
-    requires { ⌜ Whole (now heads) (now links) (now cells) × (128 ≤ length (now places)) ⌝ }
+    requires { ⌜ Whole (now heads) (now links) (now cells) × (textParts ≤ length (now places)) ⌝ }
     requires { ⌜ ((readings : List ℤ) → wellFormed (memory readings (now heads) (now links) (now cells)) ≡ true) ⌝ }
     ensures { λ r. ⌜ ((readings : List ℤ) → EditsRead (memory readings (now (heads .entry)) (now (links .entry)) (now (cells .entry))) (now (places .entry)) (now (text .entry)) (memory readings (now (heads .exit)) (now (links .exit)) (now (cells .exit))) (now (places .exit)) r) ⌝ }
 {
     let count = at32(heads, 0) as u16;
-    let mut parts = [0u16; 128];
-    let mut numbers = [0u16; 128];
-    let mut fresh = [0u64; 256];
+    let mut parts = [0u16; Text::PARTS];
+    let mut numbers = [0u16; Text::PARTS];
+    let mut fresh = [0u64; TEXT_WORDS];
     let p = plan_edit(
         text,
         links,

@@ -1,5 +1,7 @@
 // The cache as it is lent: the tests that come before a call's work.
 use language::limits::Table;
+use table::cells::ENTRY_CELLS;
+use table::cells::LINK_CELLS;
 use table::cells::at32;
 use table::check::well_formed;
 ghost use mathlib.Core.Path.{_≡_};
@@ -13,7 +15,8 @@ pub fn fits(readings: &[i32], heads: &[u32], links: &[u16], cells: &[u64]) -> bo
 {
     (Table::READINGS <= readings.len())
         & ((2 <= heads.len())
-            & ((3 * Table::ENTRIES <= links.len()) & (4 * Table::ENTRIES <= cells.len())))
+            & ((LINK_CELLS * Table::ENTRIES <= links.len())
+                & (ENTRY_CELLS * Table::ENTRIES <= cells.len())))
 }
 
 // The refusal of a call on an entry, 0 for none: 3, memory under its size; then 4, a cache that is ill-formed; then 14, no such entry.

@@ -38,7 +38,8 @@ use Rattle.bridge.specs.FormulaLaws.{formula-laws}
 use Rattle.interface.specs.Calls.{held, boundTo, editedAs, editedMemory, readAnswer, readMemory, editAnswer, editMemory}
 use Rattle.demand.specs.Holds.{joined, holds, Ok, Written}
 use Rattle.demand.specs.Bound.{relinkBy, relinks, asBound, all-same, forms-same, valid-same}
-use Rattle.demand.specs.Appended.{lengths, long-enough, entries-length, unworked, grown}
+use Rattle.binder.specs.AppendedLaws.{newEntry}
+use Rattle.demand.specs.Appended.{lengths, long-enough, entries-length, grown}
 use Rattle.demand.specs.Standing.{stands-placed, decoded, more, forms-joined, joined-append, size-held, count-nodes}
 
 pub record Done (m : Memory) (o : Model.Outcome formulas) (x : Answer formulas) : Type 0 where
@@ -146,11 +147,11 @@ module _ (m : Memory) (placed : AllPlaced formulas nodes 0 (nodesOf (entriesOf m
     entries-are : es ≡ holds m .entries ++ map (Model.unmarked formulas) added
     entries-are = holdAll-as formulas (formsInOrder e) (holds m .entries) added (ap (insertAll same (formsInOrder e)) held-forms ∙ grown-forms ∙ ap (λ (l : List Form). l ++ added) (sym held-forms))
 
-    nodes-unworked : (l : List Node) → nodesOf (map unworked l) ≡ l
-    nodes-unworked [] = refl
-    nodes-unworked (n ∷ l) = ap (λ (r : List Node). n ∷ r) (nodes-unworked l)
+    nodes-new : (l : List Node) → nodesOf (map newEntry l) ≡ l
+    nodes-new [] = refl
+    nodes-new (n ∷ l) = ap (λ (r : List Node). n ∷ r) (nodes-new l)
 
-    written-new : (l : List Node) → All Written (map unworked l)
+    written-new : (l : List Node) → All Written (map newEntry l)
     written-new [] = tt
     written-new (n ∷ l) = (inl refl, written-new l)
 
@@ -163,7 +164,7 @@ module _ (m : Memory) (placed : AllPlaced formulas nodes 0 (nodesOf (entriesOf m
         let G = grown m new (lengths m (o .whole)) (omega arith) in
         let ge = G .entries in
         let gn : nodesOf (entriesOf (appendAll m new)) ≡ b .nodes =
-        ap nodesOf ge ∙ map-append (λ (x : Entry). x .node) (entriesOf m) (map unworked new) ∙ ap (λ (l : List Node). ns ++ l) (nodes-unworked new) ∙ sym nodes-are in
+        ap nodesOf ge ∙ map-append (λ (x : Entry). x .node) (entriesOf m) (map newEntry new) ∙ ap (λ (l : List Node). ns ++ l) (nodes-new new) ∙ sym nodes-are in
         let gf : formsOf (nodesOf (entriesOf (appendAll m new))) ≡ fs ++ added = ap formsOf gn ∙ sym (decoded (b .nodes) gs (fitted .stands)) ∙ grown-forms in
         record {
           answer =
@@ -176,7 +177,7 @@ module _ (m : Memory) (placed : AllPlaced formulas nodes 0 (nodesOf (entriesOf m
                 whole = long-enough (appendAll m new) (G .long);
                 readings = rw (G .readings) (o .readings);
                 placed = rw gn (stands-placed (b .nodes) gs (fitted .stands));
-                written = rw ge (all-append Written (entriesOf m) (map unworked new) (o .written) (written-new new));
+                written = rw ge (all-append Written (entriesOf m) (map newEntry new) (o .written) (written-new new));
               };
           holds =
               λ t.

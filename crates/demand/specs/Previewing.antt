@@ -4,7 +4,7 @@ use mathlib.Core.Bool.{Bool, true, false}
 use mathlib.Core.List.{List, [], _∷_}
 use mathlib.Core.Logic.{_⊎_, inl, inr, ⊎-elim}
 use mathlib.Core.Option.{none, some}
-use Prim.Native.Nat.{ℕ, zero, suc, _+_, _*_, _-_, _<_, _≤_, min}
+use Prim.Native.Nat.{ℕ, zero, suc, _+_, _-_, _<_, _≤_, min}
 use native.Mathlib.Nat.{sub-zero}
 use native.Mathlib.Omega.{arith}
 use borrow.Author.Tests.{eq-eqb, ne-eqb, le-leb, lt-leb, lt-ltb, le-ltb, leb-true, leb-false, ltb-true, ltb-false}
@@ -30,7 +30,7 @@ use Rattle.table.specs.Right.{numbered, nodeRight}
 use Rattle.table.specs.WellFormed.{wellFormed}
 use Rattle.table.specs.CheckedLaws.{nodes-are}
 use Rattle.binder.specs.AppendedLaws.{well-parts}
-use Rattle.table.specs.Links.{kindAt, keyAt}
+use Rattle.table.specs.Links.{kindAt, firstAt, secondAt, keyAt}
 use Rattle.table.specs.Waits.{waitsFrom}
 use Rattle.evaluator.specs.Frames.{startAt, startFrom}
 use Rattle.evaluator.specs.Working.{graph, applyAt}
@@ -105,7 +105,7 @@ nodes-same : (links cells now : List ℕ) (c : ℕ) → ((j : ℕ) → keyAt now
 unfolding nodeAt
 nodes-same links cells now c h =
     nodes-are links now 0 c
-    ∙ (λ t. numbered (λ j. record { kind = getD links (3 * j) 0; key = h j t; first = getD links (3 * j + 1) 0; second = getD links (3 * j + 2) 0 }) 0 c)
+    ∙ (λ t. numbered (λ j. record { kind = kindAt links j; key = h j t; first = firstAt links j; second = secondAt links j }) 0 c)
     ∙ sym (nodes-are links cells 0 c)
 
 count-zero : {A : Type 0} (p : A → Bool) (xs : List A) (i : ℕ) (x : A) → countIf p xs ≡ 0 → getElem? xs i ≡ some x → p x ≡ false

@@ -20,7 +20,8 @@ use Rattle.formulas.specs.Formulas.{formulas}
 use Rattle.bridge.specs.Graphs.{nodes, graph-laws}
 use Rattle.bridge.specs.Recorded.{formsOf, length-forms}
 use Rattle.demand.specs.Holds.{joined, markOf}
-use Rattle.demand.specs.Appended.{entries-length, unworked}
+use Rattle.binder.specs.AppendedLaws.{newEntry}
+use Rattle.demand.specs.Appended.{entries-length}
 
 -- lists that are equal number by number
 same-nth : {A : Type 0} (xs ys : List A) → ((i : ℕ) → getElem? xs i ≡ getElem? ys i) → xs ≡ ys
@@ -98,7 +99,7 @@ forms-joined (f ∷ fs) [] h = absurd (omega arith)
 forms-joined (f ∷ fs) (e ∷ es) h = ap (λ (l : List Form). f ∷ l) (forms-joined fs es (omega arith))
 
 pub joined-append : (fs gs : List Form) (es : List Entry) (ns : List Node) → length fs ≡ length es → length gs ≡ length ns
-    → joined (fs ++ gs) (es ++ map unworked ns) ≡ joined fs es ++ map (Model.unmarked formulas) gs
+    → joined (fs ++ gs) (es ++ map newEntry ns) ≡ joined fs es ++ map (Model.unmarked formulas) gs
 unfolding joined
 joined-append [] [] [] [] h k = refl
 joined-append [] [] [] (n ∷ ns) h k = refl

@@ -5,7 +5,7 @@ use mathlib.Core.Path.{_≡_, refl, sym, ap, _∙_, subst}
 use mathlib.Core.Bool.{true, false, not, _&&_, _||_, or-true}
 use mathlib.Core.List.{List}
 use mathlib.Core.Logic.{_⊎_, inl, inr}
-use Prim.Native.Nat.{ℕ, zero, suc, _+_, _*_, _-_, _<_, _≤_}
+use Prim.Native.Nat.{ℕ, zero, suc, _+_, _-_, _<_, _≤_}
 use native.Mathlib.Omega.{arith}
 use borrow.Author.Tests.{eq-eqb, ne-eqb, eqb-true, eqb-false, le-leb, leb-true, lt-ltb, le-ltb, ltb-true}
 use lib.Dec.{eqb, leb, ltb}
@@ -23,7 +23,8 @@ use Rattle.table.specs.RightLaws.{right-key, first-low, second-low, first-given
 use Rattle.table.specs.Checked.{keptOk}
 use Rattle.table.specs.CheckedLaws.{done-is}
 use Rattle.binder.specs.AppendedLaws.{Well, and-true, settled-later}
-use Rattle.table.specs.Links.{kindAt, firstAt, secondAt, keyAt, isBelow}
+use Rattle.table.specs.LinksLaws.{kept-length as keep-length, kept-key as keep-key, kept-apart as keep-apart, kept-here as keep-here}
+use Rattle.table.specs.Links.{kindAt, firstAt, secondAt, keyAt, valueAt, isBelow}
 use Rattle.table.specs.Waits.{waitsFrom}
 use Rattle.evaluator.specs.Frames.{startAt, startFrom}
 use Rattle.evaluator.specs.Working.{graph, applyAt}
@@ -39,7 +40,6 @@ use Rattle.demand.specs.Appended.{lengths}
 use Rattle.demand.specs.Accepted.{reading-small}
 use Rattle.demand.specs.WorkedOut.{isKept, workedOut, count-more}
 use Rattle.demand.specs.Starts.{start-length, start-at}
-use Rattle.demand.specs.Working.{keep-length, keep-other, keep-apart, keep-here}
 
 -- ---- as many cells as before
 
@@ -107,21 +107,21 @@ module _ (m : Memory) (f : fits m ≡ true) (well : Well m) (sound : All IsReadi
   recorded = let l = lengths m f .readings in let k = well .readings in length-take r (m .readings) ∙ omega arith
 
   -- an entry is done
-  done-as : (now : List ℕ) (j : ℕ) → (ltb j c && (not (leb 4 (kindAt links j)) || leb 1 (getD now (4 * j + 1) 0))) ≡ doneAt (entries now) j
-  done-as now j = done-is links now c j (kindAt links j) (getD now (4 * j + 1) 0) refl refl
+  done-as : (now : List ℕ) (j : ℕ) → (ltb j c && (not (leb 4 (kindAt links j)) || leb 1 (valueAt now j))) ≡ doneAt (entries now) j
+  done-as now j = done-is links now c j (kindAt links j) (valueAt now j) refl refl
 
   done-leaf : (now : List ℕ) (j : ℕ) → j < c → leb 4 (kindAt links j) ≡ false → doneAt (entries now) j ≡ true
   done-leaf now j l e = sym (done-as now j) ∙ rw (lt-ltb j c l, e)
 
-  done-kept : (now : List ℕ) (j : ℕ) → j < c → 1 ≤ getD now (4 * j + 1) 0 → doneAt (entries now) j ≡ true
-  done-kept now j l e = sym (done-as now j) ∙ rw (lt-ltb j c l, le-leb 1 (getD now (4 * j + 1) 0) e) (or-true (not (leb 4 (kindAt links j))))
+  done-kept : (now : List ℕ) (j : ℕ) → j < c → 1 ≤ valueAt now j → doneAt (entries now) j ≡ true
+  done-kept now j l e = sym (done-as now j) ∙ rw (lt-ltb j c l, le-leb 1 (valueAt now j) e) (or-true (not (leb 4 (kindAt links j))))
 
-  done-stays : (now then : List ℕ) → ((j : ℕ) → 1 ≤ getD now (4 * j + 1) 0 → 1 ≤ getD then (4 * j + 1) 0) → (j : ℕ) → doneAt (entries now) j ≡ true → doneAt (entries then) j ≡ true
+  done-stays : (now then : List ℕ) → ((j : ℕ) → 1 ≤ valueAt now j → 1 ≤ valueAt then j) → (j : ℕ) → doneAt (entries now) j ≡ true → doneAt (entries then) j ≡ true
   done-stays now then h j d =
       let b = both (ltb j c) _ (done-as now j ∙ d) in
       let l = ltb-true j c (b .0) in
       split (leb 4 (kindAt links j))
-      (λ e. done-kept then j l (h j (leb-true 1 (getD now (4 * j + 1) 0) (rw e at (b .1)))))
+      (λ e. done-kept then j l (h j (leb-true 1 (valueAt now j) (rw e at (b .1)))))
       (λ e. done-leaf then j l e)
 
   -- the cells so far
@@ -134,7 +134,7 @@ module _ (m : Memory) (f : fits m ≡ true) (well : Well m) (sound : All IsReadi
   record Framed (i : ℕ) (now frame : List ℕ) : Type 0 where
     size : length frame ≡ 512
     cells : Cells r frame
-    work : (j : ℕ) → j ≤ n → leb 4 (kindAt links j) ≡ true → getD frame j 0 ≡ getD now (4 * j + 1) 0
+    work : (j : ℕ) → j ≤ n → leb 4 (kindAt links j) ≡ true → getD frame j 0 ≡ valueAt now j
     done : (j : ℕ) → j < i → Flagged flags j → doneAt (entries now) j ≡ true
 
   node-key : (now : List ℕ) → ((j : ℕ) → keyAt now j ≡ keyAt (m .cells) j) → (j : ℕ) → nodeAt links now j ≡ nodeAt links (m .cells) j
@@ -173,7 +173,7 @@ module _ (m : Memory) (f : fits m ≡ true) (well : Well m) (sound : All IsReadi
       unfolding chosen
       works = both (leb 4 (kindAt links i)) _ (both (eqb (getD flags i 0) 1) _ h .1) .0
 
-      empty : getD now (4 * i + 1) 0 ≡ 0
+      empty : valueAt now i ≡ 0
       unfolding chosen
       empty = sym (g .work i most works) ∙ eqb-true (getD frame i 0) 0 (both (leb 4 (kindAt links i)) _ (both (eqb (getD flags i 0) 1) _ h .1) .1)
 
@@ -212,19 +212,19 @@ module _ (m : Memory) (f : fits m ≡ true) (well : Well m) (sound : All IsReadi
           let k = s .long in
           keep-here now i v name other (omega arith)
 
-      value-here : getD then (4 * i + 1) 0 ≡ v
+      value-here : valueAt then i ≡ v
       unfolding keptAt
       value-here = ap (λ (x : Kept). x .value) kept-here
 
-      value-apart : (j : ℕ) → (j ≡ i → ⊥) → getD then (4 * j + 1) 0 ≡ getD now (4 * j + 1) 0
+      value-apart : (j : ℕ) → (j ≡ i → ⊥) → valueAt then j ≡ valueAt now j
       unfolding keptAt
       value-apart j q = ap (λ (x : Kept). x .value) (keep-apart now i v name other j q)
 
-      stays : (j : ℕ) → 1 ≤ getD now (4 * j + 1) 0 → 1 ≤ getD then (4 * j + 1) 0
+      stays : (j : ℕ) → 1 ≤ valueAt now j → 1 ≤ valueAt then j
       stays j l = split (eqb j i) (λ e. let q = eqb-true j i e in absurd (let z = empty in let y = rw q at l in omega arith)) (λ e. rw (value-apart j (eqb-false j i e)) l)
 
       keys : (j : ℕ) → keyAt then j ≡ keyAt (m .cells) j
-      keys j = keep-other now i v name other (4 * j) (λ e. omega arith) (λ e. omega arith) (λ e. omega arith) ∙ s .keys j
+      keys j = keep-key now i v name other j ∙ s .keys j
 
       names : namesRight (record { value = v; name = name; other = other }) ≡ true
       unfolding nodeAt
@@ -316,10 +316,10 @@ module _ (m : Memory) (f : fits m ≡ true) (well : Well m) (sound : All IsReadi
   abbrev first : List ℕ
   first = startFrom (length xs) links (m .cells) (suc n) 0 (replicate 512 0)
 
-  kept-cell : (j : ℕ) → j < c → Cell r (getD (m .cells) (4 * j + 1) 0)
+  kept-cell : (j : ℕ) → j < c → Cell r (valueAt (m .cells) j)
   unfolding keptOk keptRight keptAt
   kept-cell j l =
-      let x = getD (m .cells) (4 * j + 1) 0 in
+      let x = valueAt (m .cells) j in
       let k = both (settled (entries (m .cells)) (entryAt links (m .cells) j)) _ (well .kept j l) .1 in
       let b = both (namesRight (keptAt (m .cells) j)) _ k .1 in
       split (eqb x 0) (λ e. inl (eqb-true x 0 e)) (λ e. inr (both (leb 4 (nodeAt links (m .cells) j .kind)) _ (rw e at b) .1))

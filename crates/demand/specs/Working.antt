@@ -22,10 +22,11 @@ use Rattle.model.specs.Model as Model
 use Rattle.model.specs.Previews as Previews
 use Rattle.model.specs.Previews.{markAt, upward, chosenFrom}
 use Rattle.table.specs.Memory.{Kept, keptAt, entriesFrom, nothingKept}
-use Rattle.table.specs.Links.{kindAt, keyAt}
+use Rattle.table.specs.Links.{entryCells, kindAt, keyAt, valueAt}
+use Rattle.table.specs.LinksLaws.{kept-length as keep-length, kept-key as keep-key, kept-apart as keep-apart, kept-here as keep-here}
 use Rattle.table.specs.Waits.{slotA, slotB}
 use Rattle.evaluator.specs.Working.{graph, applyAt}
-use Rattle.scheduler.specs.Works.{chosen, nameFor, otherFor, keepOf, kept, workFrom}
+use Rattle.scheduler.specs.Works.{chosen, nameFor, otherFor, kept, workFrom}
 use Rattle.refine.specs.Shows.{slotNames}
 use Rattle.refine.specs.Tables.{Good, Link, Sees, here, down, kept-entry}
 use Rattle.refine.specs.Meaning.{apply-right}
@@ -97,52 +98,11 @@ joined-mark (f ∷ fs) links cells now p (suc k) (suc i) v l h e o =
     let z : p + suc i ≡ suc p + i = omega arith in
     λ t. record { form = f; mark = markOf (o p (λ u. omega arith) t) } ∷ joined-mark fs links cells now (suc p) k i v (omega arith) (omega arith) (rw z at e) (λ j g. o j (λ u. g (omega arith))) t
 
--- the cells of one entry set
-module _ (cells : List ℕ) (i c name other : ℕ) where
-  abbrev one : List ℕ
-  one = set cells (4 * i + 1) c
-
-  abbrev two : List ℕ
-  two = set one (4 * i + 2) name
-
-  abbrev after : List ℕ
-  after = keepOf cells i c name other
-
-  pub keep-length : length after ≡ length cells
-  unfolding keepOf
-  keep-length = simp length-set
-
-  pub keep-other : (j : ℕ) → (j ≡ 4 * i + 1 → ⊥) → (j ≡ 4 * i + 2 → ⊥) → (j ≡ 4 * i + 3 → ⊥) → getD after j 0 ≡ getD cells j 0
-  unfolding keepOf
-  keep-other j p q r = getD-set-other two (4 * i + 3) j other 0 r ∙ getD-set-other one (4 * i + 2) j name 0 q ∙ getD-set-other cells (4 * i + 1) j c 0 p
-
-  pub keep-apart : (j : ℕ) → (j ≡ i → ⊥) → keptAt after j ≡ keptAt cells j
-  unfolding keptAt
-  keep-apart j h =
-      λ t.
-      record {
-        value = keep-other (4 * j + 1) (λ e. h (omega arith)) (λ e. omega arith) (λ e. omega arith) t;
-        name = keep-other (4 * j + 2) (λ e. omega arith) (λ e. h (omega arith)) (λ e. omega arith) t;
-        other = keep-other (4 * j + 3) (λ e. omega arith) (λ e. omega arith) (λ e. h (omega arith)) t;
-      }
-
-  pub keep-here : 4 * i + 3 < length cells → keptAt after i ≡ record { value = c; name = name; other = other }
-  unfolding keepOf keptAt
-  keep-here h =
-      let a = length-set cells (4 * i + 1) c in
-      let b = length-set one (4 * i + 2) name in
-      λ t.
-      record {
-        value = (getD-set-other two (4 * i + 3) (4 * i + 1) other 0 (λ e. omega arith) ∙ getD-set-other one (4 * i + 2) (4 * i + 1) name 0 (λ e. omega arith) ∙ getD-set-same cells (4 * i + 1) c 0 (omega arith)) t;
-        name = (getD-set-other two (4 * i + 3) (4 * i + 2) other 0 (λ e. omega arith) ∙ getD-set-same one (4 * i + 2) name 0 (omega arith)) t;
-        other = getD-set-same two (4 * i + 3) other 0 (omega arith) t;
-      }
-
 -- what a preview of entry n, of c entries that stand for the forms fs, is given
 pub record Ready (links cells waits flags : List ℕ) (xs : List ℤ) (fs : List Form) (c n : ℕ) (flag : ℕ → Bool) : Type 0 where
   pub size : length fs ≡ c
   pub inside : n < c
-  pub room : 4 * c ≤ length cells
+  pub room : entryCells * c ≤ length cells
   pub good : Good links cells waits xs (suc n) (formAt fs)
   pub names : (i : ℕ) → i ≤ n → slotNames cells (getD waits i 0) ≡ awaited (formAt fs i)
   pub full : (i : ℕ) → i ≤ n → leb 1 (slotA (getD waits i 0)) ≡ false → leb 1 (slotB (getD waits i 0)) ≡ false
@@ -163,7 +123,7 @@ pub record Stored (cells : List ℕ) (xs : List ℤ) (fs : List Form) (c : ℕ) 
 pub record Framed (links : List ℕ) (xs : List ℤ) (fs : List Form) (n : ℕ) (flag : ℕ → Bool) (i : ℕ) (now frame : List ℕ) : Type 0 where
   pub size : length frame ≡ 512
   pub leaf : (j : ℕ) → j ≤ n → kindAt links j < 4 → getD frame j 0 ≡ cellAt xs fs j
-  pub work : (j : ℕ) → j ≤ n → 4 ≤ kindAt links j → getD frame j 0 ≡ getD now (4 * j + 1) 0
+  pub work : (j : ℕ) → j ≤ n → 4 ≤ kindAt links j → getD frame j 0 ≡ valueAt now j
   pub done : (j : ℕ) → j < i → flag j ≡ true → getD frame j 0 ≡ cellAt xs fs j
 
 -- the loop
@@ -193,13 +153,13 @@ module _ (links cells waits flags : List ℕ) (xs : List ℤ) (fs : List Form) (
   neither false true = refl
   neither false false = refl
 
-  chosen-same : (i : ℕ) (now frame : List ℕ) → i ≤ n → ((4 ≤ kindAt links i) → getD frame i 0 ≡ getD now (4 * i + 1) 0) → chosen links flags frame i ≡ picks now i
+  chosen-same : (i : ℕ) (now frame : List ℕ) → i ≤ n → ((4 ≤ kindAt links i) → getD frame i 0 ≡ valueAt now i) → chosen links flags frame i ≡ picks now i
   unfolding chosen keptAt
   chosen-same i now frame h e =
       let l = ready .inside in
       rw (held-nth links fs c now i (ready .size) (omega arith), ready .told i, ready .works i (omega arith))
       (split (leb 4 (kindAt links i))
-      (λ p. rw (p, e (leb-true 4 (kindAt links i) p)) (swap (flag i) (eqb (getD now (4 * i + 1) 0) 0) _))
+      (λ p. rw (p, e (leb-true 4 (kindAt links i) p)) (swap (flag i) (eqb (valueAt now i) 0) _))
       (λ p. rw p (neither (flag i) (not (isSome (markOf (keptAt now i)))))))
 
   -- what a flagged entry sees is flagged
@@ -208,9 +168,9 @@ module _ (links cells waits flags : List ℕ) (xs : List ℤ) (fs : List Form) (
   seen i m h (down _ d _ l s up) f = let low = l .0 in seen d m (omega arith) s (ready .closed i d h l f)
 
   -- what is kept of an entry is its value
-  kept-value : (i : ℕ) (now : List ℕ) → eqb (getD now (4 * i + 1) 0) 0 ≡ false → (keptAt now i ≡ nothingKept) ⊎ (keptAt now i ≡ keptFor (shownAt xs fs i)) → getD now (4 * i + 1) 0 ≡ cellAt xs fs i
+  kept-value : (i : ℕ) (now : List ℕ) → eqb (valueAt now i) 0 ≡ false → (keptAt now i ≡ nothingKept) ⊎ (keptAt now i ≡ keptFor (shownAt xs fs i)) → valueAt now i ≡ cellAt xs fs i
   unfolding keptAt
-  kept-value i now z (inl e) = absurd (eqb-false (getD now (4 * i + 1) 0) 0 z (ap (λ (x : Kept). x .value) e))
+  kept-value i now z (inl e) = absurd (eqb-false (valueAt now i) 0 z (ap (λ (x : Kept). x .value) e))
   kept-value i now z (inr e) = ap (λ (x : Kept). x .value) e ∙ shown-value xs (φ i)
 
   module _ (i : ℕ) (now frame : List ℕ) (most : i ≤ n) (s : Keeping now) (g : Going i now frame) where
@@ -272,7 +232,7 @@ module _ (links cells waits flags : List ℕ) (xs : List ℤ) (fs : List Form) (
       stored =
           record {
             long = keep-length now i v (nameFor now i v (getD waits i 0)) (otherFor now v (getD waits i 0)) ∙ s .long;
-            keys = λ j. keep-other now i v (nameFor now i v (getD waits i 0)) (otherFor now v (getD waits i 0)) (4 * j) (λ e. omega arith) (λ e. omega arith) (λ e. omega arith) ∙ s .keys j;
+            keys = λ j. keep-key now i v (nameFor now i v (getD waits i 0)) (otherFor now v (getD waits i 0)) j ∙ s .keys j;
             kept = λ j l.
                 split (eqb j i)
                 (λ e. let q = eqb-true j i e in rw q (inr kept-here))
@@ -332,7 +292,7 @@ module _ (links cells waits flags : List ℕ) (xs : List ℤ) (fs : List Form) (
       (loop a k (suc i) now frame count (omega arith) h s (passed i now frame (omega arith) s g p)))
 
   -- how many entries are chosen
-  pub counts : (k i : ℕ) (now frame : List ℕ) → i + k ≡ suc n → ((j : ℕ) → j ≤ n → 4 ≤ kindAt links j → getD frame j 0 ≡ getD now (4 * j + 1) 0)
+  pub counts : (k i : ℕ) (now frame : List ℕ) → i + k ≡ suc n → ((j : ℕ) → j ≤ n → 4 ≤ kindAt links j → getD frame j 0 ≡ valueAt now j)
       → chosenIn links flags frame k i ≡ chosenFrom formulas flag k i (held links fs c now)
   unfolding chosenIn chosenFrom
   counts zero i now frame e w = refl

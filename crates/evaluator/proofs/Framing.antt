@@ -2,43 +2,47 @@
 use mathlib.Core.Path.{_≡_, sym, _∙_}
 use mathlib.Core.Bool.{Bool, true, false}
 use mathlib.Core.List.{List}
-use Prim.Native.Nat.{ℕ, suc, _+_, _*_, _-_, _/_, _%_, _≤_, _<_}
+use Prim.Native.Nat.{ℕ, suc, _+_, _-_, _/_, _%_, _≤_, _<_}
 use native.Mathlib.Omega.{arith}
 use native.Mathlib.Numerals.{add-one}
 use borrow.Author.Needs.{needs}
 use borrow.Author.Tests.{lt-ltb, le-ltb, le-leb, lt-leb, ne-eqb}
 use lib.Dec.{eqb}
 use lib.ListN.{length, getD, set, List·getD-eq-default}
+use Rattle.language.specs.Limits.{tableEntries}
+use Rattle.values.specs.Values.{unboundName}
 use Rattle.values.specs.Packing.{windowCell, functionCell, delayedCell, missingCell}
+use Rattle.table.specs.Links.{kindAt, keyAt, valueAt}
+use Rattle.table.specs.Nodes.{numberKind, variableKind, unboundKind, functionKind}
 use Rattle.evaluator.specs.Frames.{leafOf, startAt, startFrom, bound, isUnset, isOpen, functionOf}
 
 pub past : (l : List ℕ) (k : ℕ) → length l ≤ k → 0 ≡ getD l k 0
 past l k h = sym (List·getD-eq-default l 0 {n = k} h)
 
 module _ (size kind key : ℕ) where
-  pub leaf-number : kind ≡ 0 → key % 4294967296 + 1 ≡ leafOf size kind key
+  pub leaf-number : kind ≡ numberKind → key % 4294967296 + 1 ≡ leafOf size kind key
   unfolding leafOf
   leaf-number h = rw h
 
-  pub leaf-variable : (kind ≡ 0 → ⊥) → kind ≡ 1 → delayedCell ≡ leafOf size kind key
+  pub leaf-variable : (kind ≡ numberKind → ⊥) → kind ≡ variableKind → delayedCell ≡ leafOf size kind key
   unfolding leafOf
   leaf-variable n h = rw h
 
-  module _ (n : kind ≡ 0 → ⊥) (m : kind ≡ 1 → ⊥) where
-    pub leaf-unbound : kind ≡ 2 → missingCell + 1 ≡ leafOf size kind key
+  module _ (n : kind ≡ numberKind → ⊥) (m : kind ≡ variableKind → ⊥) where
+    pub leaf-unbound : kind ≡ unboundKind → missingCell + unboundName ≡ leafOf size kind key
     unfolding leafOf
     leaf-unbound h = rw h
 
-    pub leaf-readings : (kind ≡ 2 → ⊥) → windowCell + size ≡ leafOf size kind key
+    pub leaf-readings : (kind ≡ unboundKind → ⊥) → windowCell + size ≡ leafOf size kind key
     unfolding leafOf
     leaf-readings h = rw (ne-eqb _ _ n, ne-eqb _ _ m, ne-eqb _ _ h)
 
-module _ (size : ℕ) (links cells : List ℕ) (i kind : ℕ) (e : kind ≡ getD links (3 * i) 0) where
-  pub start-leaf : kind < 4 → (key r : ℕ) → key ≡ getD cells (4 * i) 0 → r ≡ leafOf size kind key → r ≡ startAt size links cells i
+module _ (size : ℕ) (links cells : List ℕ) (i kind : ℕ) (e : kind ≡ kindAt links i) where
+  pub start-leaf : kind < functionKind → (key r : ℕ) → key ≡ keyAt cells i → r ≡ leafOf size kind key → r ≡ startAt size links cells i
   unfolding startAt
   start-leaf h key r k d = rw (← e, lt-ltb _ _ h, ← k) d
 
-  pub start-kept : 4 ≤ kind → (r : ℕ) → r ≡ getD cells (4 * i + 1) 0 → r ≡ startAt size links cells i
+  pub start-kept : functionKind ≤ kind → (r : ℕ) → r ≡ valueAt cells i → r ≡ startAt size links cells i
   unfolding startAt
   start-kept h r d = rw (← e, le-ltb _ _ h) d
 
@@ -60,11 +64,11 @@ module _ (frame : List ℕ) (v : ℕ) where
   unfolding bound
   bound-no c h = rw (lt-leb _ _ h)
 
-  pub unset-is : 1 ≤ v → v ≤ 512 → eqb (getD frame (v - 1) 0) delayedCell ≡ isUnset frame v
+  pub unset-is : 1 ≤ v → v ≤ tableEntries → eqb (getD frame (v - 1) 0) delayedCell ≡ isUnset frame v
   unfolding isUnset
   unset-is h k = rw (le-leb _ _ h, le-leb _ _ k)
 
-  pub unset-far : 1 ≤ v → 512 < v → false ≡ isUnset frame v
+  pub unset-far : 1 ≤ v → tableEntries < v → false ≡ isUnset frame v
   unfolding isUnset
   unset-far h k = rw (le-leb _ _ h, lt-leb _ _ k)
 

@@ -1,15 +1,15 @@
 -- The steps of planning an entry, each over plain numbers, values and lists. Assumes nothing.
 use mathlib.Core.Path.{_≡_, refl, sym, ap, _∙_, subst}
 use mathlib.Core.Bool.{Bool, true, false, _&&_}
-use mathlib.Core.List.{List, [], _∷_}
-use Prim.Native.Nat.{ℕ, zero, suc, _+_, _*_, _-_, _≤_, _<_}
+use mathlib.Core.List.{List}
+use Prim.Native.Nat.{ℕ, _+_, _-_, _≤_, _<_}
 use native.Mathlib.Omega.{arith}
 use borrow.Author.Needs.{needs}
 use borrow.Author.Tests.{lt-ltb, le-ltb, le-leb, lt-leb, eq-eqb, ne-eqb}
 use lib.Dec.{T, ltb}
 use lib.IntN.{ℤ, pos}
 use lib.ListN.{length, getD, length-take, length-drop, List·getD-eq-default}
-use Rattle.language.specs.Members.{members, foundIn, memberAt}
+use Rattle.language.specs.Limits.{tableEntries}
 use Rattle.language.specs.declared.members.Member.{Member}
 use Rattle.language.specs.declared.members.Found.{Found}
 use Rattle.language.specs.declared.members.Found.the-variants.{Is, Unknown}
@@ -22,32 +22,14 @@ use Rattle.values.specs.Windows.{readingsIn}
 use Rattle.values.specs.Apply.{apply0}
 use Rattle.values.specs.Applied.{applied1}
 use Rattle.values.specs.Tallies.{stepped, finished, Steps}
-use Rattle.values.specs.Packing.{packOf, unpackOf, windowCell}
-use Rattle.table.specs.Nodes.{memberOfKind}
+use Rattle.values.specs.Packing.{packOf, unpackOf, windowCell, wrongCell}
+use Rattle.table.specs.Nodes.{functionKind, memberOfKind}
 use Rattle.evaluator.specs.declared.working.Task.{Task}
-use Rattle.table.specs.Links.{isBelow}
+use Rattle.table.specs.Links.{kindAt, firstAt, secondAt, isBelow}
 use Rattle.table.specs.Waits.{ownOf}
 use Rattle.evaluator.specs.Frames.{functionOf}
 use Rattle.evaluator.proofs.Numbers.{both-numbers}
-use Rattle.evaluator.specs.Working.{graph, wrongCell, boundedOf, askOf, callOf, doneOf, taskOf, judgeOf, runOf, followOf, planOf, Planned, concludeOf, Bounds, Tallied}
-
--- ---- the member of a kind
-past-all : (ms : List Member) (n : ℕ) → length ms ≤ n → foundIn ms n ≡ Unknown
-past-all [] n h = refl
-past-all (m ∷ ms) zero h = absurd (omega arith)
-past-all (m ∷ ms) (suc n) h = past-all ms n (omega arith)
-
-pub member-low : (kind : ℕ) → kind < 5 → Unknown ≡ memberOfKind kind
-unfolding memberOfKind
-member-low kind h = rw (lt-ltb _ _ h)
-
-pub member-high : (kind : ℕ) → 5 ≤ kind → 20 < kind → Unknown ≡ memberOfKind kind
-unfolding memberOfKind memberAt
-member-high kind h k = rw (le-ltb _ _ h) (sym (past-all members (kind - 5) (omega arith)))
-
-pub member-is : (kind : ℕ) (r : Found) → 5 ≤ kind → r ≡ memberAt (kind - 5) → r ≡ memberOfKind kind
-unfolding memberOfKind
-member-is kind r h e = rw (le-ltb _ _ h) e
+use Rattle.evaluator.specs.Working.{graph, boundedOf, askOf, callOf, doneOf, taskOf, judgeOf, runOf, followOf, planOf, Planned, concludeOf, Bounds, Tallied}
 
 -- ---- receivers
 module _ (v : Value) where
@@ -103,7 +85,7 @@ module _ (k r : Found) (f : r ≡ k) (t : Tally) where
   conclude-is m c v e p q = rw (sym f ∙ e) (q ∙ ap packOf p)
 
 -- ---- tasks
-pub task-right : (i kind s l body v : ℕ) (r : Task) → r ≡ taskOf kind s l body v → body < i → v ≤ 512 → r .done ≡ false → Planned i r
+pub task-right : (i kind s l body v : ℕ) (r : Task) → r ≡ taskOf kind s l body v → body < i → v ≤ tableEntries → r .done ≡ false → Planned i r
 task-right i kind s l body v r e h k d = rw e (record { below = h; variable = k })
 
 pub done-right : (i c : ℕ) (r : Task) → r ≡ doneOf c → r .done ≡ false → Planned i r
@@ -113,11 +95,11 @@ pub lower-right : (i f : ℕ) (r : Task) → f ≤ i → (r .done ≡ false → 
 lower-right i f r h p d = record { below = omega (arith, p d .below); variable = p d .variable }
 
 module _ (waits frame : List ℕ) (i body a v : ℕ) (e : v ≡ ownOf (getD waits body 0) (getD waits i 0)) where
-  pub judge-body : (r : Task) → 1 ≤ v → v ≤ 512 → r ≡ taskOf 4 0 0 body v → r ≡ judgeOf waits frame i body a
+  pub judge-body : (r : Task) → 1 ≤ v → v ≤ tableEntries → r ≡ taskOf functionKind 0 0 body v → r ≡ judgeOf waits frame i body a
   unfolding judgeOf
   judge-body r h k d = rw (← e, le-leb _ _ h, le-leb _ _ k) d
 
-  pub judge-far : (r : Task) → 1 ≤ v → 512 < v → r ≡ doneOf wrongCell → r ≡ judgeOf waits frame i body a
+  pub judge-far : (r : Task) → 1 ≤ v → tableEntries < v → r ≡ doneOf wrongCell → r ≡ judgeOf waits frame i body a
   unfolding judgeOf
   judge-far r h k d = rw (← e, le-leb _ _ h, lt-leb _ _ k) d
 
@@ -125,22 +107,22 @@ module _ (waits frame : List ℕ) (i body a v : ℕ) (e : v ≡ ownOf (getD wait
   unfolding judgeOf
   judge-done r c h k d = rw (← e, lt-leb _ _ h, ← k) d
 
-module _ (links waits : List ℕ) (f kind s l k : ℕ) (e : k ≡ getD links (3 * f) 0) (r : Task) where
-  pub run-other : (k ≡ 4 → ⊥) → r ≡ doneOf wrongCell → r ≡ runOf links waits f kind s l
+module _ (links waits : List ℕ) (f kind s l k : ℕ) (e : k ≡ kindAt links f) (r : Task) where
+  pub run-other : (k ≡ functionKind → ⊥) → r ≡ doneOf wrongCell → r ≡ runOf links waits f kind s l
   unfolding runOf
   run-other h d = rw (← e, ne-eqb _ _ h) d
 
-  module _ (h : k ≡ 4) (first : ℕ) (p : first ≡ getD links (3 * f + 1) 0) (b : Bool) (q : b ≡ isBelow first f) where
+  module _ (h : k ≡ functionKind) (first : ℕ) (p : first ≡ firstAt links f) (b : Bool) (q : b ≡ isBelow first f) where
     pub run-wild : b ≡ false → r ≡ doneOf wrongCell → r ≡ runOf links waits f kind s l
     unfolding runOf
     run-wild t d = rw (← e, eq-eqb _ _ h, ← p, sym q ∙ t) d
 
     module _ (t : b ≡ true) (v : ℕ) (o : v ≡ ownOf (getD waits (first - 1) 0) (getD waits f 0)) where
-      pub run-far : 512 < v → r ≡ doneOf wrongCell → r ≡ runOf links waits f kind s l
+      pub run-far : tableEntries < v → r ≡ doneOf wrongCell → r ≡ runOf links waits f kind s l
       unfolding runOf
       run-far n d = rw (← e, eq-eqb _ _ h, ← p, sym q ∙ t, ← o, lt-leb _ _ n) d
 
-      pub run-body : v ≤ 512 → r ≡ taskOf kind s l (first - 1) v → r ≡ runOf links waits f kind s l
+      pub run-body : v ≤ tableEntries → r ≡ taskOf kind s l (first - 1) v → r ≡ runOf links waits f kind s l
       unfolding runOf
       run-body n d = rw (← e, eq-eqb _ _ h, ← p, sym q ∙ t, ← o, le-leb _ _ n) d
 
@@ -154,25 +136,25 @@ module _ (links waits : List ℕ) (f kind : ℕ) (a : Applied) (r : Task) where
   follow-run s l e d = rw e d
 
 -- ---- the plan
-module _ (links waits : List ℕ) (xs : List ℤ) (frame : List ℕ) (i kind : ℕ) (e : kind ≡ getD links (3 * i) 0) (r : Task) where
+module _ (links waits : List ℕ) (xs : List ℤ) (frame : List ℕ) (i kind : ℕ) (e : kind ≡ kindAt links i) (r : Task) where
   abbrev Plans : Type 0
   Plans = r ≡ planOf (graph links waits xs) frame i
 
-  pub plan-leaf : kind < 4 → r ≡ doneOf (getD frame i 0) → Plans
+  pub plan-leaf : kind < functionKind → r ≡ doneOf (getD frame i 0) → Plans
   unfolding planOf
   plan-leaf h d = rw (← e, lt-ltb _ _ h) d
 
-  module _ (h : 4 ≤ kind) (first : ℕ) (p : first ≡ getD links (3 * i + 1) 0) (b : Bool) (q : b ≡ isBelow first i) where
+  module _ (h : functionKind ≤ kind) (first : ℕ) (p : first ≡ firstAt links i) (b : Bool) (q : b ≡ isBelow first i) where
     pub plan-wild : b ≡ false → r ≡ doneOf wrongCell → Plans
     unfolding planOf
     plan-wild t d = rw (← e, le-ltb _ _ h, ← p, sym q ∙ t) d
 
     module _ (t : b ≡ true) where
-      pub plan-function : kind ≡ 4 → r ≡ judgeOf waits frame i (first - 1) (getD frame (first - 1) 0) → Plans
+      pub plan-function : kind ≡ functionKind → r ≡ judgeOf waits frame i (first - 1) (getD frame (first - 1) 0) → Plans
       unfolding planOf
       plan-function k d = rw (← e, le-ltb _ _ h, ← p, sym q ∙ t, eq-eqb _ _ k) d
 
-      module _ (k : kind ≡ 4 → ⊥) (second : ℕ) (p′ : second ≡ getD links (3 * i + 2) 0) (b′ : Bool) (q′ : b′ ≡ isBelow second i) where
+      module _ (k : kind ≡ functionKind → ⊥) (second : ℕ) (p′ : second ≡ secondAt links i) (b′ : Bool) (q′ : b′ ≡ isBelow second i) where
         pub plan-ask : (c : ℕ) → b′ ≡ false → c ≡ askOf (memberOfKind kind) xs (getD frame (first - 1) 0) → r ≡ doneOf c → Plans
         unfolding planOf
         plan-ask c t′ o d = rw (← e, le-ltb _ _ h, ← p, sym q ∙ t, ne-eqb _ _ k, ← p′, sym q′ ∙ t′, ← o) d
@@ -206,4 +188,4 @@ reading-past xs k c h e = e ∙ ap (λ (z : ℤ). packOf (Number z)) (sym (List�
 pub tally-is : (t : Tally) (c : ℕ) (v : Value) (r : Tally) → v ≡ unpackOf c → Steps t v r → Tallied t c r
 tally-is t c v r e s = record { same = s .same ∙ ap (stepped t) e; bound = s .bound }
 
-pub ruleset planning = (needs, member-low, member-high, member-is, bounds-window, bounds-far, bounds-number, bounds-function, bounds-delayed, bounds-missing, ask-none, ask-is, call-none, call-is, conclude-none, conclude-is, task-right, done-right, lower-right, judge-body, judge-far, judge-done, run-other, run-wild, run-far, run-body, follow-done, follow-run, plan-leaf, plan-wild, plan-function, plan-ask, plan-call, plan-numbers, count-none, count-rest, count-all, reading-past, tally-is)
+pub ruleset planning = (needs, bounds-window, bounds-far, bounds-number, bounds-function, bounds-delayed, bounds-missing, ask-none, ask-is, call-none, call-is, conclude-none, conclude-is, task-right, done-right, lower-right, judge-body, judge-far, judge-done, run-other, run-wild, run-far, run-body, follow-done, follow-run, plan-leaf, plan-wild, plan-function, plan-ask, plan-call, plan-numbers, count-none, count-rest, count-all, reading-past, tally-is)

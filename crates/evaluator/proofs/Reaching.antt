@@ -2,7 +2,7 @@
 use mathlib.Core.Path.{_≡_, sym, ap, _∙_}
 use mathlib.Core.Bool.{Bool, true, false, cond, not}
 use mathlib.Core.List.{List, _∷_}
-use Prim.Native.Nat.{ℕ, suc, _+_, _*_, _-_, _≤_, _<_}
+use Prim.Native.Nat.{ℕ, suc, _+_, _-_, _≤_, _<_}
 use native.Mathlib.Omega.{arith}
 use native.Mathlib.Numerals.{add-one}
 use borrow.Author.Needs.{needs}
@@ -10,7 +10,8 @@ use borrow.Author.Tests.{eq-eqb, ne-eqb}
 use lib.Dec.{eqb}
 use lib.ListN.{length, getD, set, replicate, drop, length-set, drop-of-length-le}
 use lib.Seq.{drop-cons, drop-set-lt, getD-set-same}
-use Rattle.table.specs.Links.{isBelow}
+use Rattle.language.specs.Limits.{tableEntries}
+use Rattle.table.specs.Links.{firstAt, secondAt, isBelow}
 use Rattle.table.specs.Waits.{awaits}
 use Rattle.evaluator.specs.Reach.{moves, flagged, spread, gatherFrom, gathered}
 
@@ -35,7 +36,7 @@ module _ (waits : List ℕ) (v j link : ℕ) (flags : List ℕ) (r : Bool) (e : 
     unfolding flagged
     flag-no u = rw (sym e ∙ t, sym d ∙ u)
 
-pub spread-is : (links waits : List ℕ) (v j a b : ℕ) (flags one two : List ℕ) → a ≡ getD links (3 * j + 1) 0 → b ≡ getD links (3 * j + 2) 0
+pub spread-is : (links waits : List ℕ) (v j a b : ℕ) (flags one two : List ℕ) → a ≡ firstAt links j → b ≡ secondAt links j
     → one ≡ flagged waits v j a flags → two ≡ flagged waits v j b one → two ≡ spread links waits v j flags
 unfolding spread
 spread-is links waits v j a b flags one two p q e d = rw (← p, ← q, ← e) d
@@ -66,22 +67,22 @@ pub gather-end : (links waits : List ℕ) (v j at : ℕ) (flags list : List ℕ)
 unfolding gatherFrom
 gather-end links waits v j at flags list h inv = let q : j ≡ 0 = omega arith in rw q at inv
 
-pub gather-begin : (links waits : List ℕ) (v body : ℕ) (list : List ℕ) (r : Bool) → length list ≡ 512 → r ≡ moves waits v body → r ≡ true
-    → gatherFrom links waits v (body + 1) (set (replicate 512 0) body 1) (drop 512 list) ≡ gathered links waits v body
+pub gather-begin : (links waits : List ℕ) (v body : ℕ) (list : List ℕ) (r : Bool) → length list ≡ tableEntries → r ≡ moves waits v body → r ≡ true
+    → gatherFrom links waits v (body + 1) (set (replicate tableEntries 0) body 1) (drop tableEntries list) ≡ gathered links waits v body
 unfolding gathered
-gather-begin links waits v body list r l e t = rw (sym e ∙ t, add-one) (ap (gatherFrom links waits v (suc body) (set (replicate 512 0) body 1)) (drop-of-length-le list {i = 512} (omega arith)))
+gather-begin links waits v body list r l e t = rw (sym e ∙ t, add-one) (ap (gatherFrom links waits v (suc body) (set (replicate tableEntries 0) body 1)) (drop-of-length-le list {i = tableEntries} (omega arith)))
 
-pub gather-none : (links waits : List ℕ) (v body : ℕ) (list : List ℕ) (r : Bool) → length list ≡ 512 → r ≡ moves waits v body → r ≡ false
-    → drop 512 list ≡ gathered links waits v body
+pub gather-none : (links waits : List ℕ) (v body : ℕ) (list : List ℕ) (r : Bool) → length list ≡ tableEntries → r ≡ moves waits v body → r ≡ false
+    → drop tableEntries list ≡ gathered links waits v body
 unfolding gathered
-gather-none links waits v body list r l e t = rw (sym e ∙ t) (drop-of-length-le list {i = 512} (omega arith))
+gather-none links waits v body list r l e t = rw (sym e ∙ t) (drop-of-length-le list {i = tableEntries} (omega arith))
 
 -- the sweep before entry j - 1: its place in the list, and what it still has to give
 pub record Sweeps (links waits : List ℕ) (v body : ℕ) (list : List ℕ) (at : ℕ) (flags : List ℕ) (j : ℕ) : Type 0 where
   pub low : j ≤ body + 1
   pub room : j ≤ at
-  pub within : at ≤ 512
-  pub size : length list ≡ 512
+  pub within : at ≤ tableEntries
+  pub size : length list ≡ tableEntries
   pub same : gatherFrom links waits v j flags (drop at list) ≡ gathered links waits v body
 
 pub length-kept : (l : List ℕ) (k v n : ℕ) → length l ≡ n → length (set l k v) ≡ n

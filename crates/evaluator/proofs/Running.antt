@@ -10,6 +10,7 @@ use borrow.Author.Tests.{le-leb, lt-leb, eq-eqb, ne-eqb}
 use lib.IntN.{ℤ, pos}
 use lib.ListN.{length, getD, set, drop, length-take, drop-of-length-le}
 use lib.Seq.{drop-cons, getD-take, getD-drop}
+use Rattle.language.specs.Limits.{tableEntries}
 use Rattle.values.specs.declared.Value.the-variants.{Number}
 use Rattle.values.specs.declared.runs.Tally.{Tally}
 use Rattle.values.specs.Packing.{packOf, delayedCell}
@@ -93,26 +94,26 @@ module _ (g : Graph) (body v : ℕ) (list frame : List ℕ) (s l : ℕ) (local :
 -- the work on a list before place k: what is left of it gives the same frame
 pub record Works (g : Graph) (body : ℕ) (list : List ℕ) (at : ℕ) (begins frame : List ℕ) (k : ℕ) : Type 0 where
   pub past : at ≤ k
-  pub within : k ≤ 512
+  pub within : k ≤ tableEntries
   pub same : (f : ℕ) → body < f → fillOf (applyAt g f) (body + 1) (drop at list) begins ≡ fillOf (applyAt g f) (body + 1) (drop k list) frame
 
-module _ (g : Graph) (body : ℕ) (list : List ℕ) (at v c : ℕ) (before begins frame : List ℕ) (k : ℕ) (size : length list ≡ 512) (work : Works g body list at begins frame k)
+module _ (g : Graph) (body : ℕ) (list : List ℕ) (at v c : ℕ) (before begins frame : List ℕ) (k : ℕ) (size : length list ≡ tableEntries) (work : Works g body list at begins frame k)
     (b : begins ≡ bound before v c) where
   begun-same : (f : ℕ) → body < f → setOf (applyAt g f) (body + 1) (drop at list) v c before ≡ fillOf (applyAt g f) (body + 1) (drop k list) frame
   begun-same f l = ap (fillOf (applyAt g f) (body + 1) (drop at list)) (sym b) ∙ work .same f l
 
-  left-list : k < 512 → drop k list ≡ getD list k 0 ∷ drop (k + 1) list
+  left-list : k < tableEntries → drop k list ≡ getD list k 0 ∷ drop (k + 1) list
   left-list h = rw add-one (drop-cons list k 0 (omega arith))
 
-  pub works-stop : k < 512 → body + 1 ≤ getD list k 0 → Fills g body (drop at list) v c before frame (getD frame body 0)
+  pub works-stop : k < tableEntries → body + 1 ≤ getD list k 0 → Fills g body (drop at list) v c before frame (getD frame body 0)
   unfolding fillOf
   works-stop h m = record { same = λ f l. begun-same f l ∙ ap (λ (js : List ℕ). fillOf (applyAt g f) (body + 1) js frame) (left-list h) ∙ rw (le-leb _ _ m); value = refl }
 
-  pub works-end : 512 ≤ k → Fills g body (drop at list) v c before frame (getD frame body 0)
+  pub works-end : tableEntries ≤ k → Fills g body (drop at list) v c before frame (getD frame body 0)
   unfolding fillOf
   works-end h = record { same = λ f l. begun-same f l ∙ ap (λ (js : List ℕ). fillOf (applyAt g f) (body + 1) js frame) (drop-of-length-le list {i = k} (omega arith)); value = refl }
 
-pub works-again : (g : Graph) (body : ℕ) (list : List ℕ) (at : ℕ) (begins frame : List ℕ) (k r : ℕ) → length list ≡ 512 → Works g body list at begins frame k → k < 512 → getD list k 0 < body + 1
+pub works-again : (g : Graph) (body : ℕ) (list : List ℕ) (at : ℕ) (begins frame : List ℕ) (k r : ℕ) → length list ≡ tableEntries → Works g body list at begins frame k → k < tableEntries → getD list k 0 < body + 1
     → Applies g frame (getD list k 0) r → Works g body list at begins (set frame (getD list k 0) r) (k + 1)
 unfolding fillOf
 works-again g body list at begins frame k r size work h m a =

@@ -2,24 +2,27 @@
 -- Assumes nothing: these are definitions.
 use mathlib.Core.Bool.{Bool, false, cond, _||_}
 use mathlib.Core.List.{List}
-use Prim.Native.Nat.{ℕ, zero, suc, _+_, _*_, _-_, _%_}
+use Prim.Native.Nat.{ℕ, zero, suc, _+_, _-_, _%_}
 use lib.Dec.{leb, ltb, eqb}
 use lib.ListN.{getD, set}
+use Rattle.language.specs.Limits.{tableEntries}
+use Rattle.values.specs.Values.{unboundName}
 use Rattle.values.specs.Packing.{windowCell, functionCell, delayedCell, missingCell}
-use Rattle.table.specs.Links.{kindAt, keyAt}
+use Rattle.table.specs.Links.{kindAt, keyAt, valueAt}
+use Rattle.table.specs.Nodes.{numberKind, variableKind, unboundKind, functionKind}
 use Rattle.table.specs.Waits.{slotA, slotB}
 
 -- what a number, a variable, an unbound name and the recording, of so many readings, come to
 unfoldable pub leafOf : ℕ → ℕ → ℕ → ℕ
 leafOf size kind key =
-    cond (eqb kind 0) (key % 4294967296 + 1)
-    (cond (eqb kind 1) delayedCell
-    (cond (eqb kind 2) (missingCell + 1)
+    cond (eqb kind numberKind) (key % 4294967296 + 1)
+    (cond (eqb kind variableKind) delayedCell
+    (cond (eqb kind unboundKind) (missingCell + unboundName)
     (windowCell + size)))
 
 -- what entry i comes to before any work
 unfoldable pub startAt : ℕ → List ℕ → List ℕ → ℕ → ℕ
-startAt size links cells i = cond (ltb (kindAt links i) 4) (leafOf size (kindAt links i) (keyAt cells i)) (getD cells (4 * i + 1) 0)
+startAt size links cells i = cond (ltb (kindAt links i) functionKind) (leafOf size (kindAt links i) (keyAt cells i)) (valueAt cells i)
 
 unfoldable pub startFrom : ℕ → List ℕ → List ℕ → ℕ → ℕ → List ℕ → List ℕ
 startFrom size links cells zero i frame = frame
@@ -31,7 +34,7 @@ bound frame v c = cond (leb 1 v) (set frame (v - 1) c) frame
 
 -- a variable that is awaited has no value
 unfoldable pub isUnset : List ℕ → ℕ → Bool
-isUnset frame v = cond (leb 1 v) (cond (leb v 512) (eqb (getD frame (v - 1) 0) delayedCell) false) false
+isUnset frame v = cond (leb 1 v) (cond (leb v tableEntries) (eqb (getD frame (v - 1) 0) delayedCell) false) false
 
 abbrev pub isOpen : List ℕ → ℕ → Bool
 isOpen frame w = isUnset frame (slotA w) || isUnset frame (slotB w)

@@ -6,6 +6,7 @@ use mathlib.Core.List.{List, [], _∷_}
 use Prim.Native.Nat.{ℕ, zero, suc, _+_, _-_, _≤_}
 use lib.Dec.{eqb}
 use lib.ListN.{length, getD, set, replicate, drop}
+use Rattle.language.specs.Limits.{tableEntries}
 use Rattle.table.specs.Links.{firstAt, secondAt, isBelow}
 use Rattle.table.specs.Waits.{awaits}
 
@@ -29,11 +30,11 @@ gatherFrom links waits v (suc j) flags list =
 
 unfoldable pub gathered : List ℕ → List ℕ → ℕ → ℕ → List ℕ
 gathered links waits v body =
-    cond (moves waits v body) (gatherFrom links waits v (suc body) (set (replicate 512 0) body 1) [])
+    cond (moves waits v body) (gatherFrom links waits v (suc body) (set (replicate tableEntries 0) body 1) [])
     []
 
 -- the list stands at the end of an array, from a place on
 pub record Gathers (links waits : List ℕ) (v body : ℕ) (list : List ℕ) (at : ℕ) : Type 0 where
-  pub within : at ≤ 512
-  pub size : length list ≡ 512
+  pub within : at ≤ tableEntries
+  pub size : length list ≡ tableEntries
   pub same : drop at list ≡ gathered links waits v body

@@ -8,6 +8,7 @@ use Prim.Native.Nat.{ℕ, zero, suc, _+_, _-_, _≤_, _<_}
 use lib.Dec.{leb, ltb, eqb}
 use lib.IntN.{ℤ}
 use lib.ListN.{length, getD, set}
+use Rattle.language.specs.Limits.{tableEntries}
 use Rattle.language.specs.declared.members.Found.{Found}
 use Rattle.language.specs.declared.members.Found.the-variants.{Is, Unknown}
 use Rattle.values.specs.declared.Value.{Value}
@@ -21,8 +22,8 @@ use Rattle.values.specs.Apply.{apply0}
 use Rattle.values.specs.Applied.{applied1}
 use Rattle.values.specs.Tallies.{begun, stepped, finished, Within}
 use Rattle.values.specs.Kept.{Bounded}
-use Rattle.values.specs.Packing.{packOf, unpackOf, delayedCell, missingCell}
-use Rattle.table.specs.Nodes.{memberOfKind}
+use Rattle.values.specs.Packing.{packOf, unpackOf, delayedCell, wrongCell}
+use Rattle.table.specs.Nodes.{numberKind, functionKind, memberOfKind}
 use Rattle.evaluator.specs.declared.working.Task.{Task}
 use Rattle.table.specs.Links.{kindAt, firstAt, secondAt, isBelow}
 use Rattle.table.specs.Waits.{ownOf}
@@ -37,9 +38,6 @@ pub record Graph : Type 0 where
 
 abbrev pub graph : List ℕ → List ℕ → List ℤ → Graph
 graph links waits xs = record { links = links; waits = waits; xs = xs }
-
-abbrev pub wrongCell : ℕ
-wrongCell = missingCell + 2
 
 -- a receiver: a window that ends beyond 16 bits, which no recording has, is of the wrong kind
 unfoldable pub boundedOf : Value → Value
@@ -58,10 +56,10 @@ unfoldable pub callOf : Found → List ℤ → ℕ → ℕ → Applied
 callOf (Is m) xs a b = applied1 m xs (boundedOf (unpackOf a)) (unpackOf b)
 callOf Unknown xs a b = Done (Missing wrongKind)
 
--- what an entry asks for: it is done, with a value; or a body is to be worked out with a variable set, to judge a function (kind 4) or to
--- run it over a window
+-- what an entry asks for: it is done, with a value; or a body is to be worked out with a variable set, to judge a function (whose kind it
+-- has then) or to run it over a window
 abbrev pub doneOf : ℕ → Task
-doneOf c = record { done = true; value = c; kind = 0; start = 0; length = 0; body = 0; variable = 0 }
+doneOf c = record { done = true; value = c; kind = numberKind; start = 0; length = 0; body = 0; variable = 0 }
 
 abbrev pub taskOf : ℕ → ℕ → ℕ → ℕ → ℕ → Task
 taskOf kind s l body v = record { done = false; value = 0; kind = kind; start = s; length = l; body = body; variable = v }
@@ -73,15 +71,15 @@ pickT false a b = b
 unfoldable pub judgeOf : List ℕ → List ℕ → ℕ → ℕ → ℕ → Task
 judgeOf waits frame i body a =
     pickT (leb 1 (ownOf (getD waits body 0) (getD waits i 0)))
-    (pickT (leb (ownOf (getD waits body 0) (getD waits i 0)) 512) (taskOf 4 0 0 body (ownOf (getD waits body 0) (getD waits i 0))) (doneOf wrongCell))
+    (pickT (leb (ownOf (getD waits body 0) (getD waits i 0)) tableEntries) (taskOf functionKind 0 0 body (ownOf (getD waits body 0) (getD waits i 0))) (doneOf wrongCell))
     (doneOf (functionOf frame (getD waits i 0) a))
 
 -- the runs of the function that entry f is
 unfoldable pub runOf : List ℕ → List ℕ → ℕ → ℕ → ℕ → ℕ → Task
 runOf links waits f kind s l =
-    pickT (eqb (kindAt links f) 4)
+    pickT (eqb (kindAt links f) functionKind)
     (pickT (isBelow (firstAt links f) f)
-    (pickT (leb (ownOf (getD waits (firstAt links f - 1) 0) (getD waits f 0)) 512)
+    (pickT (leb (ownOf (getD waits (firstAt links f - 1) 0) (getD waits f 0)) tableEntries)
     (taskOf kind s l (firstAt links f - 1) (ownOf (getD waits (firstAt links f - 1) 0) (getD waits f 0)))
     (doneOf wrongCell))
     (doneOf wrongCell))
@@ -96,9 +94,9 @@ planOf g frame i =
     let kind : ℕ = kindAt (g .links) i in
     let first : ℕ = firstAt (g .links) i in
     let second : ℕ = secondAt (g .links) i in
-    pickT (ltb kind 4) (doneOf (getD frame i 0))
+    pickT (ltb kind functionKind) (doneOf (getD frame i 0))
     (pickT (isBelow first i)
-    (pickT (eqb kind 4) (judgeOf (g .waits) frame i (first - 1) (getD frame (first - 1) 0))
+    (pickT (eqb kind functionKind) (judgeOf (g .waits) frame i (first - 1) (getD frame (first - 1) 0))
     (pickT (isBelow second i)
     (followOf (g .links) (g .waits) (second - 1) kind (callOf (memberOfKind kind) (g .xs) (getD frame (first - 1) 0) (getD frame (second - 1) 0)))
     (doneOf (askOf (memberOfKind kind) (g .xs) (getD frame (first - 1) 0)))))
@@ -107,7 +105,7 @@ planOf g frame i =
 -- a task that is not done lies below its entry
 pub record Planned (i : ℕ) (p : Task) : Type 0 where
   pub below : p .body < i
-  pub variable : p .variable ≤ 512
+  pub variable : p .variable ≤ tableEntries
 
 -- how one entry is worked out in a frame
 abbrev pub Go : Type 0
@@ -138,7 +136,7 @@ unfoldable pub finishOf : Graph → Go → List ℕ → ℕ → Task → ℕ
 finishOf g go frame i p =
     let list : List ℕ = gathered (g .links) (g .waits) (p .variable) (p .body) in
     cond (p .done) (p .value)
-    (cond (eqb (p .kind) 4)
+    (cond (eqb (p .kind) functionKind)
     (functionOf frame (getD (g .waits) i 0) (getD (setOf go (p .body + 1) list (p .variable) delayedCell frame) (p .body) 0))
     (concludeOf (memberOfKind (p .kind)) (overOf go (p .body) list (p .variable) frame begun (readingsIn (g .xs) (p .start) (p .length)))))
 
@@ -165,10 +163,10 @@ pub record Tallied (t : Tally) (c : ℕ) (r : Tally) : Type 0 where
 
 -- what working out a body again asks: the list, from a place on, and the body and the variable within the frame
 pub record Reruns (list : List ℕ) (at body v : ℕ) : Type 0 where
-  pub size : length list ≡ 512
-  pub within : at ≤ 512
-  pub low : body < 512
-  pub few : v ≤ 512
+  pub size : length list ≡ tableEntries
+  pub within : at ≤ tableEntries
+  pub low : body < tableEntries
+  pub few : v ≤ tableEntries
 
 -- how many readings a window has
 pub record Counts (xs : List ℤ) (s l r : ℕ) : Type 0 where

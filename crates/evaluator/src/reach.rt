@@ -1,15 +1,18 @@
 // What a run works out again: a falling sweep from the body that follows the entries that await the variable.
-use table::links::is_below;
-use table::links::link;
+use language::limits::Table;
+use table::cells::first_of;
+use table::cells::is_below;
+use table::cells::second_of;
 use table::waits::awaits;
 ghost use mathlib.Core.Path.{_≡_};
 ghost use Prim.Native.Nat.{_<_};
 ghost use lib.ListN.{length};
+ghost use Rattle.language.specs.Limits.{tableEntries};
 ghost use Rattle.evaluator.specs.Reach.{moves as movesOf, flagged, spread as spreadOf, Gathers};
 
 // Whether entry d awaits the variable v and is not v.
-fn moves(waits: &[u32; 512], v: u32, d: usize) -> bool
-    requires { ⌜ d < 512 ⌝ }
+fn moves(waits: &[u32; Table::ENTRIES], v: u32, d: usize) -> bool
+    requires { ⌜ d < tableEntries ⌝ }
     ensures { λ r. ⌜ r ≡ movesOf (now (waits .entry)) v d ⌝ }
 {
     if awaits(waits[d], v) {
@@ -19,8 +22,14 @@ fn moves(waits: &[u32; 512], v: u32, d: usize) -> bool
 }
 
 // Flags a dependency of entry j where it moves.
-fn flag(waits: &[u32; 512], v: u32, j: usize, link: usize, flags: &mut [u8; 512])
-    requires { ⌜ j < 512 ⌝ }
+fn flag(
+    waits: &[u32; Table::ENTRIES],
+    v: u32,
+    j: usize,
+    link: usize,
+    flags: &mut [u8; Table::ENTRIES],
+)
+    requires { ⌜ j < tableEntries ⌝ }
     ensures { λ _. ⌜ now (flags .exit) ≡ flagged (now (waits .entry)) v j link (now (flags .entry)) ⌝ }
 {
     if is_below(link, j) {
@@ -30,28 +39,34 @@ fn flag(waits: &[u32; 512], v: u32, j: usize, link: usize, flags: &mut [u8; 512]
     }
 }
 
-fn spread(links: &[u16], waits: &[u32; 512], v: u32, j: usize, flags: &mut [u8; 512])
-    requires { ⌜ j < 512 ⌝ }
+fn spread(
+    links: &[u16],
+    waits: &[u32; Table::ENTRIES],
+    v: u32,
+    j: usize,
+    flags: &mut [u8; Table::ENTRIES],
+)
+    requires { ⌜ j < tableEntries ⌝ }
     ensures { λ _. ⌜ now (flags .exit) ≡ spreadOf (now (links .entry)) (now (waits .entry)) v j (now (flags .entry)) ⌝ }
 {
-    flag(waits, v, j, link(links, 3 * j + 1) as usize, flags);
-    flag(waits, v, j, link(links, 3 * j + 2) as usize, flags);
+    flag(waits, v, j, first_of(links, j) as usize, flags);
+    flag(waits, v, j, second_of(links, j) as usize, flags);
 }
 
 // The entries to work out again stand at the end of the list, from the place that is returned.
 pub fn gather(
     links: &[u16],
-    waits: &[u32; 512],
+    waits: &[u32; Table::ENTRIES],
     v: u32,
     body: usize,
-    list: &mut [u16; 512],
+    list: &mut [u16; Table::ENTRIES],
 ) -> usize
-    requires { ⌜ (body < 512) × (length (now list) ≡ 512) ⌝ }
+    requires { ⌜ (body < tableEntries) × (length (now list) ≡ tableEntries) ⌝ }
     ensures { λ r. ⌜ Gathers (now (links .entry)) (now (waits .entry)) v body (now (list .exit)) r ⌝ }
 {
-    let mut at: usize = 512;
+    let mut at: usize = Table::ENTRIES;
     if moves(waits, v, body) {
-        let mut flags = [0u8; 512];
+        let mut flags = [0u8; Table::ENTRIES];
         flags[body] = 1;
         let mut j = body + 1;
         while 0 < j {

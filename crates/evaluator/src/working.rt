@@ -1,19 +1,23 @@
 // Working out one entry from a frame. Two functions call each other: apply works out an entry, and runs a function over a window; rerun
 // works out a body again with a variable set. The entry's number falls.
-use crate::frames::WINDOW;
 use crate::frames::bind;
 use crate::frames::function;
-use table::links::is_below;
-use table::links::link;
 use crate::reach::gather;
-use table::waits::own;
+use language::limits::Table;
 use language::members::Found;
-use language::members::member_at;
+use table::cells::first_of;
+use table::cells::is_below;
+use table::cells::kind_of;
+use table::cells::second_of;
+use table::entries::member_of;
+use table::nodes::Shape;
+use table::waits::own;
 use values::Value;
 use values::apply::Applied;
 use values::apply::apply0;
 use values::apply::apply1;
 use values::numbers::on_numbers;
+use values::packing::Packed;
 use values::packing::number_in;
 use values::packing::pack;
 use values::packing::unpack;
@@ -27,6 +31,7 @@ ghost use mathlib.Core.List.{List};
 ghost use Prim.Native.Nat.{_+_, _<_};
 ghost use lib.IntN.{ℤ, pos};
 ghost use lib.ListN.{length, getD, drop};
+ghost use Rattle.language.specs.Limits.{tableEntries};
 ghost use Rattle.values.specs.declared.Value.the-variants.{Number};
 ghost use Rattle.values.specs.declared.apply.Applied.the-variants.{Done};
 ghost use Rattle.values.specs.Packing.{packOf, windowCell};
@@ -34,12 +39,8 @@ ghost use Rattle.values.specs.Tallies.{Within};
 ghost use Rattle.table.specs.Nodes.{memberOfKind};
 ghost use Rattle.evaluator.specs.Working.{graph, askOf, callOf, doneOf, taskOf, judgeOf, runOf, followOf, planOf, Planned, concludeOf, Applies, Fills, Bounds, Tallied, Reruns, Counts};
 
-const WRONG: u64 = 34359738370;
-
-const DELAYED: u64 = 25769803776;
-
-// What an entry asks for: it is done, with a value; or a body is to be worked out with a variable set, to judge a function (kind 4) or to
-// run it over a window.
+// What an entry asks for: it is done, with a value; or a body is to be worked out with a variable set, to judge a function (whose kind it
+// has then) or to run it over a window.
 pub struct Task {
     pub done: bool,
     pub value: u64,
@@ -56,7 +57,7 @@ fn done(value: u64) -> Task
     Task {
         done: true,
         value,
-        kind: 0,
+        kind: Shape::NUMBER,
         start: 0,
         length: 0,
         body: 0,
@@ -76,19 +77,6 @@ fn body_task(kind: u16, start: u16, length: u16, body: usize, variable: u32) -> 
         body,
         variable,
     }
-}
-
-// The member of an entry's kind.
-pub fn member_of(kind: u16) -> Found
-    ensures { λ r. ⌜ r ≡ memberOfKind kind ⌝ }
-{
-    if kind < 5 {
-        return Found::Unknown;
-    }
-    if 20 < kind {
-        return Found::Unknown;
-    }
-    member_at((kind - 5) as u8)
 }
 
 // A receiver, which a start can move along.
@@ -114,7 +102,7 @@ fn ask(kind: u16, readings: &[i32], a: u64) -> u64
 {
     match member_of(kind) {
         Found::Is(m) => pack(apply0(m, readings, unpack(a))),
-        Found::Unknown => WRONG,
+        Found::Unknown => Packed::WRONG,
     }
 }
 
@@ -138,44 +126,57 @@ fn call_numbers(kind: u16, a: u64, b: u64) -> Value
 }
 
 // A function: where its body awaits the function's own variable, that is judged with the variable delayed.
-fn judge(waits: &[u32; 512], frame: &[u64; 512], i: usize, body: usize, a: u64) -> Task
-    requires { ⌜ (i < 512) × (body < i) ⌝ }
+fn judge(
+    waits: &[u32; Table::ENTRIES],
+    frame: &[u64; Table::ENTRIES],
+    i: usize,
+    body: usize,
+    a: u64,
+) -> Task
+    requires { ⌜ (i < tableEntries) × (body < i) ⌝ }
     ensures same { λ r. ⌜ r ≡ judgeOf (now (waits .entry)) (now (frame .entry)) i body a ⌝ }
     ensures right { λ r. ⌜ (r .done ≡ false → Planned i r) ⌝ }
 {
     let variable = own(waits[body], waits[i]);
     if 1 <= variable {
-        if variable <= 512 {
-            return body_task(4, 0, 0, body, variable);
+        if variable as usize <= Table::ENTRIES {
+            return body_task(Shape::FUNCTION, 0, 0, body, variable);
         }
-        return done(WRONG);
+        return done(Packed::WRONG);
     }
     done(function(frame, waits[i], a))
 }
 
 // The runs of the function that entry f is, over a window.
-fn run(links: &[u16], waits: &[u32; 512], f: usize, kind: u16, start: u16, length: u16) -> Task
-    requires { ⌜ f < 512 ⌝ }
+fn run(
+    links: &[u16],
+    waits: &[u32; Table::ENTRIES],
+    f: usize,
+    kind: u16,
+    start: u16,
+    length: u16,
+) -> Task
+    requires { ⌜ f < tableEntries ⌝ }
     ensures same { λ r. ⌜ r ≡ runOf (now (links .entry)) (now (waits .entry)) f kind start length ⌝ }
     ensures right { λ r. ⌜ (r .done ≡ false → Planned f r) ⌝ }
 {
-    if link(links, 3 * f) == 4 {
-        let first = link(links, 3 * f + 1) as usize;
+    if kind_of(links, f) == Shape::FUNCTION {
+        let first = first_of(links, f) as usize;
         if is_below(first, f) {
             let body = first - 1;
             let variable = own(waits[body], waits[f]);
-            if variable <= 512 {
+            if variable as usize <= Table::ENTRIES {
                 return body_task(kind, start, length, body, variable);
             }
-            return done(WRONG);
+            return done(Packed::WRONG);
         }
-        return done(WRONG);
+        return done(Packed::WRONG);
     }
-    done(WRONG)
+    done(Packed::WRONG)
 }
 
-fn follow(links: &[u16], waits: &[u32; 512], f: usize, kind: u16, a: Applied) -> Task
-    requires { ⌜ f < 512 ⌝ }
+fn follow(links: &[u16], waits: &[u32; Table::ENTRIES], f: usize, kind: u16, a: Applied) -> Task
+    requires { ⌜ f < tableEntries ⌝ }
     ensures same { λ r. ⌜ r ≡ followOf (now (links .entry)) (now (waits .entry)) f kind a ⌝ }
     ensures right { λ r. ⌜ (r .done ≡ false → Planned f r) ⌝ }
 {
@@ -186,32 +187,38 @@ fn follow(links: &[u16], waits: &[u32; 512], f: usize, kind: u16, a: Applied) ->
 }
 
 // What entry i asks for.
-fn plan(readings: &[i32], links: &[u16], waits: &[u32; 512], frame: &[u64; 512], i: usize) -> Task
-    requires { ⌜ i < 512 ⌝ }
+fn plan(
+    readings: &[i32],
+    links: &[u16],
+    waits: &[u32; Table::ENTRIES],
+    frame: &[u64; Table::ENTRIES],
+    i: usize,
+) -> Task
+    requires { ⌜ i < tableEntries ⌝ }
     ensures same { λ r. ⌜ r ≡ planOf (graph (now (links .entry)) (now (waits .entry)) (now (readings .entry))) (now (frame .entry)) i ⌝ }
     ensures right { λ r. ⌜ (r .done ≡ false → Planned i r) ⌝ }
 {
-    let kind = link(links, 3 * i);
-    if kind < 4 {
+    let kind = kind_of(links, i);
+    if kind < Shape::FUNCTION {
         return done(frame[i]);
     }
-    let first = link(links, 3 * i + 1) as usize;
+    let first = first_of(links, i) as usize;
     if is_below(first, i) {
         let a = frame[first - 1];
-        if kind == 4 {
+        if kind == Shape::FUNCTION {
             return judge(waits, frame, i, first - 1, a);
         }
-        let second = link(links, 3 * i + 2) as usize;
+        let second = second_of(links, i) as usize;
         if is_below(second, i) {
             let b = frame[second - 1];
-            if (a < WINDOW) & (b < WINDOW) {
+            if (a < Packed::WINDOW) & (b < Packed::WINDOW) {
                 return done(pack(call_numbers(kind, a, b)));
             }
             return follow(links, waits, second - 1, kind, call(kind, readings, a, b));
         }
         return done(ask(kind, readings, a));
     }
-    done(WRONG)
+    done(Packed::WRONG)
 }
 
 // How many readings a window has.
@@ -258,7 +265,7 @@ fn conclude(kind: u16, t: Tally) -> u64
 {
     match member_of(kind) {
         Found::Is(m) => pack(finish(m, t)),
-        Found::Unknown => WRONG,
+        Found::Unknown => Packed::WRONG,
     }
 }
 
@@ -267,13 +274,13 @@ fn conclude(kind: u16, t: Tally) -> u64
 fn rerun(
     readings: &[i32],
     links: &[u16],
-    waits: &[u32; 512],
-    list: &[u16; 512],
+    waits: &[u32; Table::ENTRIES],
+    list: &[u16; Table::ENTRIES],
     at: usize,
     body: usize,
     variable: u32,
     c: u64,
-    frame: &mut [u64; 512],
+    frame: &mut [u64; Table::ENTRIES],
 ) -> u64
     requires { ⌜ Reruns (now list) at body variable ⌝ }
     ensures { λ r. ⌜ Fills (graph (now (links .entry)) (now (waits .entry)) (now (readings .entry))) body (drop at (now (list .entry))) variable c (now (frame .entry)) (now (frame .exit)) r ⌝ }
@@ -281,7 +288,7 @@ fn rerun(
     bind(variable, c, frame);
     let top = (body + 1) as u16;
     let mut k = at;
-    while k < 512 {
+    while k < Table::ENTRIES {
         let next = list[k];
         if top <= next {
             return frame[body];
@@ -303,11 +310,11 @@ fn rerun(
 pub fn apply(
     readings: &[i32],
     links: &[u16],
-    waits: &[u32; 512],
-    frame: &[u64; 512],
+    waits: &[u32; Table::ENTRIES],
+    frame: &[u64; Table::ENTRIES],
     i: usize,
 ) -> u64
-    requires { ⌜ i < 512 ⌝ }
+    requires { ⌜ i < tableEntries ⌝ }
     ensures { λ r. ⌜ Applies (graph (now (links .entry)) (now (waits .entry)) (now (readings .entry))) (now (frame .entry)) i r ⌝ }
 {
     let p = plan(readings, links, waits, frame, i);
@@ -319,10 +326,10 @@ pub fn apply(
     let most = p.length;
     let body = p.body;
     let variable = p.variable;
-    let mut list = [0u16; 512];
+    let mut list = [0u16; Table::ENTRIES];
     let at = gather(links, waits, variable, body, &mut list);
     let mut local = *frame;
-    if kind == 4 {
+    if kind == Shape::FUNCTION {
         let base = rerun(
             readings,
             links,
@@ -331,7 +338,7 @@ pub fn apply(
             at,
             body,
             variable,
-            DELAYED,
+            Packed::DELAYED,
             &mut local,
         );
         return function(frame, waits[i], base);

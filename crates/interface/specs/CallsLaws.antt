@@ -2,11 +2,10 @@
 use mathlib.Core.Path.{_≡_, refl, sym, _∙_}
 use mathlib.Core.Bool.{Bool, true, false, _&&_, and-eq-true-iff, cond}
 use mathlib.Core.List.{List}
-use Prim.Native.Nat.{ℕ, _+_, _*_, _<_}
+use Prim.Native.Nat.{ℕ, _+_, _<_}
 use native.Mathlib.Omega.{arith}
 use borrow.Author.Tests.{le-leb, lt-leb, leb-false, ltb-true, ltb-false}
 use lib.Dec.{ltb, leb}
-use lib.ListN.{getD}
 use Rattle.language.specs.Cases.{impossible, split}
 use Rattle.table.specs.Memory.{Memory, fits, entryCount, readingCount, keptAt, entryAt, entriesFrom, entriesOf}
 use Rattle.table.specs.WellFormed.{distinct, awaitsFew, doneAt, settled, namesRight, keptRight, wellFormed}
@@ -16,7 +15,7 @@ use Rattle.table.specs.Checked.{keptOk, entriesRight}
 use Rattle.table.specs.CheckedLaws.{done-is, well-is}
 use Rattle.values.specs.Packing.{unpackOf}
 use Rattle.values.specs.PackingLaws.{unpack-number}
-use Rattle.table.specs.Links.{kindAt}
+use Rattle.table.specs.Links.{kindAt, valueAt}
 use Rattle.evaluator.specs.Frames.{startAt}
 use Rattle.interface.specs.Calls.{Part, windowIn, partOf}
 
@@ -31,12 +30,12 @@ module _ (m : Memory) (n : ℕ) where
   unworked : doneAt (entriesOf m) n ≡ false → ltb n (entryCount m) ≡ true → shownPart ≡ noPart
   unfolding startAt
   unworked d h =
-      let e = done-is (m .links) (m .cells) (entryCount m) n (kindAt (m .links) n) (getD (m .cells) (4 * n + 1) 0) refl refl ∙ d in
+      let e = done-is (m .links) (m .cells) (entryCount m) n (kindAt (m .links) n) (valueAt (m .cells) n) refl refl ∙ d in
       split (ltb (kindAt (m .links) n) 4)
       (λ t. impossible (sym e ∙ rw (h, lt-leb 4 (kindAt (m .links) n) (ltb-true (kindAt (m .links) n) 4 t))))
-      (λ t. split (leb 1 (getD (m .cells) (4 * n + 1) 0))
+      (λ t. split (leb 1 (valueAt (m .cells) n))
       (λ v. impossible (sym e ∙ rw (h, le-leb 4 (kindAt (m .links) n) (ltb-false (kindAt (m .links) n) 4 t), v)))
-      (λ v. let z = leb-false 1 (getD (m .cells) (4 * n + 1) 0) v in rw t (rw (unpack-number (getD (m .cells) (4 * n + 1) 0) (omega arith)))))
+      (λ v. let z = leb-false 1 (valueAt (m .cells) n) v in rw t (rw (unpack-number (valueAt (m .cells) n) (omega arith)))))
 
   pub part-held : partOf m n ≡ cond (fits m && (wellFormed m && ltb n (entryCount m))) shownPart noPart
   unfolding partOf
@@ -46,7 +45,7 @@ module _ (m : Memory) (n : ℕ) where
       (λ d. split (ltb n (entryCount m)) (λ h. rw (d, h) (both-empty (fits m) (wellFormed m) (unworked d h))) (λ h. rw (d, h)))
     where
       done-held : doneAt (entriesOf m) n ≡ true → ltb n (entryCount m) ≡ true
-      done-held d = and-eq-true-iff _ _ .0 (done-is (m .links) (m .cells) (entryCount m) n (kindAt (m .links) n) (getD (m .cells) (4 * n + 1) 0) refl refl ∙ d) .0
+      done-held d = and-eq-true-iff _ _ .0 (done-is (m .links) (m .cells) (entryCount m) n (kindAt (m .links) n) (valueAt (m .cells) n) refl refl ∙ d) .0
 
       both-empty : (a b : Bool) → shownPart ≡ noPart → cond (a && (b && false)) shownPart noPart ≡ cond (a && (b && true)) shownPart noPart
       both-empty true true e = sym e

@@ -3,11 +3,11 @@
 use mathlib.Core.Path.{_≡_, refl, sym, ap, _∙_}
 use mathlib.Core.Bool.{true, false, _&&_}
 use mathlib.Core.List.{List, []}
-use Prim.Native.Nat.{ℕ, _+_, _*_, _<_}
+use Prim.Native.Nat.{ℕ, _<_}
 use borrow.Author.Tests.{lt-ltb}
 use lib.Dec.{ltb, eqb}
 use lib.IntN.{ℤ}
-use lib.ListN.{getD, take, drop}
+use lib.ListN.{take, drop}
 use Rattle.language.specs.Cases.{split}
 use Rattle.values.specs.declared.Value.{Value}
 use Rattle.values.specs.declared.Value.the-variants.{Number, Window, Function, Delayed, Missing}
@@ -18,7 +18,7 @@ use Rattle.model.specs.Lists.{All}
 use Rattle.formulas.specs.Formulas.{IsReading}
 use Rattle.table.specs.Memory.{Memory, fits, entryCount, readingCount, recordingOf, entriesOf}
 use Rattle.table.specs.WellFormed.{doneAt, wellFormed}
-use Rattle.table.specs.Links.{kindAt, keyAt}
+use Rattle.table.specs.Links.{kindAt, keyAt, nameAt, otherAt}
 use Rattle.evaluator.specs.Frames.{startAt}
 use Rattle.scheduler.specs.declared.works.View.{View}
 use Rattle.scheduler.specs.Works.{view, showOf}
@@ -57,7 +57,7 @@ fetch-shown m n f w l =
     (λ p. rw p (sym (value-shown (m .readings) v (keyAt (m .cells) n) 0)))
     (λ p. rw p (split (ltb (kindAt (m .links) n) 4)
     (λ q. rw q (sym (value-shown (m .readings) v 0 0)))
-    (λ q. rw q (sym (value-shown (m .readings) v (getD (m .cells) (4 * n + 2) 0) (getD (m .cells) (4 * n + 3) 0))))))))
+    (λ q. rw q (sym (value-shown (m .readings) v (nameAt (m .cells) n) (otherAt (m .cells) n))))))))
 
 -- an entry that is not worked out or does not exist, and a cache that is refused
 pub fetch-none : (m : Memory) (n : ℕ) → (fits m && (wellFormed m && doneAt (entriesOf m) n)) ≡ false → partOf m n ≡ record { start = 0; length = 0 }

@@ -3,18 +3,19 @@
 use mathlib.Core.Path.{_≡_, sym, _∙_}
 use mathlib.Core.Bool.{Bool, true, false, _&&_, and-eq-true-iff}
 use mathlib.Core.List.{List, _++_}
-use Prim.Native.Nat.{ℕ, _*_}
+use Prim.Native.Nat.{ℕ}
 use native.Mathlib.Omega.{arith}
 use borrow.Author.Tests.{leb-true, le-leb}
 use lib.Dec.{leb}
 use lib.ListN.{length, take, drop, length-take, take-append-drop}
-use Rattle.language.specs.Limits.{tableEntries, tableReadings}
+use Rattle.language.specs.Limits.{tableReadings}
 use Rattle.language.specs.Cases.{impossible, split}
+use Rattle.table.specs.Links.{tableLinks, tableCells}
 use Rattle.table.specs.Memory.{Memory, fits}
 
 -- how many cells of each slice are lent; some slice is under its size
 abbrev pub enough : ℕ → ℕ → ℕ → ℕ → Bool
-enough readings heads links cells = leb tableReadings readings && (leb 2 heads && (leb (3 * tableEntries) links && leb (4 * tableEntries) cells))
+enough readings heads links cells = leb tableReadings readings && (leb 2 heads && (leb tableLinks links && leb tableCells cells))
 
 pub record Cut : Type 0 where
   pub readings : ℕ
@@ -56,7 +57,7 @@ too-short c m = split (fits (lend c m)) (λ e. impossible (sym (c .short) ∙ wh
         let q = and-eq-true-iff _ _ .0 (p .1) in
         let r = and-eq-true-iff _ _ .0 (q .1) in
         rw (no-more tableReadings (c .readings) (m .readings) (p .0), no-more 2 (c .heads) (m .heads) (q .0))
-        (rw (no-more (3 * tableEntries) (c .links) (m .links) (r .0), no-more (4 * tableEntries) (c .cells) (m .cells) (r .1)))
+        (rw (no-more tableLinks (c .links) (m .links) (r .0), no-more tableCells (c .cells) (m .cells) (r .1)))
 
 -- put back as it was
 pub restored : (c : Cut) (m : Memory) → restore c m (lend c m) ≡ m

@@ -2,7 +2,7 @@
 use mathlib.Core.Path.{_≡_, refl, _∙_, subst}
 use mathlib.Core.Bool.{true, _&&_, and-eq-true-iff}
 use mathlib.Core.List.{List, [], _∷_, _++_}
-use Prim.Native.Nat.{ℕ, zero, suc, _+_, _*_, _≤_, _<_, _-_}
+use Prim.Native.Nat.{ℕ, zero, suc, _+_, _≤_, _<_, _-_}
 use native.Mathlib.Omega.{arith}
 use borrow.Author.Tests.{ltb-true, ltb-false, leb-true}
 use lib.Dec.{leb, ltb}
@@ -13,10 +13,11 @@ use Rattle.language.specs.Limits.{textBytes, textParts, tableEntries, tableRead
 use Rattle.language.specs.Cases.{split}
 use Rattle.grammar.specs.Reading.{Reading, tree, refused as refusedAt}
 use Rattle.grammar.specs.Machine.{readText}
+use Rattle.table.specs.Links.{tableLinks, tableCells, kindIndex, firstIndex, secondIndex, keyIndex, valueIndex, nameIndex, otherIndex, linksWith, keptWith}
 use Rattle.table.specs.Memory.{Memory, Node, fits, entryCount}
 use Rattle.table.specs.WellFormed.{wellFormed}
 use Rattle.table.specs.Bind.{Bound, append, appendAll}
-use Rattle.scheduler.specs.Works.{chosen, nameFor, otherFor, keepOf, kept, workFrom, worked}
+use Rattle.scheduler.specs.Works.{chosen, nameFor, otherFor, kept, workFrom, worked}
 use Rattle.records.specs.Records.{recordsOf}
 use Rattle.interface.specs.Calls.{openedMemory, openMemory, boundTo, tooMany, editedMemory, readMemory, editMemory, workOn, workedMemory, previewMemory}
 use Rattle.demand.specs.Appended.{lengths}
@@ -24,8 +25,8 @@ use Rattle.demand.specs.Appended.{lengths}
 pub record Outside (m n : Memory) : Type 0 where
   pub readings : drop tableReadings (n .readings) ≡ drop tableReadings (m .readings)
   pub heads : drop 2 (n .heads) ≡ drop 2 (m .heads)
-  pub links : drop (3 * tableEntries) (n .links) ≡ drop (3 * tableEntries) (m .links)
-  pub cells : drop (4 * tableEntries) (n .cells) ≡ drop (4 * tableEntries) (m .cells)
+  pub links : drop tableLinks (n .links) ≡ drop tableLinks (m .links)
+  pub cells : drop tableCells (n .cells) ≡ drop tableCells (m .cells)
 
 same : (m : Memory) → Outside m m
 same m = record { readings = refl; heads = refl; links = refl; cells = refl }
@@ -59,16 +60,16 @@ three-before n l i j k x y z hi hj hk = drop-set-lt n (set (set l i x) j y) k z 
 -- edit
 module _ (m : Memory) (n : Node) (l : entryCount m < tableEntries) where
   append-outside : Outside m (append m n)
-  unfolding append
+  unfolding append linksWith keptWith
   append-outside =
       let k : ℕ = entryCount m in
       record {
         readings = refl;
         heads = drop-set-lt 2 (m .heads) 0 (suc k) (omega arith);
-        links = three-before 1536 (m .links) (3 * k) (3 * k + 1) (3 * k + 2) (n .kind) (n .first) (n .second) (omega arith) (omega arith) (omega arith);
+        links = three-before tableLinks (m .links) (kindIndex k) (firstIndex k) (secondIndex k) (n .kind) (n .first) (n .second) (omega arith) (omega arith) (omega arith);
         cells =
-            three-before 2048 (set (m .cells) (4 * k) (n .key)) (4 * k + 1) (4 * k + 2) (4 * k + 3) 0 0 0 (omega arith) (omega arith) (omega arith)
-            ∙ drop-set-lt 2048 (m .cells) (4 * k) (n .key) (omega arith);
+            three-before tableCells (set (m .cells) (keyIndex k) (n .key)) (valueIndex k) (nameIndex k) (otherIndex k) 0 0 0 (omega arith) (omega arith) (omega arith)
+            ∙ drop-set-lt tableCells (m .cells) (keyIndex k) (n .key) (omega arith);
       }
 
   one-more : 0 < length (m .heads) → entryCount (append m n) ≡ suc (entryCount m)
@@ -123,12 +124,12 @@ edit-outside m places text =
     (λ q. rw (p, q) (same m)))
 
 -- preview
-kept-outside : (cells : List ℕ) (i c name other : ℕ) → i < tableEntries → drop 2048 (keepOf cells i c name other) ≡ drop 2048 cells
-unfolding keepOf
-kept-outside cells i c name other h = three-before 2048 cells (4 * i + 1) (4 * i + 2) (4 * i + 3) c name other (omega arith) (omega arith) (omega arith)
+kept-outside : (cells : List ℕ) (i c name other : ℕ) → i < tableEntries → drop tableCells (keptWith cells i c name other) ≡ drop tableCells cells
+unfolding keptWith
+kept-outside cells i c name other h = three-before tableCells cells (valueIndex i) (nameIndex i) (otherIndex i) c name other (omega arith) (omega arith) (omega arith)
 
 work-outside : (value : List ℕ → ℕ → ℕ) (links waits flags : List ℕ) (a k i : ℕ) (cells frame : List ℕ) (count : ℕ) → i + k ≤ tableEntries
-    → drop 2048 (workFrom value links waits flags a k i cells frame count .cells) ≡ drop 2048 cells
+    → drop tableCells (workFrom value links waits flags a k i cells frame count .cells) ≡ drop tableCells cells
 unfolding workFrom
 work-outside value links waits flags a zero i cells frame count h = refl
 work-outside value links waits flags a (suc k) i cells frame count h =

@@ -2,11 +2,10 @@
 -- Assumes nothing.
 use mathlib.Core.Path.{_≡_, refl, sym, ap, _∙_}
 use mathlib.Core.Bool.{true, false, _&&_, _||_, and-eq-true-iff}
-use Prim.Native.Nat.{ℕ, _+_, _*_, _<_}
+use Prim.Native.Nat.{ℕ, _<_}
 use native.Mathlib.Omega.{arith}
 use borrow.Author.Tests.{eqb-true}
 use lib.Dec.{ltb, eqb}
-use lib.ListN.{getD}
 use Rattle.language.specs.Cases.{impossible, split}
 use Rattle.values.specs.declared.Value.{Value}
 use Rattle.values.specs.declared.Value.the-variants.{Number, Window, Function, Delayed, Missing}
@@ -18,7 +17,7 @@ use Rattle.table.specs.Memory.{Memory, Kept, entryCount, readingCount, recordin
 use Rattle.table.specs.Nodes.{isName}
 use Rattle.table.specs.WellFormed.{nameless, namesRight, wellFormed}
 use Rattle.scheduler.specs.declared.works.View.{View}
-use Rattle.table.specs.Links.{kindAt, keyAt}
+use Rattle.table.specs.Links.{kindAt, keyAt, nameAt, otherAt}
 use Rattle.evaluator.specs.Frames.{leafOf, startAt}
 use Rattle.scheduler.specs.Works.{view, showOf}
 use Rattle.refine.specs.Shows.{viewOf}
@@ -84,7 +83,7 @@ module _ (m : Memory) (n : ℕ) where
   variable-named e = rw e (rw (unpack-delayed delayedCell (omega arith) (omega arith)) (λ _. refl))
 
   names-kept : ltb (kindAt (m .links) n) 4 ≡ false → namesRight (keptAt (m .cells) n) ≡ true
-      → Named value (getD (m .cells) (4 * n + 2) 0) (getD (m .cells) (4 * n + 3) 0)
+      → Named value (nameAt (m .cells) n) (otherAt (m .cells) n)
   unfolding startAt keptAt
   names-kept q h = rw q (kept-named (keptAt (m .cells) n) h)
 
@@ -96,7 +95,7 @@ module _ (m : Memory) (n : ℕ) where
       (λ p. rw p (view-plain value (keyAt (m .cells) n) 0 (variable-named (eqb-true (kindAt (m .links) n) 1 p))))
       (λ p. split (ltb (kindAt (m .links) n) 4)
       (λ q. rw (p, q) (view-plain value 0 0 (none-named value)))
-      (λ q. rw (p, q) (view-plain value (getD (m .cells) (4 * n + 2) 0) (getD (m .cells) (4 * n + 3) 0) (names-kept q (kept-names m n w l)))))
+      (λ q. rw (p, q) (view-plain value (nameAt (m .cells) n) (otherAt (m .cells) n) (names-kept q (kept-names m n w l)))))
 
 -- what a finished preview shows
 pub preview-plain : (m : Memory) (n a k : ℕ) (v : View) → previewed m n a ≡ Finished k v → All IsReading (recordingOf m) → v ≡ viewOf (shownOf v)

@@ -30,7 +30,7 @@ use Rattle.values.specs.WindowLaws.{readings-short}
 use Rattle.values.specs.Kept.{Kept}
 use Rattle.values.specs.KeptLaws.{Readings, Each, picked, wrong, readings-of, readings-small, closed-runs}
 use Rattle.values.specs.KeptApply.{Settled, kept-closed, kept-apply0, kept-applied1}
-use Rattle.values.specs.Packing.{packOf, unpackOf, isPacked, windowCell, functionCell, delayedCell, missingCell}
+use Rattle.values.specs.Packing.{packOf, unpackOf, isPacked, windowCell, functionCell, delayedCell, missingCell, wrongCell}
 use Rattle.values.specs.PackingLaws.{unpack-number, round, test-number, kept-passes, passes-packs}
 use Rattle.values.specs.Ranges.{down-range}
 use Rattle.table.specs.Nodes.{memberOfKind}
@@ -39,7 +39,7 @@ use Rattle.table.specs.Links.{kindAt, firstAt, secondAt, isBelow}
 use Rattle.table.specs.Waits.{ownOf}
 use Rattle.evaluator.specs.Reach.{gathered as list}
 use Rattle.evaluator.specs.Frames.{leafOf, startAt, startFrom, bound, isOpen, functionOf}
-use Rattle.evaluator.specs.Working.{Graph, Go, wrongCell, boundedOf, askOf, callOf, doneOf, taskOf, pickT, judgeOf, runOf, followOf, planOf, fillOf, setOf, overOf, concludeOf, finishOf, applyAt}
+use Rattle.evaluator.specs.Working.{Graph, Go, boundedOf, askOf, callOf, doneOf, taskOf, pickT, judgeOf, runOf, followOf, planOf, fillOf, setOf, overOf, concludeOf, finishOf, applyAt}
 use Rattle.refine.specs.Free.{split}
 use Rattle.refine.specs.Kinds.{isFunction, concluded-none, ask-none, call-none}
 

@@ -3,15 +3,17 @@
 use mathlib.Core.Path.{_≡_}
 use mathlib.Core.Bool.{Bool, true, false, cond, _&&_}
 use mathlib.Core.List.{List}
-use Prim.Native.Nat.{ℕ, zero, suc, _+_, _*_, _-_, _≤_, _<_}
+use Prim.Native.Nat.{ℕ, zero, suc, _-_, _≤_, _<_}
 use lib.Dec.{leb, ltb, eqb}
 use lib.IntN.{ℤ}
 use lib.ListN.{length, getD, set, replicate}
+use Rattle.language.specs.Limits.{tableEntries, tableReadings}
 use Rattle.values.specs.Packing.{functionCell, delayedCell, unpackOf}
 use Rattle.values.specs.Shown.{shownNumbers}
 use Rattle.values.specs.declared.shown.Shown.{Shown}
 use Rattle.scheduler.specs.declared.works.View.{View}
-use Rattle.table.specs.Links.{kindAt, firstAt, secondAt, keyAt, isBelow}
+use Rattle.table.specs.Links.{tableCells, kindAt, firstAt, secondAt, keyAt, nameAt, otherAt, keptWith, isBelow}
+use Rattle.table.specs.Nodes.{variableKind, functionKind, worksKind}
 use Rattle.table.specs.Waits.{slotA, slotB, waitsFrom}
 use Rattle.evaluator.specs.Frames.{startAt, startFrom}
 use Rattle.evaluator.specs.Working.{graph, applyAt}
@@ -28,11 +30,11 @@ needFrom links (suc j) flags =
 
 -- the entries at or below entry n
 unfoldable pub needOf : List ℕ → ℕ → List ℕ
-needOf links n = needFrom links (suc n) (set (replicate 512 0) n 1)
+needOf links n = needFrom links (suc n) (set (replicate tableEntries 0) n 1)
 
 -- entry i is to be worked out
 unfoldable pub chosen : List ℕ → List ℕ → List ℕ → ℕ → Bool
-chosen links flags frame i = eqb (getD flags i 0) 1 && (leb 4 (kindAt links i) && eqb (getD frame i 0) 0)
+chosen links flags frame i = eqb (getD flags i 0) 1 && (worksKind (kindAt links i) && eqb (getD frame i 0) 0)
 
 -- the name of a slot's variable
 abbrev pub slotName : List ℕ → ℕ → ℕ
@@ -45,11 +47,8 @@ nameFor cells i c w = cond (eqb c functionCell) (keyAt cells i) (cond (eqb c del
 unfoldable pub otherFor : List ℕ → ℕ → ℕ → ℕ
 otherFor cells c w = cond (eqb c delayedCell) (slotName cells (slotB w)) 0
 
-unfoldable pub keepOf : List ℕ → ℕ → ℕ → ℕ → ℕ → List ℕ
-keepOf cells i c name other = set (set (set cells (4 * i + 1) c) (4 * i + 2) name) (4 * i + 3) other
-
 abbrev pub kept : List ℕ → ℕ → ℕ → ℕ → List ℕ
-kept cells i c w = keepOf cells i c (nameFor cells i c w) (otherFor cells c w)
+kept cells i c w = keptWith cells i c (nameFor cells i c w) (otherFor cells c w)
 
 -- what a preview leaves: the cells, how many were worked out, and whether some are left
 pub record Work : Type 0 where
@@ -73,14 +72,14 @@ workFrom value links waits flags allowance (suc k) i cells frame count =
 -- of entry n, over a recording
 unfoldable pub worked : List ℤ → List ℕ → List ℕ → ℕ → ℕ → Work
 worked xs links cells n allowance =
-    let waits : List ℕ = waitsFrom links cells (suc n) 0 (replicate 512 0) in
-    workFrom (applyAt (graph links waits xs) 512) links waits (needOf links n) allowance (suc n) 0 cells (startFrom (length xs) links cells (suc n) 0 (replicate 512 0)) 0
+    let waits : List ℕ = waitsFrom links cells (suc n) 0 (replicate tableEntries 0) in
+    workFrom (applyAt (graph links waits xs) tableEntries) links waits (needOf links n) allowance (suc n) 0 cells (startFrom (length xs) links cells (suc n) 0 (replicate tableEntries 0)) 0
 
 -- what the call is lent, and what it leaves
 pub record Lent (xs : List ℤ) (cells : List ℕ) (n : ℕ) : Type 0 where
-  pub few : length xs ≤ 1024
-  pub room : 2048 ≤ length cells
-  pub entry : n < 512
+  pub few : length xs ≤ tableReadings
+  pub room : tableCells ≤ length cells
+  pub entry : n < tableEntries
 
 pub record Works (xs : List ℤ) (links cells : List ℕ) (n allowance : ℕ) (after : List ℕ) (count : ℕ) (left : Bool) : Type 0 where
   pub same : workOf after count left ≡ worked xs links cells n allowance
@@ -97,6 +96,6 @@ pickV false a b = b
 unfoldable pub showOf : ℕ → List ℕ → List ℕ → ℕ → View
 showOf size links cells n =
     let s : Shown = shownNumbers (unpackOf (startAt size links cells n)) in
-    pickV (eqb (kindAt links n) 1) (view s (keyAt cells n) 0)
-    (pickV (ltb (kindAt links n) 4) (view s 0 0)
-    (view s (getD cells (4 * n + 2) 0) (getD cells (4 * n + 3) 0)))
+    pickV (eqb (kindAt links n) variableKind) (view s (keyAt cells n) 0)
+    (pickV (ltb (kindAt links n) functionKind) (view s 0 0)
+    (view s (nameAt cells n) (otherAt cells n)))

@@ -1,25 +1,31 @@
 // The work of one preview, and what an entry shows.
 use evaluator::frames::start_at;
 use evaluator::frames::start_frame;
-use table::links::cell;
-use table::links::is_below;
-use table::links::link;
-use table::waits::fill_waits;
 use evaluator::working::apply;
+use language::limits::Table;
+use table::cells::first_of;
+use table::cells::is_below;
+use table::cells::key_of;
+use table::cells::kind_of;
+use table::cells::name_of;
+use table::cells::other_of;
+use table::cells::put_kept;
+use table::cells::second_of;
+use table::nodes::Shape;
+use table::waits::fill_waits;
+use values::packing::Packed;
 use values::packing::unpack;
 use values::shown::numbers;
 ghost use mathlib.Core.Path.{_≡_};
-ghost use Prim.Native.Nat.{_+_, _*_, _<_, _≤_};
+ghost use Prim.Native.Nat.{_<_, _≤_};
 ghost use lib.ListN.{length};
-ghost use Rattle.scheduler.specs.Works.{raised, needOf, chosen as chosenOf, slotName, nameFor, otherFor, keepOf, kept as keptOf, Lent, Works, showOf};
-
-const FUNCTION: u64 = 17179869184;
-
-const DELAYED: u64 = 25769803776;
+ghost use Rattle.language.specs.Limits.{tableEntries};
+ghost use Rattle.table.specs.Links.{tableCells};
+ghost use Rattle.scheduler.specs.Works.{raised, needOf, chosen as chosenOf, slotName, nameFor, otherFor, kept as keptOf, Lent, Works, showOf};
 
 // Flags a dependency of entry j.
-fn raise(j: usize, link: usize, flags: &mut [u8; 512])
-    requires { ⌜ j < 512 ⌝ }
+fn raise(j: usize, link: usize, flags: &mut [u8; Table::ENTRIES])
+    requires { ⌜ j < tableEntries ⌝ }
     ensures { λ _. ⌜ now (flags .exit) ≡ raised j link (now (flags .entry)) ⌝ }
 {
     if is_below(link, j) {
@@ -28,29 +34,34 @@ fn raise(j: usize, link: usize, flags: &mut [u8; 512])
 }
 
 // Flags the entries at or below entry n, by a falling sweep.
-fn need(links: &[u16], n: usize, flags: &mut [u8; 512])
-    requires { ⌜ n < 512 ⌝ }
+fn need(links: &[u16], n: usize, flags: &mut [u8; Table::ENTRIES])
+    requires { ⌜ n < tableEntries ⌝ }
     ensures { λ _. ⌜ now (flags .exit) ≡ needOf (now (links .entry)) n ⌝ }
 {
-    *flags = [0u8; 512];
+    *flags = [0u8; Table::ENTRIES];
     flags[n] = 1;
     let mut j = n + 1;
     while 0 < j {
         j -= 1;
         if flags[j] == 1 {
-            raise(j, link(links, 3 * j + 1) as usize, flags);
-            raise(j, link(links, 3 * j + 2) as usize, flags);
+            raise(j, first_of(links, j) as usize, flags);
+            raise(j, second_of(links, j) as usize, flags);
         }
     }
 }
 
 // Whether entry i is to be worked out.
-fn chosen(links: &[u16], flags: &[u8; 512], frame: &[u64; 512], i: usize) -> bool
-    requires { ⌜ i < 512 ⌝ }
+fn chosen(
+    links: &[u16],
+    flags: &[u8; Table::ENTRIES],
+    frame: &[u64; Table::ENTRIES],
+    i: usize,
+) -> bool
+    requires { ⌜ i < tableEntries ⌝ }
     ensures { λ r. ⌜ r ≡ chosenOf (now (links .entry)) (now (flags .entry)) (now (frame .entry)) i ⌝ }
 {
     if flags[i] == 1 {
-        if 4 <= link(links, 3 * i) {
+        if Shape::FUNCTION <= kind_of(links, i) {
             return frame[i] == 0;
         }
         return false;
@@ -63,19 +74,19 @@ fn slot_name(cells: &[u64], p: u32) -> u64
     ensures { λ r. ⌜ r ≡ slotName (now (cells .entry)) p ⌝ }
 {
     if 1 <= p {
-        return cell(cells, 4 * (p as usize - 1));
+        return key_of(cells, p as usize - 1);
     }
     0
 }
 
 fn name_for(cells: &[u64], i: usize, c: u64, w: u32) -> u64
-    requires { ⌜ i < 512 ⌝ }
+    requires { ⌜ i < tableEntries ⌝ }
     ensures { λ r. ⌜ r ≡ nameFor (now (cells .entry)) i c w ⌝ }
 {
-    if c == FUNCTION {
-        return cell(cells, 4 * i);
+    if c == Packed::FUNCTION {
+        return key_of(cells, i);
     }
-    if c == DELAYED {
+    if c == Packed::DELAYED {
         return slot_name(cells, w / 65536);
     }
     0
@@ -84,29 +95,20 @@ fn name_for(cells: &[u64], i: usize, c: u64, w: u32) -> u64
 fn other_for(cells: &[u64], c: u64, w: u32) -> u64
     ensures { λ r. ⌜ r ≡ otherFor (now (cells .entry)) c w ⌝ }
 {
-    if c == DELAYED {
+    if c == Packed::DELAYED {
         return slot_name(cells, w % 65536);
     }
     0
 }
 
-fn put(cells: &mut [u64], i: usize, c: u64, name: u64, other: u64)
-    requires { ⌜ 4 * i + 3 < length (now cells) ⌝ }
-    ensures { λ _. ⌜ now (cells .exit) ≡ keepOf (now (cells .entry)) i c name other ⌝ }
-{
-    cells[4 * i + 1] = c;
-    cells[4 * i + 2] = name;
-    cells[4 * i + 3] = other;
-}
-
 // Keeps the value of entry i, which awaits w, with the names that it shows.
 fn keep(cells: &mut [u64], i: usize, c: u64, w: u32)
-    requires { ⌜ (i < 512) × (2048 ≤ length (now cells)) ⌝ }
+    requires { ⌜ (i < tableEntries) × (tableCells ≤ length (now cells)) ⌝ }
     ensures { λ _. ⌜ now (cells .exit) ≡ keptOf (now (cells .entry)) i c w ⌝ }
 {
     let name = name_for(cells, i, c, w);
     let other = other_for(cells, c, w);
-    put(cells, i, c, name, other);
+    put_kept(cells, i, c, name, other);
 }
 
 // How many entries were worked out, and whether some are left.
@@ -120,11 +122,11 @@ pub fn work(readings: &[i32], links: &[u16], cells: &mut [u64], n: usize, allowa
     requires { ⌜ Lent (now readings) (now cells) n ⌝ }
     ensures { λ r. ⌜ Works (now (readings .entry)) (now (links .entry)) (now (cells .entry)) n allowance (now (cells .exit)) (r .count) (r .left) ⌝ }
 {
-    let mut waits = [0u32; 512];
+    let mut waits = [0u32; Table::ENTRIES];
     fill_waits(links, cells, n + 1, &mut waits);
-    let mut frame = [0u64; 512];
+    let mut frame = [0u64; Table::ENTRIES];
     start_frame(readings.len() as u16, links, cells, n + 1, &mut frame);
-    let mut flags = [0u8; 512];
+    let mut flags = [0u8; Table::ENTRIES];
     need(links, n, &mut flags);
     let mut count: u32 = 0;
     let mut i: usize = 0;
@@ -158,21 +160,21 @@ pub struct View {
 
 // What entry n shows, from its kept cells, or of a leaf from the entry itself; the recording has so many readings.
 pub fn show(size: u16, links: &[u16], cells: &[u64], n: usize) -> View
-    requires { ⌜ n < 512 ⌝ }
+    requires { ⌜ n < tableEntries ⌝ }
     ensures { λ r. ⌜ r ≡ showOf size (now (links .entry)) (now (cells .entry)) n ⌝ }
 {
     let s = numbers(unpack(start_at(size, links, cells, n)));
-    let kind = link(links, 3 * n);
-    if kind == 1 {
+    let kind = kind_of(links, n);
+    if kind == Shape::VARIABLE {
         return View {
             kind: s.kind,
             first: s.first,
             second: s.second,
-            name: cell(cells, 4 * n),
+            name: key_of(cells, n),
             other: 0,
         };
     }
-    if kind < 4 {
+    if kind < Shape::FUNCTION {
         return View {
             kind: s.kind,
             first: s.first,
@@ -185,7 +187,7 @@ pub fn show(size: u16, links: &[u16], cells: &[u64], n: usize) -> View
         kind: s.kind,
         first: s.first,
         second: s.second,
-        name: cell(cells, 4 * n + 2),
-        other: cell(cells, 4 * n + 3),
+        name: name_of(cells, n),
+        other: other_of(cells, n),
     }
 }

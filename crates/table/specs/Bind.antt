@@ -2,9 +2,10 @@
 -- Assumes nothing: these are definitions.
 use mathlib.Core.Bool.{cond}
 use mathlib.Core.List.{List, [], _∷_, _++_}
-use Prim.Native.Nat.{ℕ, zero, suc, _+_, _*_}
+use Prim.Native.Nat.{ℕ, zero, suc}
 use lib.Dec.{ltb}
 use lib.ListN.{length, getD, set}
+use Rattle.table.specs.Links.{linksWith, cellsWith}
 use Rattle.table.specs.Memory.{Memory, Node, entryCount}
 use Rattle.table.specs.Nodes.{sameNode}
 
@@ -43,8 +44,8 @@ append m n =
     record {
       readings = m .readings;
       heads = set (m .heads) 0 (suc k);
-      links = set (set (set (m .links) (3 * k) (n .kind)) (3 * k + 1) (n .first)) (3 * k + 2) (n .second);
-      cells = set (set (set (set (m .cells) (4 * k) (n .key)) (4 * k + 1) 0) (4 * k + 2) 0) (4 * k + 3) 0;
+      links = linksWith (m .links) k (n .kind) (n .first) (n .second);
+      cells = cellsWith (m .cells) k (n .key);
     }
 
 unfoldable pub appendAll : Memory → List Node → Memory

@@ -2,16 +2,17 @@
 use mathlib.Core.Path.{_≡_, refl, sym, ap, _∙_}
 use mathlib.Core.Bool.{Bool, true, false, not, _&&_, _||_}
 use mathlib.Core.List.{List, _∷_}
-use Prim.Native.Nat.{ℕ, zero, suc, _+_, _-_, _*_, _≤_, _<_}
+use Prim.Native.Nat.{ℕ, zero, suc, _+_, _-_, _≤_, _<_}
 use native.Mathlib.Omega.{arith}
 use borrow.Author.Tests.{eq-eqb, ne-eqb, le-leb, lt-leb, ltb-true, ltb-false}
 use lib.Dec.{eqb, ltb, leb}
 use lib.IntN.{ℤ}
 use lib.ListN.{getD}
-use Rattle.values.specs.Packing.{isPacked}
+use Rattle.values.specs.Packing.{functionCell, delayedCell, isPacked}
 use Rattle.meaning.specs.EvaluationLaws.{split}
+use Rattle.table.specs.Links.{kindAt, valueAt, nameAt, otherAt}
 use Rattle.table.specs.Memory.{Node, Entry, nodeAt, keptAt, entryAt, entriesFrom, nodesOf}
-use Rattle.table.specs.Nodes.{arity, listed, kids, isName}
+use Rattle.table.specs.Nodes.{worksKind, arity, listed, kids, isName}
 use Rattle.table.specs.WellFormed.{every, kindKnown, keyRight, arityRight, lower, distinct, awaitsFew, isDone, doneAt, allDone, settled, namesRight, keptRight, wellFormed}
 use Rattle.table.specs.Right.{allFrom, numbered, nodeRight, rightAt}
 use Rattle.table.specs.Held.{shaped}
@@ -55,8 +56,8 @@ module _ (links cells : List ℕ) where
   done-out i (suc n) (suc j) h = done-out (suc i) n j (omega arith)
 
 -- The code's steps.
-pub done-is : (links cells : List ℕ) (n j k v : ℕ) → k ≡ getD links (3 * j) 0 → v ≡ getD cells (4 * j + 1) 0
-    → (ltb j n && (not (leb 4 k) || leb 1 v)) ≡ doneAt (entriesFrom links cells 0 n) j
+pub done-is : (links cells : List ℕ) (n j k v : ℕ) → k ≡ kindAt links j → v ≡ valueAt cells j
+    → (ltb j n && (not (worksKind k) || leb 1 v)) ≡ doneAt (entriesFrom links cells 0 n) j
 unfolding nodeAt keptAt
 done-is links cells n j k v p q =
     let z : 0 + j ≡ j = omega arith in
@@ -94,31 +95,31 @@ module _ (es : List Entry) (x : Shape) (m : Node) (qm : shaped x ≡ m) (a : ℕ
         by false d = refl
 
 module _ (value name other : ℕ) where
-  pub names-function : (r : Bool) → r ≡ isName name → value ≡ 17179869184 → (r && eqb other 0) ≡ namesRight (kept value name other)
+  pub names-function : (r : Bool) → r ≡ isName name → value ≡ functionCell → (r && eqb other 0) ≡ namesRight (kept value name other)
   unfolding namesRight
-  names-function r q e = rw (eq-eqb value 17179869184 e, q)
+  names-function r q e = rw (eq-eqb value functionCell e, q)
 
-  pub names-delayed : (r s : Bool) → r ≡ isName name → s ≡ isName other → (value ≡ 17179869184 → ⊥) → value ≡ 25769803776
+  pub names-delayed : (r s : Bool) → r ≡ isName name → s ≡ isName other → (value ≡ functionCell → ⊥) → value ≡ delayedCell
       → ((eqb name 0 && eqb other 0) || (r && (eqb other 0 || s))) ≡ namesRight (kept value name other)
   unfolding namesRight
-  names-delayed r s q p u e = rw (ne-eqb value 17179869184 u, eq-eqb value 25769803776 e, q, p)
+  names-delayed r s q p u e = rw (ne-eqb value functionCell u, eq-eqb value delayedCell e, q, p)
 
-  pub names-none : (value ≡ 17179869184 → ⊥) → (value ≡ 25769803776 → ⊥) → (eqb name 0 && eqb other 0) ≡ namesRight (kept value name other)
+  pub names-none : (value ≡ functionCell → ⊥) → (value ≡ delayedCell → ⊥) → (eqb name 0 && eqb other 0) ≡ namesRight (kept value name other)
   unfolding namesRight
-  names-none u v = rw (ne-eqb value 17179869184 u, ne-eqb value 25769803776 v)
+  names-none u v = rw (ne-eqb value functionCell u, ne-eqb value delayedCell v)
 
 module _ (links cells : List ℕ) (n readings i value name other : ℕ) (r : Bool) (qr : r ≡ namesRight (kept value name other))
-    (qv : value ≡ getD cells (4 * i + 1) 0) (qn : name ≡ getD cells (4 * i + 2) 0) (qo : other ≡ getD cells (4 * i + 3) 0) where
+    (qv : value ≡ valueAt cells i) (qn : name ≡ nameAt cells i) (qo : other ≡ otherAt cells i) where
   kept-as : keptOk links cells n readings i
-      ≡ ((eqb value 0 || allDone (entriesFrom links cells 0 n) (kids (nodeAt links cells i))) && (r && (eqb value 0 || (leb 4 (getD links (3 * i) 0) && isPacked value readings))))
+      ≡ ((eqb value 0 || allDone (entriesFrom links cells 0 n) (kids (nodeAt links cells i))) && (r && (eqb value 0 || (worksKind (kindAt links i) && isPacked value readings))))
   unfolding keptOk keptRight keptAt nodeAt
   kept-as = rw (qr, qv, qn, qo)
 
   pub kept-none : r ≡ true → value ≡ 0 → true ≡ keptOk links cells n readings i
   kept-none t e = sym (kept-as ∙ rw (t, eq-eqb value 0 e))
 
-  pub kept-some : (d p : Bool) (kind : ℕ) → d ≡ allDone (entriesFrom links cells 0 n) (kids (nodeAt links cells i)) → p ≡ isPacked value readings → kind ≡ getD links (3 * i) 0
-      → r ≡ true → (value ≡ 0 → ⊥) → (d && (leb 4 kind && p)) ≡ keptOk links cells n readings i
+  pub kept-some : (d p : Bool) (kind : ℕ) → d ≡ allDone (entriesFrom links cells 0 n) (kids (nodeAt links cells i)) → p ≡ isPacked value readings → kind ≡ kindAt links i
+      → r ≡ true → (value ≡ 0 → ⊥) → (d && (worksKind kind && p)) ≡ keptOk links cells n readings i
   kept-some d p kind qd qp qk t u = sym (kept-as ∙ rw (t, ne-eqb value 0 u, ← qd, ← qp, ← qk))
 
   pub kept-bad : r ≡ false → false ≡ keptOk links cells n readings i

@@ -4,12 +4,13 @@ use mathlib.Core.List.{List}
 use Prim.Native.Nat.{ℕ, _+_, _-_, _*_, _/_, _%_, _≤_, _<_}
 use borrow.Author.Tests.{lt-ltb, le-ltb}
 use lib.ListN.{getD}
+use Rattle.table.specs.Links.{kindAt, firstAt, secondAt, keyAt}
 use Rattle.table.specs.Memory.{Node, nodeAt}
 use Rattle.table.specs.Right.{node}
 use Rattle.table.specs.Held.{freshAt, heldAt}
 
-pub node-is : (links cells : List ℕ) (i kind key first second : ℕ) → kind ≡ getD links (3 * i) 0 → key ≡ getD cells (4 * i) 0 → first ≡ getD links (3 * i + 1) 0
-    → second ≡ getD links (3 * i + 2) 0 → node kind key first second ≡ nodeAt links cells i
+pub node-is : (links cells : List ℕ) (i kind key first second : ℕ) → kind ≡ kindAt links i → key ≡ keyAt cells i → first ≡ firstAt links i
+    → second ≡ secondAt links i → node kind key first second ≡ nodeAt links cells i
 unfolding nodeAt
 node-is links cells i kind key first second k y f s = rw (k, y, f, s)
 

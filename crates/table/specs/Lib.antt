@@ -9,6 +9,7 @@ pub mod CheckedLaws
 pub mod Held
 pub mod HeldLaws
 pub mod Links
+pub mod LinksLaws
 pub mod Memory
 pub mod Nodes
 pub mod Right

@@ -1,13 +1,14 @@
 -- The cache's memory as it is lent (docs/MEMORY.md), and the entries that it holds. Assumes nothing: these are definitions.
 use mathlib.Core.Bool.{Bool, _&&_}
 use mathlib.Core.List.{List, [], _∷_, map}
-use Prim.Native.Nat.{ℕ, zero, suc, _+_, _*_}
+use Prim.Native.Nat.{ℕ, zero, suc}
 use lib.Dec.{leb}
 use lib.IntN.{ℤ}
 use lib.ListN.{length, take, getD}
-use Rattle.language.specs.Limits.{tableEntries, tableReadings}
+use Rattle.language.specs.Limits.{tableReadings}
+use Rattle.table.specs.Links.{tableLinks, tableCells, kindAt, firstAt, secondAt, keyAt, valueAt, nameAt, otherAt}
 
--- four slices: the readings; the counts of entries and of readings; three links an entry; four cells an entry
+-- four slices: the readings; the counts of entries and of readings; each entry's links; each entry's cells
 pub record Memory : Type 0 where
   pub readings : List ℤ
   pub heads : List ℕ
@@ -16,7 +17,9 @@ pub record Memory : Type 0 where
 
 -- 01, refusal 3: is the cache lent whole
 unfoldable pub fits : Memory → Bool
-fits m = leb tableReadings (length (m .readings)) && (leb 2 (length (m .heads)) && (leb (3 * tableEntries) (length (m .links)) && leb (4 * tableEntries) (length (m .cells))))
+fits m =
+    leb tableReadings (length (m .readings))
+    && (leb 2 (length (m .heads)) && (leb tableLinks (length (m .links)) && leb tableCells (length (m .cells))))
 
 abbrev pub entryCount : Memory → ℕ
 entryCount m = getD (m .heads) 0 0
@@ -49,10 +52,10 @@ nothingKept = record { value = 0; name = 0; other = 0 }
 
 -- entry i
 unfoldable pub nodeAt : List ℕ → List ℕ → ℕ → Node
-nodeAt links cells i = record { kind = getD links (3 * i) 0; key = getD cells (4 * i) 0; first = getD links (3 * i + 1) 0; second = getD links (3 * i + 2) 0 }
+nodeAt links cells i = record { kind = kindAt links i; key = keyAt cells i; first = firstAt links i; second = secondAt links i }
 
 unfoldable pub keptAt : List ℕ → ℕ → Kept
-keptAt cells i = record { value = getD cells (4 * i + 1) 0; name = getD cells (4 * i + 2) 0; other = getD cells (4 * i + 3) 0 }
+keptAt cells i = record { value = valueAt cells i; name = nameAt cells i; other = otherAt cells i }
 
 abbrev pub entryAt : List ℕ → List ℕ → ℕ → Entry
 entryAt links cells i = record { node = nodeAt links cells i; kept = keptAt cells i }

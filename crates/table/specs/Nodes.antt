@@ -13,7 +13,7 @@ use Rattle.language.specs.declared.members.Found.the-variants.{Is, Unknown}
 use Rattle.meaning.specs.Forms.{Form, number, variable, unbound, readings, ask, call, function}
 use Rattle.table.specs.Memory.{Node}
 
--- kinds: 0 number, 1 lambda variable, 2 unbound name, 3 the recording, 4 function, and from 5 on the members by their numbers
+-- kinds: 0 number, 1 lambda variable, 2 unbound name, 3 the recording, 4 function, and from 5 on the 16 members by their numbers
 abbrev pub numberKind : ℕ
 numberKind = 0
 
@@ -29,8 +29,14 @@ readingsKind = 3
 abbrev pub functionKind : ℕ
 functionKind = 4
 
+abbrev pub firstMember : ℕ
+firstMember = 5
+
+abbrev pub kindCount : ℕ
+kindCount = 21
+
 abbrev pub memberKind : Member → ℕ
-memberKind m = 5 + memberNumber m
+memberKind m = firstMember + memberNumber m
 
 abbrev pub pickFound : Bool → Found → Found → Found
 pickFound true a b = a
@@ -38,7 +44,7 @@ pickFound false a b = b
 
 -- the member of a kind, if it is one
 unfoldable pub memberOfKind : ℕ → Found
-memberOfKind k = pickFound (ltb k 5) Unknown (memberAt (k - 5))
+memberOfKind k = pickFound (ltb k firstMember) Unknown (memberAt (k - firstMember))
 
 abbrev pub memberArity : Found → ℕ
 memberArity (Is m) = suc (row m .arguments)

@@ -2,13 +2,13 @@
 use mathlib.Core.Path.{_≡_, refl, sym, _∙_}
 use mathlib.Core.Bool.{Bool, true, false, cond, not, _&&_, _||_}
 use mathlib.Core.List.{List, [], _∷_}
-use Prim.Native.Nat.{ℕ, zero, suc, _+_, _-_, _*_, _/_, _%_, _≤_, _<_}
+use Prim.Native.Nat.{ℕ, zero, suc, _+_, _-_, _/_, _%_, _≤_, _<_}
 use native.Mathlib.Nat.{mod-eq-of-lt, sub-zero}
 use native.Mathlib.Numerals.{add-one}
 use native.Mathlib.Omega.{arith}
 use borrow.Author.Tests.{eq-eqb, ne-eqb, lt-ltb, le-ltb, leb-true}
 use lib.Dec.{eqb, leb, ltb}
-use lib.ListN.{length, getD}
+use lib.ListN.{length}
 use Rattle.language.specs.Names.{isLetter, inWord, packOnto, bytes, letWord, inWord!, dataWord}
 use Rattle.language.specs.Members.{row, memberAt, foundIn, members}
 use Rattle.language.specs.declared.members.Member.{Member}
@@ -16,8 +16,9 @@ use Rattle.language.specs.declared.members.Found.{Found}
 use Rattle.language.specs.declared.members.Found.the-variants.{Is, Unknown}
 use Rattle.meaning.specs.FormsLaws.{and-left, and-right}
 use Rattle.meaning.specs.EvaluationLaws.{split}
+use Rattle.table.specs.Links.{kindAt, firstAt, secondAt, keyAt}
 use Rattle.table.specs.Memory.{Node, nodeAt}
-use Rattle.table.specs.Nodes.{memberOfKind, memberArity, arity, wordNumber, isName}
+use Rattle.table.specs.Nodes.{numberKind, variableKind, unboundKind, functionKind, firstMember, kindCount, memberOfKind, memberArity, arity, wordNumber, isName}
 use Rattle.table.specs.WellFormed.{kindKnown, keyRight, arityRight, lower}
 use Rattle.table.specs.Right.{node, allFrom, nodeRight, rightAt}
 
@@ -75,21 +76,25 @@ pub arity-of : (f : Found) (m : Member) (a : ℕ) → a ≡ row m .arguments →
 arity-of f m a q e = rw e (omega arith)
 
 module _ (k : ℕ) where
-  pub arity-function : k ≡ 4 → 1 ≡ arity k
+  pub arity-function : k ≡ functionKind → 1 ≡ arity k
   unfolding arity
-  arity-function e = rw (eq-eqb k 4 e)
+  arity-function e = rw (eq-eqb k functionKind e)
 
-  pub arity-none : (k ≡ 4 → ⊥) → k < 5 → 0 ≡ arity k
-  unfolding arity memberOfKind
-  arity-none e h = rw (ne-eqb k 4 e, lt-ltb k 5 h)
+  pub arity-member : (f : Found) (a : ℕ) → a ≡ memberArity f → f ≡ memberOfKind k → (k ≡ functionKind → ⊥) → a ≡ arity k
+  unfolding arity
+  arity-member f a q e u = rw (ne-eqb k functionKind u) (rw (q, e))
 
-  pub arity-member : (f : Found) (a : ℕ) → a ≡ memberArity f → f ≡ memberAt (k - 5) → (k ≡ 4 → ⊥) → 5 ≤ k → a ≡ arity k
-  unfolding arity memberOfKind
-  arity-member f a q e u h = rw (ne-eqb k 4 u, le-ltb k 5 h) (rw (q, e))
+  pub member-low : k < firstMember → Unknown ≡ memberOfKind k
+  unfolding memberOfKind
+  member-low h = rw (lt-ltb k firstMember h)
 
-  pub arity-unknown : 21 ≤ k → 0 ≡ arity k
-  unfolding arity memberOfKind memberAt
-  arity-unknown h = rw (ne-eqb k 4 (λ e. omega arith), le-ltb k 5 (omega arith)) (rw (past members (k - 5) (omega arith)))
+  pub member-is : (f : Found) → f ≡ memberAt (k - firstMember) → firstMember ≤ k → f ≡ memberOfKind k
+  unfolding memberOfKind
+  member-is f e h = rw (le-ltb k firstMember h) e
+
+  pub member-high : kindCount ≤ k → Unknown ≡ memberOfKind k
+  unfolding memberOfKind memberAt
+  member-high h = rw (le-ltb k firstMember (omega arith)) (sym (past members (k - firstMember) (omega arith)))
     where
       past : (ms : List Member) (n : ℕ) → length ms ≤ n → foundIn ms n ≡ Unknown
       past [] n h = refl
@@ -98,17 +103,17 @@ module _ (k : ℕ) where
 
 -- the key by kind
 module _ (kind key : ℕ) where
-  pub key-number : kind ≡ 0 → ltb key 4294967296 ≡ keyRight (node kind key 0 0)
+  pub key-number : kind ≡ numberKind → ltb key 4294967296 ≡ keyRight (node kind key 0 0)
   unfolding keyRight
-  key-number e = rw (eq-eqb kind 0 e)
+  key-number e = rw (eq-eqb kind numberKind e)
 
-  pub key-name : (r : Bool) → r ≡ isName key → (eqb kind 1 || (eqb kind 2 || eqb kind 4)) ≡ true → (kind ≡ 0 → ⊥) → r ≡ keyRight (node kind key 0 0)
+  pub key-name : (r : Bool) → r ≡ isName key → (eqb kind variableKind || (eqb kind unboundKind || eqb kind functionKind)) ≡ true → (kind ≡ numberKind → ⊥) → r ≡ keyRight (node kind key 0 0)
   unfolding keyRight
-  key-name r q t e = rw (ne-eqb kind 0 e, t) q
+  key-name r q t e = rw (ne-eqb kind numberKind e, t) q
 
-  pub key-none : (eqb kind 1 || (eqb kind 2 || eqb kind 4)) ≡ false → (kind ≡ 0 → ⊥) → eqb key 0 ≡ keyRight (node kind key 0 0)
+  pub key-none : (eqb kind variableKind || (eqb kind unboundKind || eqb kind functionKind)) ≡ false → (kind ≡ numberKind → ⊥) → eqb key 0 ≡ keyRight (node kind key 0 0)
   unfolding keyRight
-  key-none t e = rw (ne-eqb kind 0 e, t)
+  key-none t e = rw (ne-eqb kind numberKind e, t)
 
 -- the dependencies by their number
 module _ (kind first second n : ℕ) (q : n ≡ arity kind) where
@@ -124,16 +129,16 @@ module _ (kind first second n : ℕ) (q : n ≡ arity kind) where
   unfolding arityRight
   arity-two u v = rw (← q, ne-eqb n 0 u, ne-eqb n 1 v)
 
-module _ (links cells : List ℕ) (i kind : ℕ) (qk : kind ≡ getD links (3 * i) 0) where
+module _ (links cells : List ℕ) (i kind : ℕ) (qk : kind ≡ kindAt links i) where
   pub right-known : (key first second : ℕ) (a b : Bool) → a ≡ keyRight (node kind key 0 0) → b ≡ arityRight (node kind 0 first second)
-      → key ≡ getD cells (4 * i) 0 → first ≡ getD links (3 * i + 1) 0 → second ≡ getD links (3 * i + 2) 0 → kind < 21
+      → key ≡ keyAt cells i → first ≡ firstAt links i → second ≡ secondAt links i → kind < kindCount
       → (a && (b && (leb first i && leb second i))) ≡ rightAt links cells i
   unfolding rightAt nodeRight nodeAt keyRight arityRight
-  right-known key first second a b qa qb q f s h = rw (← qk, ← q, ← f, ← s, lt-ltb kind 21 h) (rw (qa, qb))
+  right-known key first second a b qa qb q f s h = rw (← qk, ← q, ← f, ← s, lt-ltb kind kindCount h) (rw (qa, qb))
 
-  pub right-unknown : 21 ≤ kind → false ≡ rightAt links cells i
+  pub right-unknown : kindCount ≤ kind → false ≡ rightAt links cells i
   unfolding rightAt nodeRight nodeAt
-  right-unknown h = rw (← qk, le-ltb kind 21 h)
+  right-unknown h = rw (← qk, le-ltb kind kindCount h)
 
 -- the clauses of a right node
 module _ (i : ℕ) (n : Node) (r : nodeRight i n ≡ true) where
@@ -173,9 +178,9 @@ module _ (i : ℕ) (n : Node) (r : nodeRight i n ≡ true) where
       leb-true 1 (n .second) (and-right (leb 1 (n .first)) _
       (rw (ne-eqb (arity (n .kind)) 0 (λ q. omega arith), ne-eqb (arity (n .kind)) 1 (λ q. omega arith)) at right-arity))
 
-  pub variable-named : n .kind ≡ 1 → isName (n .key) ≡ true
+  pub variable-named : n .kind ≡ variableKind → isName (n .key) ≡ true
   unfolding keyRight
-  variable-named e = rw (ne-eqb (n .kind) 0 (λ q. omega arith), eq-eqb (n .kind) 1 e) at right-key
+  variable-named e = rw (ne-eqb (n .kind) numberKind (λ q. omega arith), eq-eqb (n .kind) variableKind e) at right-key
 
 -- what holds of each number
 pub all-at : (p : ℕ → Bool) (n i j : ℕ) → allFrom p n j ≡ true → i < n → p (j + i) ≡ true
@@ -193,6 +198,6 @@ unfolding allFrom
 all-of p zero i h = refl
 all-of p (suc n) i h = rw (h i (omega arith) (omega arith)) (all-of p n (suc i) (λ j k l. h j (omega arith) (omega arith)))
 
-pub ruleset entries = (arity-of, word-stop, word-go, word-fail, word-end, name-is, arity-function, arity-none, arity-member, arity-unknown, key-number, key-name, key-none, arity-zero, arity-one, arity-two, right-known, right-unknown)
+pub ruleset entries = (arity-of, word-stop, word-go, word-fail, word-end, name-is, arity-function, arity-member, member-low, member-is, member-high, key-number, key-name, key-none, arity-zero, arity-one, arity-two, right-known, right-unknown)
 
 pub ruleset loops = (all-start, all-go, all-stop, all-end)

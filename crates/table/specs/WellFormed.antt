@@ -8,7 +8,7 @@ use Rattle.language.specs.Limits.{tableEntries, tableReadings}
 use Rattle.values.specs.Packing.{isPacked, isFunctionCell, isDelayedCell}
 use Rattle.meaning.specs.Evaluation.{joined, without}
 use Rattle.table.specs.Memory.{Memory, Node, Kept, Entry, entryCount, readingCount, entriesOf, nodesOf}
-use Rattle.table.specs.Nodes.{numberKind, variableKind, unboundKind, functionKind, worksKind, arity, kids, sameNode, isName}
+use Rattle.table.specs.Nodes.{numberKind, variableKind, unboundKind, functionKind, kindCount, worksKind, arity, kids, sameNode, isName}
 
 -- a test of every entry, with its number
 unfoldable pub every : {A : Type 0} → (ℕ → A → Bool) → ℕ → List A → Bool
@@ -17,7 +17,7 @@ every p i (x ∷ xs) = p i x && every p (suc i) xs
 
 -- unknown kind
 abbrev pub kindKnown : Node → Bool
-kindKnown n = ltb (n .kind) 21
+kindKnown n = ltb (n .kind) kindCount
 
 -- a name that is none, a number beyond 32 bits; the recording and the members have neither
 unfoldable pub keyRight : Node → Bool

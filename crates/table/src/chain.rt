@@ -1,17 +1,24 @@
 // A chain for each hash, in the call's own frame: the first 512 cells hold one more than the latest entry of the hash, or 0; then a cell
 // for each entry holds the same of the entries before it.
 use crate::nodes::Shape;
+use crate::nodes::TEXT_WORDS;
 use crate::nodes::held_at;
 use crate::nodes::same;
+use language::limits::Table;
+use language::limits::Text;
 ghost use mathlib.Core.Path.{_≡_};
 ghost use mathlib.Core.Bool.{true};
 ghost use Prim.Native.Nat.{_+_, _<_, _≤_};
 ghost use lib.ListN.{length};
+ghost use Rattle.language.specs.Limits.{tableEntries};
 ghost use Rattle.table.specs.Memory.{nodeAt};
 ghost use Rattle.table.specs.WellFormed.{distinct};
 ghost use Rattle.table.specs.Right.{numbered};
 ghost use Rattle.table.specs.Held.{shaped, heldAt};
 ghost use Rattle.table.specs.Chain.{hashOf, lastSame, Chained, linked, Entered};
+
+// A cell for each of 512 hashes, and one for each entry, held or about to be appended.
+pub const CHAIN_CELLS: usize = 512 + (Table::ENTRIES + Text::PARTS);
 
 // The chain of a node.
 pub fn hash(x: Shape) -> u16
@@ -26,8 +33,8 @@ pub fn seek(
     links: &[u16],
     cells: &[u64],
     count: u16,
-    fresh: &[u64; 256],
-    chain: &[u16; 1152],
+    fresh: &[u64; TEXT_WORDS],
+    chain: &[u16; CHAIN_CELLS],
     total: u16,
     h: u16,
     x: Shape,
@@ -48,7 +55,7 @@ pub fn seek(
 }
 
 // Entry i, of hash h, is put in front of its chain.
-pub fn enter(chain: &mut [u16; 1152], h: u16, i: u16)
+pub fn enter(chain: &mut [u16; CHAIN_CELLS], h: u16, i: u16)
     requires { ⌜ (h < 512) × (i < 640) × (length (now chain) ≡ 1152) ⌝ }
     ensures { λ _. ⌜ now (chain .exit) ≡ linked (now (chain .entry)) h i ⌝ }
 {
@@ -61,8 +68,8 @@ fn enter_new(
     links: &[u16],
     cells: &[u64],
     count: u16,
-    fresh: &[u64; 256],
-    chain: &mut [u16; 1152],
+    fresh: &[u64; TEXT_WORDS],
+    chain: &mut [u16; CHAIN_CELLS],
     i: u16,
 ) -> bool
     requires { ⌜ Chained (heldAt (now links) (now cells) count (now fresh)) (now chain) i ⌝ }
@@ -80,11 +87,11 @@ fn enter_new(
 
 // No two of the first n entries are equal.
 pub fn distinct_nodes(links: &[u16], cells: &[u64], n: u16) -> bool
-    requires { ⌜ n ≤ 512 ⌝ }
+    requires { ⌜ n ≤ tableEntries ⌝ }
     ensures { λ r. ⌜ r ≡ distinct (numbered (nodeAt (now (links .entry)) (now (cells .entry))) 0 n) ⌝ }
 {
-    let fresh = [0u64; 256];
-    let mut chain = [0u16; 1152];
+    let fresh = [0u64; TEXT_WORDS];
+    let mut chain = [0u16; CHAIN_CELLS];
     let mut i: u16 = 0;
     while i < n {
         if enter_new(links, cells, n, &fresh, &mut chain, i) {
@@ -101,11 +108,11 @@ pub fn enter_all(
     links: &[u16],
     cells: &[u64],
     count: u16,
-    fresh: &[u64; 256],
-    chain: &mut [u16; 1152],
+    fresh: &[u64; TEXT_WORDS],
+    chain: &mut [u16; CHAIN_CELLS],
 )
     requires { ⌜ Chained (heldAt (now links) (now cells) count (now fresh)) (now chain) 0 ⌝ }
-    requires { ⌜ count ≤ 512 ⌝ }
+    requires { ⌜ count ≤ tableEntries ⌝ }
     ensures { λ _. ⌜ Chained (heldAt (now (links .entry)) (now (cells .entry)) count (now (fresh .entry))) (now (chain .exit)) count ⌝ }
 {
     let mut i: u16 = 0;

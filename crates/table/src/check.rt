@@ -1,7 +1,9 @@
 // 01, refusal 4: whether a cache is well-formed. One pass for each concern, each linear in the number of entries.
-use crate::cells::at16;
 use crate::cells::at32;
-use crate::cells::at64;
+use crate::cells::kind_of;
+use crate::cells::name_of;
+use crate::cells::other_of;
+use crate::cells::value_of;
 use crate::chain::distinct_nodes;
 use crate::entries::arity;
 use crate::entries::is_name;
@@ -11,29 +13,26 @@ use crate::nodes::Shape;
 use crate::nodes::entry_of;
 use crate::nodes::node_at;
 use language::limits::Table;
+use values::packing::Packed;
 use values::packing::is_packed;
 ghost use mathlib.Core.Path.{_≡_};
 ghost use mathlib.Core.Bool.{true};
 ghost use mathlib.Core.List.{List};
 ghost use Prim.Native.Nat.{_≤_};
 ghost use lib.IntN.{ℤ};
+ghost use Rattle.language.specs.Limits.{tableEntries};
 ghost use Rattle.table.specs.Memory.{nodeAt, entriesFrom};
 ghost use Rattle.table.specs.Nodes.{kids};
 ghost use Rattle.table.specs.WellFormed.{doneAt, allDone, namesRight, awaitsFew, wellFormed};
 ghost use Rattle.table.specs.Right.{numbered, allFrom, rightAt};
 ghost use Rattle.table.specs.Checked.{memory, kept, keptOk, entriesRight};
 
-// The cells of a kept function and of a kept delay, whose names are kept beside them.
-const FUNCTION_CELL: u64 = 17179869184;
-
-const DELAYED_CELL: u64 = 25769803776;
-
 // Whether entry j of n is worked out.
 fn is_done(links: &[u16], cells: &[u64], n: u16, j: u16) -> bool
     ensures { λ r. ⌜ r ≡ doneAt (entriesFrom (now (links .entry)) (now (cells .entry)) 0 n) j ⌝ }
 {
     let at = j as usize;
-    (j < n) & (!(Shape::FUNCTION <= at16(links, 3 * at)) | (1 <= at64(cells, 4 * at + 1)))
+    (j < n) & (!(Shape::FUNCTION <= kind_of(links, at)) | (1 <= value_of(cells, at)))
 }
 
 // Whether the dependencies of entry i are worked out.
@@ -56,11 +55,11 @@ fn kids_done(links: &[u16], cells: &[u64], n: u16, i: u16) -> bool
 fn names_right(value: u64, name: u64, other: u64) -> bool
     ensures { λ r. ⌜ r ≡ namesRight (kept value name other) ⌝ }
 {
-    if value == FUNCTION_CELL {
+    if value == Packed::FUNCTION {
         return is_name(name) & (other == 0);
     }
     let nameless = (name == 0) & (other == 0);
-    if value == DELAYED_CELL {
+    if value == Packed::DELAYED {
         return nameless | (is_name(name) & ((other == 0) | is_name(other)));
     }
     nameless
@@ -71,13 +70,13 @@ fn kept_right(links: &[u16], cells: &[u64], n: u16, readings: usize, i: u16) -> 
     ensures { λ r. ⌜ r ≡ keptOk (now (links .entry)) (now (cells .entry)) n readings i ⌝ }
 {
     let at = i as usize;
-    let value = at64(cells, 4 * at + 1);
-    if names_right(value, at64(cells, 4 * at + 2), at64(cells, 4 * at + 3)) {
+    let value = value_of(cells, at);
+    if names_right(value, name_of(cells, at), other_of(cells, at)) {
         if value == 0 {
             return true;
         }
         return kids_done(links, cells, n, i)
-            & ((Shape::FUNCTION <= at16(links, 3 * at)) & is_packed(value, readings));
+            & ((Shape::FUNCTION <= kind_of(links, at)) & is_packed(value, readings));
     }
     false
 }
@@ -109,7 +108,7 @@ fn few_names(links: &[u16], cells: &[u64], n: u16) -> bool
 
 // The clauses after the counts, of n entries.
 fn entries_right(links: &[u16], cells: &[u64], n: u16, readings: usize) -> bool
-    requires { ⌜ n ≤ 512 ⌝ }
+    requires { ⌜ n ≤ tableEntries ⌝ }
     ensures { λ r. ⌜ r ≡ entriesRight (now (links .entry)) (now (cells .entry)) readings n ⌝ }
 {
     if nodes_right(links, cells, n) {

@@ -1,6 +1,8 @@
 // One entry: whether its kind, its key and its dependencies are right (01, refusal 4).
-use crate::cells::at16;
-use crate::cells::at64;
+use crate::cells::first_of;
+use crate::cells::key_of;
+use crate::cells::kind_of;
+use crate::cells::second_of;
 use crate::nodes::Shape;
 use language::members::Found;
 use language::members::arguments;
@@ -9,7 +11,7 @@ use language::names::in_word;
 use language::names::is_letter;
 ghost use mathlib.Core.Path.{_≡_};
 ghost use Prim.Native.Nat.{_%_};
-ghost use Rattle.table.specs.Nodes.{memberArity, arity, wordNumber, isName};
+ghost use Rattle.table.specs.Nodes.{memberOfKind, memberArity, arity, wordNumber, isName};
 ghost use Rattle.table.specs.WellFormed.{keyRight, arityRight};
 ghost use Rattle.table.specs.Right.{node, rightAt, allFrom};
 
@@ -47,6 +49,19 @@ pub fn is_name(k: u64) -> bool
     is_word(k) & !((k == 0x6c6574) | ((k == 0x696e) | (k == 0x64617461)))
 }
 
+// The member of a kind, if it is one.
+pub fn member_of(kind: u16) -> Found
+    ensures { λ r. ⌜ r ≡ memberOfKind kind ⌝ }
+{
+    if kind < Shape::MEMBERS {
+        return Found::Unknown;
+    }
+    if kind < Shape::KINDS {
+        return member_at((kind - Shape::MEMBERS) as u8);
+    }
+    Found::Unknown
+}
+
 // The receiver, and the argument if there is one.
 fn member_arity(f: Found) -> u16
     ensures { λ r. ⌜ r ≡ memberArity f ⌝ }
@@ -64,13 +79,7 @@ pub fn arity(kind: u16) -> u16
     if kind == Shape::FUNCTION {
         return 1;
     }
-    if kind < Shape::MEMBERS {
-        return 0;
-    }
-    if kind < Shape::KINDS {
-        return member_arity(member_at((kind - Shape::MEMBERS) as u8));
-    }
-    0
+    member_arity(member_of(kind))
 }
 
 // A number within 32 bits, a name, or 0, by kind.
@@ -105,10 +114,10 @@ fn node_right(links: &[u16], cells: &[u64], i: u16) -> bool
     ensures { λ r. ⌜ r ≡ rightAt (now (links .entry)) (now (cells .entry)) i ⌝ }
 {
     let at = i as usize;
-    let kind = at16(links, 3 * at);
-    let first = at16(links, 3 * at + 1);
-    let second = at16(links, 3 * at + 2);
-    let key = at64(cells, 4 * at);
+    let kind = kind_of(links, at);
+    let first = first_of(links, at);
+    let second = second_of(links, at);
+    let key = key_of(cells, at);
     if kind < Shape::KINDS {
         key_right(kind, key) & (arity_right(kind, first, second) & ((first <= i) & (second <= i)))
     } else {

@@ -1,13 +1,21 @@
 // A node: what an entry is, apart from its kept result. The entries held are read from the lent slices; those that a call is about to
 // append wait in its frame, two words each.
-use crate::cells::at16;
 use crate::cells::at64;
+use crate::cells::first_of;
+use crate::cells::key_of;
+use crate::cells::kind_of;
+use crate::cells::second_of;
+use language::limits::Text;
 ghost use mathlib.Core.Path.{_≡_};
 ghost use Prim.Native.Nat.{_-_, _<_};
 ghost use lib.ListN.{length};
+ghost use Rattle.language.specs.Limits.{textParts};
 ghost use Rattle.table.specs.Memory.{nodeAt};
 ghost use Rattle.table.specs.Nodes.{sameNode};
 ghost use Rattle.table.specs.Held.{shaped, freshAt, heldAt, withFresh};
+
+// The words of the nodes that a text can have, two each.
+pub const TEXT_WORDS: usize = 2 * Text::PARTS;
 
 pub struct Shape {
     pub kind: u16,
@@ -46,10 +54,10 @@ pub fn node_at(links: &[u16], cells: &[u64], i: u16) -> Shape
 {
     let at = i as usize;
     Shape {
-        kind: at16(links, 3 * at),
-        key: at64(cells, 4 * at),
-        first: at16(links, 3 * at + 1),
-        second: at16(links, 3 * at + 2),
+        kind: kind_of(links, at),
+        key: key_of(cells, at),
+        first: first_of(links, at),
+        second: second_of(links, at),
     }
 }
 
@@ -69,7 +77,7 @@ fn narrow(x: u64) -> u16
 }
 
 // The node of entry i, where the first `count` are held and the others wait.
-pub fn held_at(links: &[u16], cells: &[u64], count: u16, fresh: &[u64; 256], i: u16) -> Shape
+pub fn held_at(links: &[u16], cells: &[u64], count: u16, fresh: &[u64; TEXT_WORDS], i: u16) -> Shape
     ensures { λ r. ⌜ shaped r ≡ heldAt (now (links .entry)) (now (cells .entry)) count (now (fresh .entry)) i ⌝ }
 {
     if i < count {
@@ -93,8 +101,8 @@ pub fn fresh_at(fresh: &[u64], i: u16) -> Shape
 }
 
 // x waits at place i.
-pub fn add_fresh(fresh: &mut [u64; 256], i: u16, x: Shape)
-    requires { ⌜ (i < 128) × (length (now fresh) ≡ 256) ⌝ }
+pub fn add_fresh(fresh: &mut [u64; TEXT_WORDS], i: u16, x: Shape)
+    requires { ⌜ (i < textParts) × (length (now fresh) ≡ 256) ⌝ }
     ensures { λ _. ⌜ now (fresh .exit) ≡ withFresh (now (fresh .entry)) i (shaped x) ⌝ }
 {
     let at = i as usize;

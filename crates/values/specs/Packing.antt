@@ -6,7 +6,7 @@ use lib.Dec.{leb, ltb, eqb}
 use lib.IntN.{pos, natAbs, _+ℤ_, _-ℤ_}
 use Rattle.values.specs.declared.Value.{Value}
 use Rattle.values.specs.declared.Value.the-variants.{Number, Window, Function, Delayed, Missing}
-use Rattle.values.specs.Values.{pick}
+use Rattle.values.specs.Values.{pick, wrongKind}
 
 -- the least cell of each kind
 abbrev pub windowCell : ℕ
@@ -20,6 +20,10 @@ delayedCell = 25769803776
 
 abbrev pub missingCell : ℕ
 missingCell = 34359738368
+
+-- missing, of the wrong kind
+abbrev pub wrongCell : ℕ
+wrongCell = missingCell + wrongKind
 
 abbrev pub packOf : Value → ℕ
 packOf (Number z) = suc (natAbs (z +ℤ pos 2147483648))

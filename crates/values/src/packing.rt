@@ -5,13 +5,23 @@ ghost use mathlib.Core.Path.{_≡_};
 ghost use Rattle.values.specs.Packing.{packOf, unpackOf, isPacked};
 ghost use Rattle.values.specs.PackingLaws.{numberIn};
 
-const WINDOW: u64 = 8589934592;
+// A packed value.
+pub struct Packed {
+    pub cell: u64,
+}
 
-const FUNCTION: u64 = 17179869184;
+// The least cell of each kind of value, in their order, and that of a value of the wrong kind.
+impl Packed {
+    pub const WINDOW: u64 = 8589934592;
 
-const DELAYED: u64 = 25769803776;
+    pub const FUNCTION: u64 = 17179869184;
 
-const MISSING: u64 = 34359738368;
+    pub const DELAYED: u64 = 25769803776;
+
+    pub const MISSING: u64 = 34359738368;
+
+    pub const WRONG: u64 = Packed::MISSING + 2;
+}
 
 // The cell of a value: never 0.
 pub fn pack(v: Value) -> u64
@@ -19,10 +29,10 @@ pub fn pack(v: Value) -> u64
 {
     match v {
         Value::Number(z) => (z as i64 + 2147483648) as u64 + 1,
-        Value::Window { start, length } => WINDOW + (start as u64 * 65536 + length as u64),
-        Value::Function => FUNCTION,
-        Value::Delayed => DELAYED,
-        Value::Missing(r) => MISSING + r as u64,
+        Value::Window { start, length } => Packed::WINDOW + (start as u64 * 65536 + length as u64),
+        Value::Function => Packed::FUNCTION,
+        Value::Delayed => Packed::DELAYED,
+        Value::Missing(r) => Packed::MISSING + r as u64,
     }
 }
 
@@ -40,19 +50,19 @@ pub fn number_in(cell: u64) -> i32
 pub fn unpack(cell: u64) -> Value
     ensures { λ r. ⌜ r ≡ unpackOf cell ⌝ }
 {
-    if cell < WINDOW {
+    if cell < Packed::WINDOW {
         return Value::Number(number_in(cell));
     }
-    if cell < FUNCTION {
+    if cell < Packed::FUNCTION {
         return Value::Window {
-            start: (cell % WINDOW / 65536 % 65536) as u16,
+            start: (cell % Packed::WINDOW / 65536 % 65536) as u16,
             length: (cell % 65536) as u16,
         };
     }
-    if cell < DELAYED {
+    if cell < Packed::DELAYED {
         return Value::Function;
     }
-    if cell < MISSING {
+    if cell < Packed::MISSING {
         return Value::Delayed;
     }
     Value::Missing((cell % 256) as u8)
@@ -63,15 +73,16 @@ pub fn unpack(cell: u64) -> Value
 pub fn is_packed(cell: u64, readings: usize) -> bool
     ensures { λ r. ⌜ r ≡ isPacked cell readings ⌝ }
 {
-    if cell < WINDOW {
+    if cell < Packed::WINDOW {
         return (1 <= cell) & (cell <= 4294967296);
     }
-    if cell < FUNCTION {
-        let low = cell - WINDOW;
-        return (cell < WINDOW + 4294967296) & (low / 65536 + low % 65536 <= readings as u64);
+    if cell < Packed::FUNCTION {
+        let low = cell - Packed::WINDOW;
+        return (cell < Packed::WINDOW + 4294967296)
+            & (low / 65536 + low % 65536 <= readings as u64);
     }
-    if cell < MISSING {
-        return (cell == FUNCTION) | (cell == DELAYED);
+    if cell < Packed::MISSING {
+        return (cell == Packed::FUNCTION) | (cell == Packed::DELAYED);
     }
-    (MISSING + 1 <= cell) & (cell <= MISSING + 5)
+    (Packed::MISSING + 1 <= cell) & (cell <= Packed::MISSING + 5)
 }

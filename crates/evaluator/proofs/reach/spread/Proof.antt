@@ -3,14 +3,8 @@ use Rattle.evaluator.proofs.Reaching.{reaching}
 use Rattle.evaluator.proofs.reach.spread.Statement.{statement}
 use Rattle.evaluator.proofs.reach.spread.Tie as tie
 
-mul-link : tie.Need-mul-link
-mul-link c = search reaching
-
-add-link : tie.Need-add-link
-add-link c = search reaching
-
-link-requires : tie.Need-link-requires
-link-requires c κs = search reaching
+first-of-requires : tie.Need-first-of-requires
+first-of-requires c κs = search reaching
 
 cast-flag : tie.Need-cast-flag
 cast-flag c = search reaching
@@ -18,14 +12,8 @@ cast-flag c = search reaching
 flag-requires : tie.Need-flag-requires
 flag-requires c κs = search reaching
 
-mul-link-2 : tie.Need-mul-link-2
-mul-link-2 c = search reaching
-
-add-link-2 : tie.Need-add-link-2
-add-link-2 c = search reaching
-
-link-requires-2 : tie.Need-link-requires-2
-link-requires-2 c κs = search reaching
+second-of-requires : tie.Need-second-of-requires
+second-of-requires c κs = search reaching
 
 cast-flag-2 : tie.Need-cast-flag-2
 cast-flag-2 c = search reaching
@@ -40,14 +28,10 @@ pub spread-spec : {M : Type 1} → statement M
 spread-spec =
     tie.close
     (tie.spec
-    mul-link
-    add-link
-    link-requires
+    first-of-requires
     cast-flag
     flag-requires
-    mul-link-2
-    add-link-2
-    link-requires-2
+    second-of-requires
     cast-flag-2
     flag-requires-2
     returns)

@@ -18,6 +18,9 @@ element-copy-out-own-2 c = search planning
 own-requires : tie.Need-own-requires
 own-requires c κs = search planning
 
+cast-if2 : tie.Need-cast-if2
+cast-if2 c = search planning
+
 body-task-requires : tie.Need-body-task-requires
 body-task-requires c κs = search planning
 
@@ -54,6 +57,7 @@ judge-spec =
     mul-own-2
     element-copy-out-own-2
     own-requires
+    cast-if2
     body-task-requires
     returns
     done-requires

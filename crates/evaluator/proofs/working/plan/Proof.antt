@@ -5,11 +5,8 @@ use Rattle.evaluator.proofs.Planning.{plan-call, lower-right, planning}
 use Rattle.evaluator.proofs.working.plan.Statement.{statement}
 use Rattle.evaluator.proofs.working.plan.Tie as tie
 
-mul-link : tie.Need-mul-link
-mul-link c = search planning
-
-link-requires : tie.Need-link-requires
-link-requires c κs = search planning
+kind-of-requires : tie.Need-kind-of-requires
+kind-of-requires c κs = search planning
 
 mul-done : tie.Need-mul-done
 mul-done c = search planning
@@ -23,14 +20,8 @@ done-requires c κs = search planning
 returns : tie.Need-returns
 returns c = search planning
 
-mul-link-2 : tie.Need-mul-link-2
-mul-link-2 c = search planning
-
-add-link : tie.Need-add-link
-add-link c = search planning
-
-link-requires-2 : tie.Need-link-requires-2
-link-requires-2 c κs = search planning
+first-of-requires : tie.Need-first-of-requires
+first-of-requires c κs = search planning
 
 cast-first : tie.Need-cast-first
 cast-first c = search planning
@@ -39,31 +30,25 @@ is-below-requires : tie.Need-is-below-requires
 is-below-requires c κs = search planning
 
 sub-a : tie.Need-sub-a
-sub-a c = omega (arith, below-one (c .before .before .link2 .result) (c .before .before .before .before .before .before .args .i) (c .before .is-below .result) (c .before .is-below .ensures) (c .if2 .taken), below-most (c .before .before .link2 .result) (c .before .before .before .before .before .before .args .i) (c .before .is-below .result) (c .before .is-below .ensures) (c .if2 .taken))
+sub-a c = omega (arith, below-one (c .before .before .first-of .result) (c .before .before .before .before .before .before .args .i) (c .before .is-below .result) (c .before .is-below .ensures) (c .if2 .taken), below-most (c .before .before .first-of .result) (c .before .before .before .before .before .before .args .i) (c .before .is-below .result) (c .before .is-below .ensures) (c .if2 .taken))
 
 mul-a : tie.Need-mul-a
 mul-a c = search planning
 
 element-copy-out-a : tie.Need-element-copy-out-a
-element-copy-out-a c = omega (arith, below-one (c .before .before .link2 .result) (c .before .before .before .before .before .before .args .i) (c .before .is-below .result) (c .before .is-below .ensures) (c .if2 .taken), below-most (c .before .before .link2 .result) (c .before .before .before .before .before .before .args .i) (c .before .is-below .result) (c .before .is-below .ensures) (c .if2 .taken))
+element-copy-out-a c = omega (arith, below-one (c .before .before .first-of .result) (c .before .before .before .before .before .before .args .i) (c .before .is-below .result) (c .before .is-below .ensures) (c .if2 .taken), below-most (c .before .before .first-of .result) (c .before .before .before .before .before .before .args .i) (c .before .is-below .result) (c .before .is-below .ensures) (c .if2 .taken))
 
 sub-judge : tie.Need-sub-judge
-sub-judge c = omega (arith, below-one (c .before .before .before .before .link2 .result) (c .before .before .before .before .before .before .before .before .args .i) (c .before .before .before .is-below .result) (c .before .before .before .is-below .ensures) (c .before .before .if2 .taken), below-most (c .before .before .before .before .link2 .result) (c .before .before .before .before .before .before .before .before .args .i) (c .before .before .before .is-below .result) (c .before .before .before .is-below .ensures) (c .before .before .if2 .taken))
+sub-judge c = omega (arith, below-one (c .before .before .before .before .first-of .result) (c .before .before .before .before .before .before .before .before .args .i) (c .before .before .before .is-below .result) (c .before .before .before .is-below .ensures) (c .before .before .if2 .taken), below-most (c .before .before .before .before .first-of .result) (c .before .before .before .before .before .before .before .before .args .i) (c .before .before .before .is-below .result) (c .before .before .before .is-below .ensures) (c .before .before .if2 .taken))
 
 judge-requires : tie.Need-judge-requires
-judge-requires c κs = (c .before .before .before .before .before .before .before .before .pre, omega (arith, below-one (c .before .before .before .before .link2 .result) (c .before .before .before .before .before .before .before .before .args .i) (c .before .before .before .is-below .result) (c .before .before .before .is-below .ensures) (c .before .before .if2 .taken), below-most (c .before .before .before .before .link2 .result) (c .before .before .before .before .before .before .before .before .args .i) (c .before .before .before .is-below .result) (c .before .before .before .is-below .ensures) (c .before .before .if2 .taken)))
+judge-requires c κs = (c .before .before .before .before .before .before .before .before .pre, omega (arith, below-one (c .before .before .before .before .first-of .result) (c .before .before .before .before .before .before .before .before .args .i) (c .before .before .before .is-below .result) (c .before .before .before .is-below .ensures) (c .before .before .if2 .taken), below-most (c .before .before .before .before .first-of .result) (c .before .before .before .before .before .before .before .before .args .i) (c .before .before .before .is-below .result) (c .before .before .before .is-below .ensures) (c .before .before .if2 .taken)))
 
 returns-2 : tie.Need-returns-2
 returns-2 c = search planning
 
-mul-link-3 : tie.Need-mul-link-3
-mul-link-3 c = search planning
-
-add-link-2 : tie.Need-add-link-2
-add-link-2 c = search planning
-
-link-requires-3 : tie.Need-link-requires-3
-link-requires-3 c κs = search planning
+second-of-requires : tie.Need-second-of-requires
+second-of-requires c κs = search planning
 
 cast-second : tie.Need-cast-second
 cast-second c = search planning
@@ -72,13 +57,13 @@ is-below-requires-2 : tie.Need-is-below-requires-2
 is-below-requires-2 c κs = search planning
 
 sub-b : tie.Need-sub-b
-sub-b c = omega (arith, below-one (c .before .before .link3 .result) (c .before .before .before .before .before .before .before .before .before .before .before .args .i) (c .before .is-below2 .result) (c .before .is-below2 .ensures) (c .if4 .taken), below-most (c .before .before .link3 .result) (c .before .before .before .before .before .before .before .before .before .before .before .args .i) (c .before .is-below2 .result) (c .before .is-below2 .ensures) (c .if4 .taken))
+sub-b c = omega (arith, below-one (c .before .before .second-of .result) (c .before .before .before .before .before .before .before .before .before .before .before .args .i) (c .before .is-below2 .result) (c .before .is-below2 .ensures) (c .if4 .taken), below-most (c .before .before .second-of .result) (c .before .before .before .before .before .before .before .before .before .before .before .args .i) (c .before .is-below2 .result) (c .before .is-below2 .ensures) (c .if4 .taken))
 
 mul-b : tie.Need-mul-b
 mul-b c = search planning
 
 element-copy-out-b : tie.Need-element-copy-out-b
-element-copy-out-b c = omega (arith, below-one (c .before .before .link3 .result) (c .before .before .before .before .before .before .before .before .before .before .before .args .i) (c .before .is-below2 .result) (c .before .is-below2 .ensures) (c .if4 .taken), below-most (c .before .before .link3 .result) (c .before .before .before .before .before .before .before .before .before .before .before .args .i) (c .before .is-below2 .result) (c .before .is-below2 .ensures) (c .if4 .taken))
+element-copy-out-b c = omega (arith, below-one (c .before .before .second-of .result) (c .before .before .before .before .before .before .before .before .before .before .before .args .i) (c .before .is-below2 .result) (c .before .is-below2 .ensures) (c .if4 .taken), below-most (c .before .before .second-of .result) (c .before .before .before .before .before .before .before .before .before .before .before .args .i) (c .before .is-below2 .result) (c .before .is-below2 .ensures) (c .if4 .taken))
 
 call-numbers-requires : tie.Need-call-numbers-requires
 call-numbers-requires c κs = search planning
@@ -93,16 +78,16 @@ returns-3 : tie.Need-returns-3
 returns-3 c = search planning
 
 sub-follow : tie.Need-sub-follow
-sub-follow c = omega (arith, below-one (c .before .before .before .before .link3 .result) (c .before .before .before .before .before .before .before .before .before .before .before .before .before .args .i) (c .before .before .before .is-below2 .result) (c .before .before .before .is-below2 .ensures) (c .before .before .if4 .taken), below-most (c .before .before .before .before .link3 .result) (c .before .before .before .before .before .before .before .before .before .before .before .before .before .args .i) (c .before .before .before .is-below2 .result) (c .before .before .before .is-below2 .ensures) (c .before .before .if4 .taken))
+sub-follow c = omega (arith, below-one (c .before .before .before .before .second-of .result) (c .before .before .before .before .before .before .before .before .before .before .before .before .before .args .i) (c .before .before .before .is-below2 .result) (c .before .before .before .is-below2 .ensures) (c .before .before .if4 .taken), below-most (c .before .before .before .before .second-of .result) (c .before .before .before .before .before .before .before .before .before .before .before .before .before .args .i) (c .before .before .before .is-below2 .result) (c .before .before .before .is-below2 .ensures) (c .before .before .if4 .taken))
 
 call-requires : tie.Need-call-requires
 call-requires c κs = search planning
 
 follow-requires : tie.Need-follow-requires
-follow-requires c κs = omega (arith, below-one (c .before .before .before .before .before .link3 .result) (c .before .before .before .before .before .before .before .before .before .before .before .before .before .before .args .i) (c .before .before .before .before .is-below2 .result) (c .before .before .before .before .is-below2 .ensures) (c .before .before .before .if4 .taken), below-most (c .before .before .before .before .before .link3 .result) (c .before .before .before .before .before .before .before .before .before .before .before .before .before .before .args .i) (c .before .before .before .before .is-below2 .result) (c .before .before .before .before .is-below2 .ensures) (c .before .before .before .if4 .taken))
+follow-requires c κs = omega (arith, below-one (c .before .before .before .before .before .second-of .result) (c .before .before .before .before .before .before .before .before .before .before .before .before .before .before .args .i) (c .before .before .before .before .is-below2 .result) (c .before .before .before .before .is-below2 .ensures) (c .before .before .before .if4 .taken), below-most (c .before .before .before .before .before .second-of .result) (c .before .before .before .before .before .before .before .before .before .before .before .before .before .before .args .i) (c .before .before .before .before .is-below2 .result) (c .before .before .before .before .is-below2 .ensures) (c .before .before .before .if4 .taken))
 
 returns-4 : tie.Need-returns-4
-returns-4 c = (plan-call (c .before .before .before .before .before .before .before .before .before .before .before .before .before .before .before .args .links .now) (c .before .before .before .before .before .before .before .before .before .before .before .before .before .before .before .args .waits .now) (c .before .before .before .before .before .before .before .before .before .before .before .before .before .before .before .args .readings .now) (c .before .before .before .before .before .before .before .before .before .before .before .before .before .before .before .args .frame .now) (c .before .before .before .before .before .before .before .before .before .before .before .before .before .before .before .args .i) (c .before .before .before .before .before .before .before .before .before .before .before .before .before .link .result) (c .before .before .before .before .before .before .before .before .before .before .before .before .before .link .ensures) (c .follow .result) (c .before .before .before .before .before .before .before .before .before .before .before .before .if1 .left) (c .before .before .before .before .before .before .before .before .before .before .before .link2 .result) (c .before .before .before .before .before .before .before .before .before .before .before .link2 .ensures) (c .before .before .before .before .before .before .before .before .before .before .is-below .result) (c .before .before .before .before .before .before .before .before .before .before .is-below .ensures) (c .before .before .before .before .before .before .before .before .before .if2 .taken) (c .before .before .before .before .before .before .before .if3 .left) (c .before .before .before .before .before .before .link3 .result) (c .before .before .before .before .before .before .link3 .ensures) (c .before .before .before .before .before .is-below2 .result) (c .before .before .before .before .before .is-below2 .ensures) (c .before .call .result) (c .before .before .before .before .if4 .taken) (c .before .call .ensures) (c .follow .ensures .0), lower-right (c .before .before .before .before .before .before .before .before .before .before .before .before .before .before .before .args .i) _ (c .follow .result) (omega (arith, below-one (c .before .before .before .before .before .before .link3 .result) (c .before .before .before .before .before .before .before .before .before .before .before .before .before .before .before .args .i) (c .before .before .before .before .before .is-below2 .result) (c .before .before .before .before .before .is-below2 .ensures) (c .before .before .before .before .if4 .taken), below-most (c .before .before .before .before .before .before .link3 .result) (c .before .before .before .before .before .before .before .before .before .before .before .before .before .before .before .args .i) (c .before .before .before .before .before .is-below2 .result) (c .before .before .before .before .before .is-below2 .ensures) (c .before .before .before .before .if4 .taken))) (c .follow .ensures .1))
+returns-4 c = (plan-call (c .before .before .before .before .before .before .before .before .before .before .before .before .before .before .before .args .links .now) (c .before .before .before .before .before .before .before .before .before .before .before .before .before .before .before .args .waits .now) (c .before .before .before .before .before .before .before .before .before .before .before .before .before .before .before .args .readings .now) (c .before .before .before .before .before .before .before .before .before .before .before .before .before .before .before .args .frame .now) (c .before .before .before .before .before .before .before .before .before .before .before .before .before .before .before .args .i) (c .before .before .before .before .before .before .before .before .before .before .before .before .before .kind-of .result) (c .before .before .before .before .before .before .before .before .before .before .before .before .before .kind-of .ensures) (c .follow .result) (c .before .before .before .before .before .before .before .before .before .before .before .before .if1 .left) (c .before .before .before .before .before .before .before .before .before .before .before .first-of .result) (c .before .before .before .before .before .before .before .before .before .before .before .first-of .ensures) (c .before .before .before .before .before .before .before .before .before .before .is-below .result) (c .before .before .before .before .before .before .before .before .before .before .is-below .ensures) (c .before .before .before .before .before .before .before .before .before .if2 .taken) (c .before .before .before .before .before .before .before .if3 .left) (c .before .before .before .before .before .before .second-of .result) (c .before .before .before .before .before .before .second-of .ensures) (c .before .before .before .before .before .is-below2 .result) (c .before .before .before .before .before .is-below2 .ensures) (c .before .call .result) (c .before .before .before .before .if4 .taken) (c .before .call .ensures) (c .follow .ensures .0), lower-right (c .before .before .before .before .before .before .before .before .before .before .before .before .before .before .before .args .i) _ (c .follow .result) (omega (arith, below-one (c .before .before .before .before .before .before .second-of .result) (c .before .before .before .before .before .before .before .before .before .before .before .before .before .before .before .args .i) (c .before .before .before .before .before .is-below2 .result) (c .before .before .before .before .before .is-below2 .ensures) (c .before .before .before .before .if4 .taken), below-most (c .before .before .before .before .before .before .second-of .result) (c .before .before .before .before .before .before .before .before .before .before .before .before .before .before .before .args .i) (c .before .before .before .before .before .is-below2 .result) (c .before .before .before .before .before .is-below2 .ensures) (c .before .before .before .before .if4 .taken))) (c .follow .ensures .1))
 
 ask-requires : tie.Need-ask-requires
 ask-requires c κs = search planning
@@ -123,15 +108,12 @@ pub plan-spec : {M : Type 1} → statement M
 plan-spec =
     tie.close
     (tie.spec
-    mul-link
-    link-requires
+    kind-of-requires
     mul-done
     element-copy-out-done
     done-requires
     returns
-    mul-link-2
-    add-link
-    link-requires-2
+    first-of-requires
     cast-first
     is-below-requires
     sub-a
@@ -140,9 +122,7 @@ plan-spec =
     sub-judge
     judge-requires
     returns-2
-    mul-link-3
-    add-link-2
-    link-requires-3
+    second-of-requires
     cast-second
     is-below-requires-2
     sub-b

@@ -5,20 +5,11 @@ use Rattle.evaluator.proofs.Planning.{task-right, planning}
 use Rattle.evaluator.proofs.working.run.Statement.{statement}
 use Rattle.evaluator.proofs.working.run.Tie as tie
 
-mul-link : tie.Need-mul-link
-mul-link c = search planning
+kind-of-requires : tie.Need-kind-of-requires
+kind-of-requires c κs = search planning
 
-link-requires : tie.Need-link-requires
-link-requires c κs = search planning
-
-mul-link-2 : tie.Need-mul-link-2
-mul-link-2 c = search planning
-
-add-link : tie.Need-add-link
-add-link c = search planning
-
-link-requires-2 : tie.Need-link-requires-2
-link-requires-2 c κs = search planning
+first-of-requires : tie.Need-first-of-requires
+first-of-requires c κs = search planning
 
 cast-first : tie.Need-cast-first
 cast-first c = search planning
@@ -27,13 +18,13 @@ is-below-requires : tie.Need-is-below-requires
 is-below-requires c κs = search planning
 
 sub-body : tie.Need-sub-body
-sub-body c = omega (arith, below-one (c .before .before .link2 .result) (c .before .before .before .before .before .before .args .f) (c .before .is-below .result) (c .before .is-below .ensures) (c .if2 .taken), below-most (c .before .before .link2 .result) (c .before .before .before .before .before .before .args .f) (c .before .is-below .result) (c .before .is-below .ensures) (c .if2 .taken))
+sub-body c = omega (arith, below-one (c .before .before .first-of .result) (c .before .before .before .before .before .before .args .f) (c .before .is-below .result) (c .before .is-below .ensures) (c .if2 .taken), below-most (c .before .before .first-of .result) (c .before .before .before .before .before .before .args .f) (c .before .is-below .result) (c .before .is-below .ensures) (c .if2 .taken))
 
 mul-own : tie.Need-mul-own
 mul-own c = search planning
 
 element-copy-out-own : tie.Need-element-copy-out-own
-element-copy-out-own c = omega (arith, below-one (c .before .before .link2 .result) (c .before .before .before .before .before .before .args .f) (c .before .is-below .result) (c .before .is-below .ensures) (c .if2 .taken), below-most (c .before .before .link2 .result) (c .before .before .before .before .before .before .args .f) (c .before .is-below .result) (c .before .is-below .ensures) (c .if2 .taken))
+element-copy-out-own c = omega (arith, below-one (c .before .before .first-of .result) (c .before .before .before .before .before .before .args .f) (c .before .is-below .result) (c .before .is-below .ensures) (c .if2 .taken), below-most (c .before .before .first-of .result) (c .before .before .before .before .before .before .args .f) (c .before .is-below .result) (c .before .is-below .ensures) (c .if2 .taken))
 
 mul-own-2 : tie.Need-mul-own-2
 mul-own-2 c = search planning
@@ -44,11 +35,14 @@ element-copy-out-own-2 c = search planning
 own-requires : tie.Need-own-requires
 own-requires c κs = search planning
 
+cast-if3 : tie.Need-cast-if3
+cast-if3 c = search planning
+
 body-task-requires : tie.Need-body-task-requires
 body-task-requires c κs = search planning
 
 returns : tie.Need-returns
-returns c = (search planning, λ d. task-right (c .before .before .before .before .before .before .before .before .before .before .before .args .f) (c .before .before .before .before .before .before .before .before .before .before .before .args .kind) (c .before .before .before .before .before .before .before .before .before .before .before .args .start) (c .before .before .before .before .before .before .before .before .before .before .before .args .length) _ (c .before .before .own .result) _ (c .body-task .ensures) (omega (arith, below-one (c .before .before .before .before .before .before .before .link2 .result) (c .before .before .before .before .before .before .before .before .before .before .before .args .f) (c .before .before .before .before .before .before .is-below .result) (c .before .before .before .before .before .before .is-below .ensures) (c .before .before .before .before .before .if2 .taken), below-most (c .before .before .before .before .before .before .before .link2 .result) (c .before .before .before .before .before .before .before .before .before .before .before .args .f) (c .before .before .before .before .before .before .is-below .result) (c .before .before .before .before .before .before .is-below .ensures) (c .before .before .before .before .before .if2 .taken))) (c .before .if3 .taken) d)
+returns c = (search planning, λ d. task-right (c .before .before .before .before .before .before .before .before .before .before .before .args .f) (c .before .before .before .before .before .before .before .before .before .before .before .args .kind) (c .before .before .before .before .before .before .before .before .before .before .before .args .start) (c .before .before .before .before .before .before .before .before .before .before .before .args .length) _ (c .before .before .own .result) _ (c .body-task .ensures) (omega (arith, below-one (c .before .before .before .before .before .before .before .first-of .result) (c .before .before .before .before .before .before .before .before .before .before .before .args .f) (c .before .before .before .before .before .before .is-below .result) (c .before .before .before .before .before .before .is-below .ensures) (c .before .before .before .before .before .if2 .taken), below-most (c .before .before .before .before .before .before .before .first-of .result) (c .before .before .before .before .before .before .before .before .before .before .before .args .f) (c .before .before .before .before .before .before .is-below .result) (c .before .before .before .before .before .before .is-below .ensures) (c .before .before .before .before .before .if2 .taken))) (c .before .if3 .taken) d)
 
 done-requires : tie.Need-done-requires
 done-requires c κs = search planning
@@ -72,11 +66,8 @@ pub run-spec : {M : Type 1} → statement M
 run-spec =
     tie.close
     (tie.spec
-    mul-link
-    link-requires
-    mul-link-2
-    add-link
-    link-requires-2
+    kind-of-requires
+    first-of-requires
     cast-first
     is-below-requires
     sub-body
@@ -85,6 +76,7 @@ run-spec =
     mul-own-2
     element-copy-out-own-2
     own-requires
+    cast-if3
     body-task-requires
     returns
     done-requires

@@ -6,11 +6,8 @@ use Rattle.scheduler.proofs.works.chosen.Tie as tie
 element-copy-out-if1 : tie.Need-element-copy-out-if1
 element-copy-out-if1 c = search choosing
 
-mul-link : tie.Need-mul-link
-mul-link c = search choosing
-
-link-requires : tie.Need-link-requires
-link-requires c κs = search choosing
+kind-of-requires : tie.Need-kind-of-requires
+kind-of-requires c κs = search choosing
 
 mul-result : tie.Need-mul-result
 mul-result c = search choosing
@@ -32,8 +29,7 @@ chosen-spec =
     tie.close
     (tie.spec
     element-copy-out-if1
-    mul-link
-    link-requires
+    kind-of-requires
     mul-result
     element-copy-out-result
     returns

@@ -9,8 +9,8 @@ name-for-requires c κs = search choosing
 other-for-requires : tie.Need-other-for-requires
 other-for-requires c κs = search choosing
 
-put-requires : tie.Need-put-requires
-put-requires c κs = search choosing
+put-kept-requires : tie.Need-put-kept-requires
+put-kept-requires c κs = search choosing
 
 same-length : tie.Need-same-length
 same-length c = search choosing
@@ -20,4 +20,4 @@ returns c = search choosing
 
 pub keep-spec : {M : Type 1} → statement M
 keep-spec =
-    tie.close (tie.spec name-for-requires other-for-requires put-requires same-length returns)
+    tie.close (tie.spec name-for-requires other-for-requires put-kept-requires same-length returns)

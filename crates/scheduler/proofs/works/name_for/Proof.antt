@@ -3,11 +3,8 @@ use Rattle.scheduler.proofs.Choosing.{choosing}
 use Rattle.scheduler.proofs.works.name_for.Statement.{statement}
 use Rattle.scheduler.proofs.works.name_for.Tie as tie
 
-mul-cell : tie.Need-mul-cell
-mul-cell c = search choosing
-
-cell-requires : tie.Need-cell-requires
-cell-requires c κs = search choosing
+key-of-requires : tie.Need-key-of-requires
+key-of-requires c κs = search choosing
 
 returns : tie.Need-returns
 returns c = search choosing
@@ -23,4 +20,4 @@ returns-3 c = search choosing
 
 pub name-for-spec : {M : Type 1} → statement M
 name-for-spec =
-    tie.close (tie.spec mul-cell cell-requires returns slot-name-requires returns-2 returns-3)
+    tie.close (tie.spec key-of-requires returns slot-name-requires returns-2 returns-3)

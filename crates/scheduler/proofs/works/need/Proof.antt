@@ -28,14 +28,8 @@ sub-j c = search needs
 element-copy-out-if1 : tie.Need-element-copy-out-if1 Inv-loop μ-loop
 element-copy-out-if1 c = search needs
 
-mul-link : tie.Need-mul-link Inv-loop μ-loop
-mul-link c = search needs
-
-add-link : tie.Need-add-link Inv-loop μ-loop
-add-link c = search needs
-
-link-requires : tie.Need-link-requires Inv-loop μ-loop
-link-requires c κs = search needs
+first-of-requires : tie.Need-first-of-requires Inv-loop μ-loop
+first-of-requires c κs = search needs
 
 cast-raise : tie.Need-cast-raise Inv-loop μ-loop
 cast-raise c = search needs
@@ -43,14 +37,8 @@ cast-raise c = search needs
 raise-requires : tie.Need-raise-requires Inv-loop μ-loop
 raise-requires c κs = search needs
 
-mul-link-2 : tie.Need-mul-link-2 Inv-loop μ-loop
-mul-link-2 c = search needs
-
-add-link-2 : tie.Need-add-link-2 Inv-loop μ-loop
-add-link-2 c = search needs
-
-link-requires-2 : tie.Need-link-requires-2 Inv-loop μ-loop
-link-requires-2 c κs = search needs
+second-of-requires : tie.Need-second-of-requires Inv-loop μ-loop
+second-of-requires c κs = search needs
 
 cast-raise-2 : tie.Need-cast-raise-2 Inv-loop μ-loop
 cast-raise-2 c = search needs
@@ -84,14 +72,10 @@ need-spec =
     loop-holds
     sub-j
     element-copy-out-if1
-    mul-link
-    add-link
-    link-requires
+    first-of-requires
     cast-raise
     raise-requires
-    mul-link-2
-    add-link-2
-    link-requires-2
+    second-of-requires
     cast-raise-2
     raise-requires-2
     loop-less

@@ -12,17 +12,11 @@ unpack-requires c κs = search showing
 numbers-requires : tie.Need-numbers-requires
 numbers-requires c κs = search showing
 
-mul-link : tie.Need-mul-link
-mul-link c = search showing
+kind-of-requires : tie.Need-kind-of-requires
+kind-of-requires c κs = search showing
 
-link-requires : tie.Need-link-requires
-link-requires c κs = search showing
-
-mul-cell : tie.Need-mul-cell
-mul-cell c = search showing
-
-cell-requires : tie.Need-cell-requires
-cell-requires c κs = search showing
+key-of-requires : tie.Need-key-of-requires
+key-of-requires c κs = search showing
 
 returns : tie.Need-returns
 returns c = search showing
@@ -30,23 +24,11 @@ returns c = search showing
 returns-2 : tie.Need-returns-2
 returns-2 c = search showing
 
-mul-cell-2 : tie.Need-mul-cell-2
-mul-cell-2 c = search showing
+name-of-requires : tie.Need-name-of-requires
+name-of-requires c κs = search showing
 
-add-cell : tie.Need-add-cell
-add-cell c = search showing
-
-cell-requires-2 : tie.Need-cell-requires-2
-cell-requires-2 c κs = search showing
-
-mul-cell-3 : tie.Need-mul-cell-3
-mul-cell-3 c = search showing
-
-add-cell-2 : tie.Need-add-cell-2
-add-cell-2 c = search showing
-
-cell-requires-3 : tie.Need-cell-requires-3
-cell-requires-3 c κs = search showing
+other-of-requires : tie.Need-other-of-requires
+other-of-requires c κs = search showing
 
 returns-3 : tie.Need-returns-3
 returns-3 c = search showing
@@ -58,16 +40,10 @@ show-spec =
     start-at-requires
     unpack-requires
     numbers-requires
-    mul-link
-    link-requires
-    mul-cell
-    cell-requires
+    kind-of-requires
+    key-of-requires
     returns
     returns-2
-    mul-cell-2
-    add-cell
-    cell-requires-2
-    mul-cell-3
-    add-cell-2
-    cell-requires-3
+    name-of-requires
+    other-of-requires
     returns-3)

@@ -3,14 +3,11 @@ use Rattle.scheduler.proofs.Choosing.{choosing}
 use Rattle.scheduler.proofs.works.slot_name.Statement.{statement}
 use Rattle.scheduler.proofs.works.slot_name.Tie as tie
 
-sub-cell : tie.Need-sub-cell
-sub-cell c = search choosing
+sub-key-of : tie.Need-sub-key-of
+sub-key-of c = search choosing
 
-mul-cell : tie.Need-mul-cell
-mul-cell c = search choosing
-
-cell-requires : tie.Need-cell-requires
-cell-requires c κs = search choosing
+key-of-requires : tie.Need-key-of-requires
+key-of-requires c κs = search choosing
 
 returns : tie.Need-returns
 returns c = search choosing
@@ -19,4 +16,4 @@ returns-2 : tie.Need-returns-2
 returns-2 c = search choosing
 
 pub slot-name-spec : {M : Type 1} → statement M
-slot-name-spec = tie.close (tie.spec sub-cell mul-cell cell-requires returns returns-2)
+slot-name-spec = tie.close (tie.spec sub-key-of key-of-requires returns returns-2)
