@@ -99,13 +99,8 @@ module _ (text : List ℕ) where
       PathsCalls.less-comma end 0 0 (stateOf text c [] [] []) (record { kind = 0; takes = more; receiver = 0; place = 0; argument = 0 }) (cursorOf text h) (ahead c x e 9 q)
       (p ∙ ap (λ (j : ℕ). passing text j c) o) (eq-eqb (h .number) 0 z)
 
-  pub name-less : (w : Bool) (depth : ℕ) (c a : Cursor) (R P S R′ P′ : List ℕ) (x : Lexed) → x ≡ lexAt text (c .at) → x .kind ≡ 10
-      → stateOf text a R′ P′ S ≡ D.readName end w depth (stateOf text c R P S) → a .number ≡ 0 → tokens-left a + 1 ≤ tokens-left c
-  name-less w depth c a R P S R′ P′ x e q h z = Paths.less-name end w 0 depth (stateOf text c R P S) (ahead c x e 10 q) h (eq-eqb (a .number) 0 z)
-
-  pub number-less : (w : Bool) (c a : Cursor) (R P R′ P′ : List ℕ) (x : Lexed) → x ≡ lexAt text (c .at) → x .kind ≡ 11 → WroteFor text (D.readNumber end w) c R P a R′ P′
-      → a .number ≡ 0 → tokens-left a + 1 ≤ tokens-left c
-  number-less w c a R P R′ P′ x e q h z = Paths.less-number end w 0 0 (stateOf text c R P []) (ahead c x e 11 q) (h .same []) (eq-eqb (a .number) 0 z)
+  pub need-less : (k : ℕ) (v a : Cursor) → 0 < k → cursorOf text a ≡ C.need end k (cursorOf text v) → a .number ≡ 0 → tokens-left a + 1 ≤ tokens-left v
+  need-less k v a l g z = subst (Moved 1 0 (cursorOf text v)) (sym g) (moved-need end k (cursorOf text v) l) .went z .0
 
   refusing-some : (n : ℕ) (c r : Cursor) → cursorOf text r ≡ refusing text (suc n) c → r .number ≡ 0 → ⊥
   unfolding C.refuse
@@ -314,45 +309,45 @@ module _ (text : List ℕ) where
       pub number-ahead : x .kind ≡ 11 → Ready E text c R P S → NumberAhead text c
       number-ahead q f = let g = f .fit in let n = g .count in record { ahead = ahead c x e 11 q; parts = g .parts; count = omega arith }
 
-      module _ (a : Cursor) (R′ P′ : List ℕ) (q : x .kind ≡ 10) (h : stateOf text a R′ P′ S ≡ D.readName end w depth at-it) where
-        pub name-refused : (a .number ≡ 0 → ⊥) → Parses E text c R P S a R′ P′ S
-        name-refused z = record { reads = Paths.name-refused end w marks depth at-it (ahead c x e 10 q) h (ne-eqb (a .number) 0 z) }
-
-        module _ (z : a .number ≡ 0) where
-          pub name-fit : Ready E text c R P S → Ready (inCalls marks depth) text a R′ P′ S
-          name-fit f =
-              record { fit = subst (Fit (inCalls marks depth)) (sym h) (G.fit-name end marks depth at-it w (f .fit) (ahead c x e 10 q) (sym (ap (λ (u : State). u .cursor .number) h) ∙ z)) }
-
-          pub name-read : {r : Cursor} {R″ P″ S″ : List ℕ} → Parses (inCalls marks depth) text a R′ P′ S r R″ P″ S″ → Parses E text c R P S r R″ P″ S″
-          name-read y = record { reads = Paths.name-read end w marks depth at-it (ahead c x e 10 q) h (eq-eqb (a .number) 0 z) (y .reads) }
-
-      module _ (a : Cursor) (R′ P′ : List ℕ) (q : x .kind ≡ 11) (h : WroteFor text (D.readNumber end w) c R P a R′ P′) where
-        pub number-refused : (a .number ≡ 0 → ⊥) → Parses E text c R P S a R′ P′ S
-        number-refused z = record { reads = Paths.number-refused end w marks depth at-it (ahead c x e 11 q) (h .same S) (ne-eqb (a .number) 0 z) }
-
-        module _ (z : a .number ≡ 0) where
-          pub number-fit : Ready E text c R P S → Ready (inCalls marks depth) text a R′ P′ S
-          number-fit f =
-              record { fit = subst (Fit (inCalls marks depth)) (sym (h .same S)) (G.fit-number end marks depth at-it w (f .fit) (ahead c x e 11 q) (sym (ap (λ (u : State). u .cursor .number) (h .same S)) ∙ z)) }
-
-          pub number-read : {r : Cursor} {R″ P″ S″ : List ℕ} → Parses (inCalls marks depth) text a R′ P′ S r R″ P″ S″ → Parses E text c R P S r R″ P″ S″
-          number-read y = record { reads = Paths.number-read end w marks depth at-it (ahead c x e 11 q) (h .same S) (eq-eqb (a .number) 0 z) (y .reads) }
-
-      pub expression-refused : (r : Cursor) → (x .kind ≡ 1 → ⊥) → (x .kind ≡ 4 → ⊥) → (x .kind ≡ 7 → ⊥) → (x .kind ≡ 10 → ⊥) → (x .kind ≡ 11 → ⊥)
-          → cursorOf text r ≡ refusing text 5 c → Parses E text c R P S r R P S
-      expression-refused r n₁ n₂ n₃ n₄ n₅ g =
+      pub atom-name : (a : Cursor) (R′ P′ : List ℕ) → x .kind ≡ 10 → stateOf text a R′ P′ S ≡ D.readName end w depth at-it → Ready E text c R P S
+          → Continues E marks depth text c R P S a R′ P′ S
+      atom-name a R′ P′ q h f =
+          let b = ahead c x e 10 q in
           record {
+            stops = λ z. record { reads = Paths.name-refused end w marks depth at-it b h (ne-eqb (a .number) 0 z) };
+            goes = λ z r R″ P″ S″ y. record { reads = Paths.name-read end w marks depth at-it b h (eq-eqb (a .number) 0 z) (y .reads) };
+            fit = λ z. record { fit = subst (Fit (inCalls marks depth)) (sym h) (G.fit-name end marks depth at-it w (f .fit) b (sym (ap (λ (u : State). u .cursor .number) h) ∙ z)) };
+            less = λ z. Paths.less-name end w marks depth at-it b h (eq-eqb (a .number) 0 z);
+          }
+
+      pub atom-number : (a : Cursor) (R′ P′ : List ℕ) → x .kind ≡ 11 → WroteFor text (D.readNumber end w) c R P a R′ P′ → Ready E text c R P S
+          → Continues E marks depth text c R P S a R′ P′ S
+      atom-number a R′ P′ q v f =
+          let b = ahead c x e 11 q in
+          let h = v .same S in
+          record {
+            stops = λ z. record { reads = Paths.number-refused end w marks depth at-it b h (ne-eqb (a .number) 0 z) };
+            goes = λ z r R″ P″ S″ y. record { reads = Paths.number-read end w marks depth at-it b h (eq-eqb (a .number) 0 z) (y .reads) };
+            fit = λ z. record { fit = subst (Fit (inCalls marks depth)) (sym h) (G.fit-number end marks depth at-it w (f .fit) b (sym (ap (λ (u : State). u .cursor .number) h) ∙ z)) };
+            less = λ z. Paths.less-number end w marks depth at-it b h (eq-eqb (a .number) 0 z);
+          }
+
+      pub atom-refused : (r : Cursor) → (x .kind ≡ 1 → ⊥) → (x .kind ≡ 4 → ⊥) → (x .kind ≡ 7 → ⊥) → (x .kind ≡ 10 → ⊥) → (x .kind ≡ 11 → ⊥)
+          → cursorOf text r ≡ refusing text 5 c → Continues E marks depth text c R P S r R P S
+      atom-refused r n₁ n₂ n₃ n₄ n₅ g =
+          stopped (refusing-some 4 c r g)
+          (record {
             reads = subst (λ (v : C.Cursor). Reads end E at-it (moved at-it v)) (sym g)
                 (Paths.expression-refused end w marks depth at-it (not-ahead c x e 1 n₁) (not-ahead c x e 4 n₂) (not-ahead c x e 7 n₃) (not-ahead c x e 10 n₄) (not-ahead c x e 11 n₅));
-          }
+          })
 
     -- ---- brackets
     module _ (n : ℕ) (h : Cursor) (f : ReadyAt 7 E text c R P S) (o : n ≡ C.atBracket w marks) (p : cursorOf text h ≡ passing text n c) where
       open-is : cursorOf text h ≡ passing text (C.atBracket w marks) c
       open-is = p ∙ ap (λ (j : ℕ). passing text j c) o
 
-      pub bracket-refused : (h .number ≡ 0 → ⊥) → Parses E text c R P S h R P S
-      bracket-refused z = record { reads = Paths.bracket-refused end w marks depth at-it (cursorOf text h) (f .ahead) open-is (ne-eqb (h .number) 0 z) }
+      pub bracket-refused : (h .number ≡ 0 → ⊥) → Continues E marks depth text c R P S h R P S
+      bracket-refused z = stopped z (record { reads = Paths.bracket-refused end w marks depth at-it (cursorOf text h) (f .ahead) open-is (ne-eqb (h .number) 0 z) })
 
       module _ (z : h .number ≡ 0) where
         pub bracket-less : tokens-left h + 1 ≤ tokens-left c
@@ -370,25 +365,26 @@ module _ (text : List ℕ) where
           inner-reads : Reads end (inExpression false (suc marks) depth) (stateOf text h R P S) (stateOf text v R′ P′ S′)
           inner-reads = more-marks (λ m. Reads end m (stateOf text h R P S) (stateOf text v R′ P′ S′)) (y .reads)
 
-          pub bracketed-refused : (v .number ≡ 0 → ⊥) → Parses E text c R P S v R′ P′ S′
+          pub bracketed-refused : (v .number ≡ 0 → ⊥) → Continues E marks depth text c R P S v R′ P′ S′
           bracketed-refused u =
-              record { reads = Paths.bracketed-refused end w marks depth at-it (cursorOf text h) (f .ahead) open-is (eq-eqb (h .number) 0 z) inner-reads (ne-eqb (v .number) 0 u) }
+              stopped u
+              (record { reads = Paths.bracketed-refused end w marks depth at-it (cursorOf text h) (f .ahead) open-is (eq-eqb (h .number) 0 z) inner-reads (ne-eqb (v .number) 0 u) })
 
-          module _ (a : Cursor) (u : v .number ≡ 0) (g : cursorOf text a ≡ C.need end 8 (cursorOf text v)) where
-            pub bracket-shut-refused : (a .number ≡ 0 → ⊥) → Parses E text c R P S a R′ P′ S′
-            bracket-shut-refused t =
-                record { reads = Paths.bracket-shut-refused end w marks depth at-it (cursorOf text h) (f .ahead) open-is (eq-eqb (h .number) 0 z) (cursorOf text a) inner-reads (eq-eqb (v .number) 0 u) g (ne-eqb (a .number) 0 t) }
-
-            pub bracket-calls-fit : Ready (inCalls marks depth) text a R′ P′ S′
-            bracket-calls-fit =
-                record {
-                  fit = subst (λ (b : C.Cursor). Fit (inCalls marks depth) (moved (stateOf text v R′ P′ S′) b)) (sym g)
-                      (F.fit-bracket-calls end marks depth (stateOf text v R′ P′ S′) (f .fit .depth) (Paths.reads-fit end inner-reads inner-fit u));
-                }
-
-            pub bracket-read : {r : Cursor} {R″ P″ S″ : List ℕ} → a .number ≡ 0 → Parses (inCalls marks depth) text a R′ P′ S′ r R″ P″ S″ → Parses E text c R P S r R″ P″ S″
-            bracket-read t k =
-                record { reads = Paths.bracket-read end w marks depth at-it (cursorOf text h) (f .ahead) open-is (eq-eqb (h .number) 0 z) (cursorOf text a) inner-reads (eq-eqb (v .number) 0 u) g (eq-eqb (a .number) 0 t) (k .reads) }
+          pub bracket-read : (a : Cursor) → v .number ≡ 0 → cursorOf text a ≡ C.need end 8 (cursorOf text v) → Continues E marks depth text c R P S a R′ P′ S′
+          bracket-read a u g =
+              let o = eq-eqb (h .number) 0 z in
+              let i = eq-eqb (v .number) 0 u in
+              record {
+                stops = λ t. record { reads = Paths.bracket-shut-refused end w marks depth at-it (cursorOf text h) (f .ahead) open-is o (cursorOf text a) inner-reads i g (ne-eqb (a .number) 0 t) };
+                goes = λ t r R″ P″ S″ k.
+                    record { reads = Paths.bracket-read end w marks depth at-it (cursorOf text h) (f .ahead) open-is o (cursorOf text a) inner-reads i g (eq-eqb (a .number) 0 t) (k .reads) };
+                fit = λ _.
+                    record {
+                      fit = subst (λ (b : C.Cursor). Fit (inCalls marks depth) (moved (stateOf text v R′ P′ S′) b)) (sym g)
+                          (F.fit-bracket-calls end marks depth (stateOf text v R′ P′ S′) (f .fit .depth) (Paths.reads-fit end inner-reads inner-fit u));
+                    };
+                less = λ t. omega (arith, bracket-less, read-less _ _ _ _ _ _ _ _ _ y u, need-less 8 v a (omega arith) g t);
+              }
 
     -- ---- lambda
     module _ (h : Cursor) (f : ReadyAt 4 E text c R P S) (p : cursorOf text h ≡ C.lambdaHead end w marks depth S (cursorOf text c)) where
@@ -529,10 +525,6 @@ module _ (text : List ℕ) where
                             (Paths.let-read end w marks depth at-it (cursorOf text h) (f .ahead) p (eq-eqb (h .number) 0 z) (cursorOf text b) value-reads (eq-eqb (v .number) 0 u) g (eq-eqb (b .number) 0 t) in-reads (eq-eqb (r .number) 0 a));
                       }
 
-  -- ---- a token that is due
-  pub need-less : (k : ℕ) (v a : Cursor) → 0 < k → cursorOf text a ≡ C.need end k (cursorOf text v) → a .number ≡ 0 → tokens-left a + 1 ≤ tokens-left v
-  need-less k v a l g z = subst (Moved 1 0 (cursorOf text v)) (sym g) (moved-need end k (cursorOf text v) l) .went z .0
-
 -- ---- a call behind an argument
 module _ (k : Call) (n : ℕ) (e : n ≡ k .takes - 1) where
   pub first-is : (root : ℕ)
@@ -563,14 +555,6 @@ module _ (text R P : List ℕ) (a : Cursor) (R′ P′ S′ : List ℕ) (h : Par
   read-refused z = reading _ (cursorOf text a) (Paths.then-stop _ refl (ne-eqb (a .number) 0 z)) (rw (ne-eqb (a .number) 0 z))
 
   module _ (z : a .number ≡ 0) where
-    pub read-counts : (a .parts ≤ 128) × ((a .count ≤ 128) × (a .root ≤ 128))
-    read-counts =
-        let f = Paths.reads-fit (length text) (h .reads) (start-ready text R P noBinders .fit) z in
-        let p = f .parts in
-        let n = f .count in
-        let r = f .own in
-        (omega arith, (omega arith, omega arith))
-
     module _ (x : Lexed) (e : x ≡ lexAt text (a .at)) where
       pub read-done : x .kind ≡ 0 → Reading text R P (Done (a .parts) (a .count) (a .root)) R′ P′
       unfolding D.ended C.judge C.atMark answerOf when

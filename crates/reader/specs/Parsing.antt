@@ -5,12 +5,13 @@ use mathlib.Core.Bool.{true}
 use mathlib.Core.List.{List}
 use Prim.Native.Nat.{ℕ, _+_, _*_, _≤_}
 use lib.ListN.{length}
-use Rattle.descent.specs.Cursor.{isAt}
+use Rattle.descent.specs.Cursor.{isAt, letKind, lambdaKind}
 use Rattle.descent.specs.Descent.{Mode, inCalls}
 use Rattle.descent.specs.Fit.{Fit}
 use Rattle.descent.specs.Paths.{Reads}
 use Rattle.steps.specs.declared.cursor.Cursor.{Cursor}
-use Rattle.lexer.specs.Lexing.{tokensFrom}
+use Rattle.lexer.specs.declared.tokens.Lexed.{Lexed}
+use Rattle.lexer.specs.Lexing.{lexAt, tokensFrom}
 use Rattle.steps.specs.Cursors.{stateOf}
 
 pub record Ready (m : Mode) (text : List ℕ) (c : Cursor) (records places scope : List ℕ) : Type 0 where
@@ -21,11 +22,18 @@ pub record ReadyAt (k : ℕ) (m : Mode) (text : List ℕ) (c : Cursor) (records 
   pub ahead : isAt k (tokensFrom text (c .at)) ≡ true
   pub fit : Fit m (stateOf text c records places scope)
 
+-- where the token x is next, and begins neither a let nor a lambda
+pub record ReadyAtom (x : Lexed) (m : Mode) (text : List ℕ) (c : Cursor) (records places scope : List ℕ) : Type 0 where
+  pub next : x ≡ lexAt text (c .at)
+  pub no-let : x .kind ≡ letKind → ⊥
+  pub no-lambda : x .kind ≡ lambdaKind → ⊥
+  pub ready : Ready m text c records places scope
+
 pub record Parses (m : Mode) (text : List ℕ) (c : Cursor) (records places scope : List ℕ) (r : Cursor) (records′ places′ scope′ : List ℕ) : Type 0 where
   pub reads : Reads (length text) m (stateOf text c records places scope) (stateOf text r records′ places′ scope′)
 
--- of a call, from somewhere in it to behind the bracket that ends it: a refusal on the way is the answer of the reader m, and else m goes on with
--- the calls from there
+-- up to where calls may follow, behind an atom or the bracket that ends a call: a refusal on the way is the answer of the reader m, and else m
+-- goes on with the calls from there
 pub record Continues (m : Mode) (marks depth : ℕ) (text : List ℕ) (c : Cursor) (records places scope : List ℕ) (a : Cursor) (records′ places′ scope′ : List ℕ) : Type 0 where
   pub stops : (a .number ≡ 0 → ⊥) → Parses m text c records places scope a records′ places′ scope′
   pub goes : a .number ≡ 0 → (r : Cursor) (records″ places″ scope″ : List ℕ) → Parses (inCalls marks depth) text a records′ places′ scope′ r records″ places″ scope″

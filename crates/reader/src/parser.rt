@@ -1,25 +1,27 @@
 // The parser: recursive descent over the tokens of a text, which writes records as it goes.
 //
-//     expression := let name = expression in expression | \ name -> expression | name calls | number calls | ( expression ) calls
+//     expression := let name = expression in expression | \ name -> expression | atom calls
+//     atom       := name | number | ( expression )
 //     calls      := (. member ( arguments )) calls or nothing
 //     arguments  := nothing or expression (, expression) ..
 //
-// Each function is the reader of its name in descent's Descent, run with any fuel that is enough. Of a call, though, they read up to the bracket
-// that ends it, where descent's arguments and more go on with the calls: those are the next turn of the loop in calls.
+// Each function is the reader of its name in descent's Descent, run with any fuel that is enough. Of an atom and of a call, though, they read up
+// to its end, where descent's readers go on with the calls: those are the one loop in calls, so that an open mark takes one frame of the stack.
 use crate::answer::Read;
+use lexer::tokens;
+use lexer::tokens::Lexed;
 use steps::cursor;
 use steps::cursor::Cursor;
 use steps::scratch;
 use steps::scratch::Call;
-use lexer::tokens;
-use lexer::tokens::Lexed;
+use table::nodes::Shape;
 ghost use mathlib.Core.Path.{_≡_};
 ghost use Prim.Native.Nat.{_-_, _≤_};
 ghost use Rattle.descent.specs.Cursor.{isAt, letKind, lambdaKind, dotKind, openKind};
 ghost use Rattle.descent.specs.Descent.{firstGiven, nextGiven, inExpression, inCalls, inArguments, inMore};
 ghost use Rattle.lexer.specs.Lexing.{tokensFrom};
 ghost use Rattle.steps.specs.Scratch.{callOf};
-ghost use Rattle.reader.specs.Parsing.{Ready, ReadyAt, Parses, Continues};
+ghost use Rattle.reader.specs.Parsing.{Ready, ReadyAt, ReadyAtom, Parses, Continues};
 ghost use Rattle.reader.specs.Reading.{Reading};
 
 // One less, down to 0.
@@ -30,7 +32,7 @@ fn less(n: u8) -> u8
 }
 
 // The call behind its first argument.
-fn first_given(root: usize, k: Call) -> Call
+fn first_given(root: u16, k: Call) -> Call
     requires { ⌜ root ≤ 128 ⌝ }
     ensures { λ r. ⌜ callOf r ≡ firstGiven root (callOf k) ⌝ }
 {
@@ -78,22 +80,37 @@ fn expression(
     if kind == Lexed::LAMBDA {
         return read_lambda(text, w, marks, depth, c, records, places, scope);
     }
+    let a = atom(text, x, w, marks, depth, c, records, places, scope);
+    if a.number == 0 {
+        return calls(text, marks, depth, a, records, places, scope);
+    }
+    a
+}
+
+// What calls may follow, from the token x on.
+fn atom(
+    text: &[u8],
+    x: Lexed,
+    w: bool,
+    marks: usize,
+    depth: usize,
+    c: Cursor,
+    records: &mut [u64; 256],
+    places: &mut [u16; 128],
+    scope: &mut [u64; 32],
+) -> Cursor
+    requires { ⌜ ReadyAtom x (inExpression w marks depth) (now text) c (now records) (now places) (now scope) ⌝ }
+    ensures { λ r. ⌜ Continues (inExpression w marks depth) marks depth (now (text .entry)) c (now (records .entry)) (now (places .entry)) (now (scope .entry)) r (now (records .exit)) (now (places .exit)) (now (scope .exit)) ⌝ }
+{
+    let kind = x.kind;
     if kind == Lexed::OPEN {
         return read_bracket(text, w, marks, depth, c, records, places, scope);
     }
     if kind == Lexed::WORD {
-        let a = scratch::read_name(text, w, depth, c, scope, records, places);
-        if a.number == 0 {
-            return calls(text, marks, depth, a, records, places, scope);
-        }
-        return a;
+        return scratch::read_name(text, w, depth, c, scope, records, places);
     }
     if kind == Lexed::NUMBER {
-        let a = scratch::read_number(text, w, c, records, places);
-        if a.number == 0 {
-            return calls(text, marks, depth, a, records, places, scope);
-        }
-        return a;
+        return scratch::read_number(text, w, c, records, places);
     }
     cursor::refused(text, 5, c)
 }
@@ -156,7 +173,16 @@ fn read_lambda(
         scratch::enter(depth, h.name, 0, scope);
         let r = expression(text, false, marks + 1, depth + 1, h, records, places, scope);
         if r.number == 0 {
-            scratch::put(r, c.parts, 4, h.name, r.root + 1, 0, records, places)
+            scratch::put(
+                r,
+                c.parts,
+                Shape::FUNCTION,
+                h.name,
+                r.root + 1,
+                0,
+                records,
+                places,
+            )
         } else {
             r
         }
@@ -165,7 +191,7 @@ fn read_lambda(
     }
 }
 
-// ( expression ) calls
+// ( expression )
 fn read_bracket(
     text: &[u8],
     w: bool,
@@ -177,18 +203,13 @@ fn read_bracket(
     scope: &mut [u64; 32],
 ) -> Cursor
     requires { ⌜ ReadyAt openKind (inExpression w marks depth) (now text) c (now records) (now places) (now scope) ⌝ }
-    ensures { λ r. ⌜ Parses (inExpression w marks depth) (now (text .entry)) c (now (records .entry)) (now (places .entry)) (now (scope .entry)) r (now (records .exit)) (now (places .exit)) (now (scope .exit)) ⌝ }
+    ensures { λ r. ⌜ Continues (inExpression w marks depth) marks depth (now (text .entry)) c (now (records .entry)) (now (places .entry)) (now (scope .entry)) r (now (records .exit)) (now (places .exit)) (now (scope .exit)) ⌝ }
 {
     let h = cursor::judged(text, cursor::at_bracket(w, marks), c);
     if h.number == 0 {
         let e = expression(text, false, marks + 1, depth, h, records, places, scope);
         if e.number == 0 {
-            let a = cursor::need(text, Lexed::SHUT, e);
-            if a.number == 0 {
-                calls(text, marks, depth, a, records, places, scope)
-            } else {
-                a
-            }
+            cursor::need(text, Lexed::SHUT, e)
         } else {
             e
         }
@@ -244,7 +265,7 @@ fn call(
     let h = cursor::call_head(text, marks, c);
     if h.number == 0 {
         let k = Call {
-            kind: h.name,
+            kind: h.name as u8,
             takes: h.takes,
             receiver: c.root,
             place: c.parts,
@@ -355,9 +376,9 @@ pub fn read(text: &[u8], records: &mut [u64; 256], places: &mut [u16; 128]) -> R
         let x = tokens::token(text, a.at);
         if x.kind == Lexed::END {
             Read::Done {
-                parts: a.parts as u16,
-                records: a.count as u16,
-                root: a.root as u16,
+                parts: a.parts,
+                records: a.count,
+                root: a.root,
             }
         } else {
             Read::Refused {

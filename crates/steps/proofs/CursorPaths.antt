@@ -23,7 +23,7 @@ use Rattle.lexer.specs.declared.tokens.Lexed.{Lexed}
 use Rattle.lexer.specs.Lexing.{lexAt, tokensFrom, bytesAt, nameAt}
 use Rattle.lexer.specs.LexingLaws.{name-whole}
 use Rattle.steps.specs.Cursors.{cursorOf, passedTo, partTo, namedTo, refusedAt, refusing, passing, passingPart, letNamed, lambdaNamed, memberNamed, callOpened}
-use Rattle.steps.specs.Cursors.{nameFault, numberFault, letNameFault, lambdaNameFault, memberFault, openFault, kindOfFound}
+use Rattle.steps.specs.Cursors.{nameFault, numberFault, letNameFault, lambdaNameFault, openFault}
 use Rattle.steps.specs.CursorsLaws.{head-place, behind-head, head-word, is-at}
 
 -- ---- the faults, from the picks that they are made of
@@ -66,9 +66,6 @@ pub lambda-name-fault : (word long reserved taken : Bool) (l m n r : ℕ) → l 
     → r ≡ lambdaNameFault word long reserved taken
 lambda-name-fault word long reserved taken l m n r e o p q =
     q ∙ ap (λ (k : ℕ). cond word k 5) (p ∙ ap (λ (k : ℕ). cond long 7 k) (o ∙ ap (λ (k : ℕ). cond reserved 8 k) e))
-
-pub member-fault : (word unknown : Bool) (n r : ℕ) → n ≡ cond unknown 9 0 → r ≡ cond word n 5 → r ≡ memberFault word unknown
-member-fault word unknown n r p q = q ∙ ap (λ (k : ℕ). cond word k 5) p
 
 pub open-fault : (bracket : Bool) (marks n r : ℕ) → n ≡ cond (leb 16 marks) 12 0 → r ≡ cond bracket n 5 → r ≡ openFault bracket marks
 open-fault bracket marks n r p q = q ∙ ap (λ (k : ℕ). cond bracket k 5) p
@@ -157,21 +154,9 @@ unfolding D.lambdasIn
 lambdas-none scope = refl
 
 -- ---- members
-pub kind-known : (f : Found) (m : Member) (n : ℕ) → f ≡ Is m → n ≡ memberNumber m → 5 + n ≡ kindOfFound f
-kind-known f m n e q = rw (e, q)
-
-pub takes-known : (f : Found) (m : Member) (n : ℕ) → f ≡ Is m → n ≡ row m .arguments → n ≡ takes f
-unfolding takes
-takes-known f m n e q = rw e q
-
-pub takes-unknown : (f : Found) → f ≡ Unknown → 0 ≡ takes f
-unfolding takes
-takes-unknown f e = rw e
-
-kind-member : (w : List ℕ) (f : Found) → f ≡ memberOf w → kindOfFound f ≡ memberKind (member w)
+member-is : (w : List ℕ) (f : Found) (m : Member) → f ≡ memberOf w → f ≡ Is m → m ≡ member w
 unfolding member
-kind-member w (Is m) e = rw (← e)
-kind-member w Unknown e = rw (← e)
+member-is w f m g i = rw (sym g ∙ i)
 
 -- ---- judge, next
 judge-go : (end n : ℕ) (c : D.Cursor) (d : Unit {0} → D.Cursor) → n ≡ 0 → d tt ≡ D.judge end n c d
@@ -308,22 +293,33 @@ module _ (text : List ℕ) (c : Cursor) (x : Lexed) (e : x ≡ lexAt text (c .at
     pub lambda-name-refused : (r : Cursor) → (n ≡ 0 → ⊥) → r ≡ refusedAt c n (x .start) → cursorOf text r ≡ lambdaNamed text scope depth c
     lambda-name-refused r z q = stops n _ r _ lambda-number z q
 
-  -- a member
-  module _ (found : Found) (unknown : Bool) (n : ℕ) (g : found ≡ memberOf bytes) (u : unknown ≡ isUnknown found) (f : n ≡ memberFault (eqb (x .kind) 10) unknown) where
-    member-number : n ≡ D.atMember left
-    unfolding D.atMember
-    member-number = f ∙ rw (u, g) (word-fault (λ w. cond (isUnknown (memberOf w)) 9 0))
+  -- a member: none, one that is not known, and one that is
+  abbrev unknown-fault : Found → ℕ
+  unknown-fault f = cond (isUnknown f) 9 0
 
-    pub member-passed : (k t : ℕ) (r : Cursor) → n ≡ 0 → k ≡ kindOfFound found → t ≡ takes found → r ≡ namedTo c (x .end) k t → cursorOf text r ≡ memberNamed text c
-    unfolding D.passMember
-    member-passed k t r z p v q =
-        let w = was-due (eqb (x .kind) 10) _ 4 (sym f ∙ z) in
-        let h : D.headWord left ≡ bytes = head-word text (c .at) x e (eqb-true (x .kind) 10 (w .0)) in
-        goes n _ r _ member-number z (ap (cursorOf text) q ∙ named-here k _ t _
-        (p ∙ kind-member bytes found g ∙ ap (λ (w : List ℕ). memberKind (member w)) (sym h)) (v ∙ ap takes g ∙ ap (λ (w : List ℕ). takes (memberOf w)) (sym h)))
+  member-fault : cond (eqb (x .kind) 10) (unknown-fault (memberOf bytes)) 5 ≡ D.atMember left
+  unfolding D.atMember
+  member-fault = word-fault (λ w. unknown-fault (memberOf w))
 
-    pub member-refused : (r : Cursor) → (n ≡ 0 → ⊥) → r ≡ refusedAt c n (x .start) → cursorOf text r ≡ memberNamed text c
-    member-refused r z q = stops n _ r _ member-number z q
+  pub member-none : (r : Cursor) → (x .kind ≡ 10 → ⊥) → r ≡ refusedAt c 5 (x .start) → cursorOf text r ≡ memberNamed text c
+  member-none r z q =
+      stops 5 _ r _ (ap (λ (t : Bool). cond t (unknown-fault (memberOf bytes)) 5) (sym (ne-eqb (x .kind) 10 z)) ∙ member-fault) (λ h. omega arith) q
+
+  module _ (found : Found) (z : x .kind ≡ 10) (g : found ≡ memberOf bytes) where
+    found-fault : unknown-fault found ≡ D.atMember left
+    found-fault = ap unknown-fault g ∙ ap (λ (t : Bool). cond t (unknown-fault (memberOf bytes)) 5) (sym (eq-eqb (x .kind) 10 z)) ∙ member-fault
+
+    pub member-unknown : (r : Cursor) → found ≡ Unknown → r ≡ refusedAt c 9 (x .start) → cursorOf text r ≡ memberNamed text c
+    member-unknown r i q = stops 9 _ r _ (ap unknown-fault (sym i) ∙ found-fault) (λ h. omega arith) q
+
+    pub member-known : (m : Member) (n t : ℕ) (r : Cursor) → found ≡ Is m → n ≡ memberNumber m → t ≡ row m .arguments → r ≡ namedTo c (x .end) (5 + n) t
+        → cursorOf text r ≡ memberNamed text c
+    unfolding D.passMember takes
+    member-known m n t r i p v q =
+        let h : bytes ≡ D.headWord left = sym (head-word text (c .at) x e z) in
+        goes 0 _ r _ (ap unknown-fault (sym i) ∙ found-fault) refl (ap (cursorOf text) q ∙ named-here (5 + n) _ t _
+        (ap (λ (k : ℕ). 5 + k) p ∙ ap memberKind (member-is bytes found m g i) ∙ ap (λ (w : List ℕ). memberKind (member w)) h)
+        (v ∙ ap takes (sym i ∙ g) ∙ ap (λ (w : List ℕ). takes (memberOf w)) h))
 
   -- the bracket of a call
   module _ (marks n : ℕ) (f : n ≡ openFault (eqb (x .kind) 7) marks) where

@@ -5,10 +5,6 @@ use Prim.Native.Nat.{ℕ, _+_}
 use lib.Dec.{leb}
 use lib.ListN.{length}
 use Rattle.language.specs.Limits.{openMarks}
-use Rattle.language.specs.declared.members.Found.{Found}
-use Rattle.language.specs.declared.members.Found.the-variants.{Is, Unknown}
-use Rattle.language.specs.declared.members.Member.the-variants.{Count}
-use Rattle.table.specs.Nodes.{memberKind}
 use Rattle.descent.specs.Cursor as D
 use Rattle.descent.specs.Descent.{State}
 use Rattle.steps.specs.declared.cursor.Cursor.{Cursor}
@@ -64,20 +60,12 @@ nameFault w long parts = cond long 7 (cond w 9 (D.atPart parts))
 abbrev pub numberFault : (w beyond : Bool) (parts : ℕ) → ℕ
 numberFault w beyond parts = cond beyond 6 (cond w 9 (D.atPart parts))
 
--- the faults where a name, a member or a call's bracket is due, from the tests of the token there
+-- the faults where a name or a call's bracket is due, from the tests of the token there
 abbrev pub letNameFault : (word long reserved : Bool) → ℕ
 letNameFault word long reserved = cond word (cond long 7 (cond reserved 8 0)) 5
 
 abbrev pub lambdaNameFault : (word long reserved taken : Bool) → ℕ
 lambdaNameFault word long reserved taken = cond word (cond long 7 (cond reserved 8 (cond taken 11 0))) 5
 
-abbrev pub memberFault : (word unknown : Bool) → ℕ
-memberFault word unknown = cond word (cond unknown 9 0) 5
-
 abbrev pub openFault : Bool → (marks : ℕ) → ℕ
 openFault bracket marks = cond bracket (cond (leb openMarks marks) 12 0) 5
-
--- the kind of a call's record; of an unknown member, which is refused, any
-abbrev pub kindOfFound : Found → ℕ
-kindOfFound (Is m) = memberKind m
-kindOfFound Unknown = memberKind Count

@@ -1,32 +1,32 @@
 // The cursor over a text, and what is refused at a token. Each function is the function of its name in descent's Cursor; the tokens that are
 // left are those from the cursor's place on.
-use lexer::tokens;
-use lexer::tokens::Lexed;
 use language::limits::Text;
 use language::members;
 use language::members::Found;
+use lexer::tokens;
+use lexer::tokens::Lexed;
+use table::nodes::Shape;
 ghost use mathlib.Core.Path.{_≡_};
 ghost use mathlib.Core.Bool.{cond, _&&_};
 ghost use Prim.Native.Nat.{suc, _≤_, _<_};
 ghost use lib.Dec.{eqb};
 ghost use lib.ListN.{length};
-ghost use Rattle.language.specs.Members.{isUnknown, takes};
 ghost use Rattle.descent.specs.Cursor.{binderName, binderLink, binderOf, lambdasIn, lambdaIn};
 ghost use Rattle.descent.specs.Cursor.{atPart, atLet, atLambda, atBracket, atShut, atComma, need, letHead, lambdaHead, callHead};
 ghost use Rattle.steps.specs.Cursors.{cursorOf, passedTo, partTo, namedTo, refusedAt, refusing, passing, passingPart, letNamed, lambdaNamed, memberNamed, callOpened};
-ghost use Rattle.steps.specs.Cursors.{nameFault, numberFault, letNameFault, lambdaNameFault, memberFault, openFault, kindOfFound};
+ghost use Rattle.steps.specs.Cursors.{nameFault, numberFault, letNameFault, lambdaNameFault, openFault};
 
 // Where the text is read from, how many parts and records there are, the record of the expression last read, the packed name read last or the
 // kind of the member read last and how many arguments that takes, and the refusal: its number, 0 for none, and its place.
 pub struct Cursor {
     pub at: usize,
-    pub parts: usize,
-    pub count: usize,
-    pub root: usize,
     pub name: u64,
+    pub place: usize,
+    pub parts: u16,
+    pub count: u16,
+    pub root: u16,
     pub takes: u8,
     pub number: u8,
-    pub place: usize,
 }
 
 // The cursor at another place of the text.
@@ -146,19 +146,19 @@ fn pick(test: bool, yes: u8, no: u8) -> u8
     if test { yes } else { no }
 }
 
-pub fn at_part(parts: usize) -> u8
+pub fn at_part(parts: u16) -> u8
     ensures { λ r. ⌜ r ≡ atPart parts ⌝ }
 {
-    pick(Text::PARTS <= parts, 12, 0)
+    pick(Text::PARTS <= parts as usize, 12, 0)
 }
 
-pub fn at_let(w: bool, marks: usize, parts: usize) -> u8
+pub fn at_let(w: bool, marks: usize, parts: u16) -> u8
     ensures { λ r. ⌜ r ≡ atLet w marks parts ⌝ }
 {
     pick(w, 9, pick(Text::MARKS <= marks, 12, at_part(parts)))
 }
 
-pub fn at_lambda(w: bool, lambdas: usize, marks: usize, parts: usize) -> u8
+pub fn at_lambda(w: bool, lambdas: usize, marks: usize, parts: u16) -> u8
     ensures { λ r. ⌜ r ≡ atLambda w lambdas marks parts ⌝ }
 {
     pick(
@@ -179,14 +179,14 @@ pub fn at_bracket(w: bool, marks: usize) -> u8
 }
 
 // A name in use.
-pub fn at_name(w: bool, long: bool, parts: usize) -> u8
+pub fn at_name(w: bool, long: bool, parts: u16) -> u8
     ensures { λ r. ⌜ r ≡ nameFault w long parts ⌝ }
 {
     pick(long, 7, pick(w, 9, at_part(parts)))
 }
 
 // A number.
-pub fn at_number(w: bool, beyond: bool, parts: usize) -> u8
+pub fn at_number(w: bool, beyond: bool, parts: u16) -> u8
     ensures { λ r. ⌜ r ≡ numberFault w beyond parts ⌝ }
 {
     pick(beyond, 6, pick(w, 9, at_part(parts)))
@@ -220,13 +220,6 @@ fn at_lambda_name(word: bool, long: bool, reserved: bool, taken: bool) -> u8
         pick(long, 7, pick(reserved, 8, pick(taken, 11, 0))),
         5,
     )
-}
-
-// Where a member is due.
-fn at_member(word: bool, unknown: bool) -> u8
-    ensures { λ r. ⌜ r ≡ memberFault word unknown ⌝ }
-{
-    pick(word, pick(unknown, 9, 0), 5)
 }
 
 // Where the bracket of a call is due.
@@ -306,35 +299,6 @@ pub fn lambda_in(scope: &[u64; 32], x: u64, depth: usize) -> bool
     false
 }
 
-fn is_unknown(found: Found) -> bool
-    ensures { λ r. ⌜ r ≡ isUnknown found ⌝ }
-{
-    match found {
-        Found::Is(_) => false,
-        Found::Unknown => true,
-    }
-}
-
-// The kind of a member's record.
-fn member_kind(found: Found) -> u64
-    ensures { λ r. ⌜ r ≡ kindOfFound found ⌝ }
-{
-    match found {
-        Found::Is(m) => 5 + members::number_of(m) as u64,
-        Found::Unknown => 13,
-    }
-}
-
-// How many arguments it takes.
-fn takes(found: Found) -> u8
-    ensures { λ r. ⌜ r ≡ takes found ⌝ }
-{
-    match found {
-        Found::Is(m) => members::arguments(m),
-        Found::Unknown => 0,
-    }
-}
-
 // The name of a let.
 fn let_name(text: &[u8], c: Cursor) -> Cursor
     ensures { λ r. ⌜ cursorOf (now (text .entry)) r ≡ letNamed (now (text .entry)) c ⌝ }
@@ -380,12 +344,18 @@ fn member_name(text: &[u8], c: Cursor) -> Cursor
     ensures { λ r. ⌜ cursorOf (now (text .entry)) r ≡ memberNamed (now (text .entry)) c ⌝ }
 {
     let x = tokens::token(text, c.at);
-    let found = tokens::member(text, x.start, x.end);
-    let number = at_member(x.kind == Lexed::WORD, is_unknown(found));
-    if number == 0 {
-        named(c, x.end, member_kind(found), takes(found))
+    if x.kind == Lexed::WORD {
+        match tokens::member(text, x.start, x.end) {
+            Found::Is(m) => named(
+                c,
+                x.end,
+                Shape::MEMBERS as u64 + members::number_of(m) as u64,
+                members::arguments(m),
+            ),
+            Found::Unknown => refused_at(c, 9, x.start),
+        }
     } else {
-        refused_at(c, number, x.start)
+        refused_at(c, 5, x.start)
     }
 }
 

@@ -4,6 +4,7 @@ use crate::cursor;
 use crate::cursor::Cursor;
 use lexer::tokens;
 use lexer::tokens::Literal;
+use table::nodes::Shape;
 ghost use mathlib.Core.Path.{_≡_};
 ghost use Prim.Native.Nat.{_+_, _*_, _≤_, _<_};
 ghost use lib.ListN.{length, set};
@@ -15,36 +16,36 @@ ghost use Rattle.steps.specs.Scratch.{Wrote, WroteIn, WroteFor, Linked, 
 // A call being read: its member's kind, how many arguments are still to come, the receiver's record, its part's place, and its first
 // argument, 0 for none or one more than a record.
 pub struct Call {
-    pub kind: u64,
+    pub kind: u8,
     pub takes: u8,
-    pub receiver: usize,
-    pub place: usize,
-    pub argument: usize,
+    pub receiver: u16,
+    pub place: u16,
+    pub argument: u16,
 }
 
 // A record for the part of place p: its kind, its number or name, and what it depends on, each 0 for none or one more than a record.
 pub fn put(
     c: Cursor,
-    p: usize,
-    kind: u64,
+    p: u16,
+    kind: u16,
     key: u64,
-    first: usize,
-    second: usize,
+    first: u16,
+    second: u16,
     records: &mut [u64; 256],
     places: &mut [u16; 128],
 ) -> Cursor
     requires { ⌜ Recorded c p kind first second ⌝ }
     ensures { λ r. ⌜ Wrote (put p (node kind key first second)) c (now (records .entry)) (now (places .entry)) r (now (records .exit)) (now (places .exit)) ⌝ }
 {
-    let n = c.count;
-    records[2 * n] = kind + 32 * first as u64 + 8192 * second as u64;
+    let n = c.count as usize;
+    records[2 * n] = kind as u64 + 32 * first as u64 + 8192 * second as u64;
     records[2 * n + 1] = key;
-    places[p] = n as u16;
+    places[p as usize] = c.count;
     Cursor {
         at: c.at,
         parts: c.parts,
-        count: n + 1,
-        root: n,
+        count: c.count + 1,
+        root: c.count,
         name: c.name,
         takes: c.takes,
         number: c.number,
@@ -53,11 +54,11 @@ pub fn put(
 }
 
 // Record j for the part of place p.
-fn link(c: Cursor, p: usize, j: usize, places: &mut [u16; 128]) -> Cursor
+fn link(c: Cursor, p: u16, j: u16, places: &mut [u16; 128]) -> Cursor
     requires { ⌜ (p < 128) × (j ≤ 128) ⌝ }
     ensures { λ r. ⌜ Linked p j c (now (places .entry)) r (now (places .exit)) ⌝ }
 {
-    places[p] = j as u16;
+    places[p as usize] = j;
     Cursor {
         at: c.at,
         parts: c.parts,
@@ -71,11 +72,11 @@ fn link(c: Cursor, p: usize, j: usize, places: &mut [u16; 128]) -> Cursor
 }
 
 // The record last read, for the part of place p.
-pub fn mark(p: usize, root: usize, places: &mut [u16; 128])
+pub fn mark(p: u16, root: u16, places: &mut [u16; 128])
     requires { ⌜ (p < 128) × (root ≤ 128) ⌝ }
     ensures { λ _. ⌜ now (places .exit) ≡ set (now (places .entry)) p root ⌝ }
 {
-    places[p] = root as u16;
+    places[p as usize] = root;
 }
 
 // Binder number depth: its packed name and what it stands for.
@@ -90,7 +91,7 @@ pub fn enter(depth: usize, x: u64, j: u64, scope: &mut [u64; 32])
 // A bound name stands for a variable, or for a record.
 fn put_bound(
     c: Cursor,
-    p: usize,
+    p: u16,
     x: u64,
     j: u64,
     records: &mut [u64; 256],
@@ -100,16 +101,16 @@ fn put_bound(
     ensures { λ r. ⌜ Wrote (putBound p x j) c (now (records .entry)) (now (places .entry)) r (now (records .exit)) (now (places .exit)) ⌝ }
 {
     if j == 0 {
-        put(c, p, 1, x, 0, 0, records, places)
+        put(c, p, Shape::VARIABLE, x, 0, 0, records, places)
     } else {
-        link(c, p, (j - 1) as usize, places)
+        link(c, p, (j - 1) as u16, places)
     }
 }
 
 // b: one more than the binder's number, 0 for none.
 fn put_scoped(
     c: Cursor,
-    p: usize,
+    p: u16,
     x: u64,
     b: usize,
     scope: &[u64; 32],
@@ -120,7 +121,7 @@ fn put_scoped(
     ensures { λ r. ⌜ WroteIn (now (scope .entry)) (putScoped p x b) c (now (records .entry)) (now (places .entry)) r (now (records .exit)) (now (places .exit)) ⌝ }
 {
     if b == 0 {
-        put(c, p, 2, x, 0, 0, records, places)
+        put(c, p, Shape::UNBOUND, x, 0, 0, records, places)
     } else {
         let i = 2 * b - 1;
         put_bound(c, p, x, scope[i], records, places)
@@ -133,7 +134,7 @@ const DATA: u64 = 0x64617461;
 // The packed name x in use.
 fn put_name(
     c: Cursor,
-    p: usize,
+    p: u16,
     x: u64,
     depth: usize,
     scope: &[u64; 32],
@@ -144,7 +145,7 @@ fn put_name(
     ensures { λ r. ⌜ WroteIn (now (scope .entry)) (putName p x depth) c (now (records .entry)) (now (places .entry)) r (now (records .exit)) (now (places .exit)) ⌝ }
 {
     if x == DATA {
-        put(c, p, 3, 0, 0, 0, records, places)
+        put(c, p, Shape::READINGS, 0, 0, 0, records, places)
     } else {
         put_scoped(
             c,
@@ -224,7 +225,16 @@ pub fn read_number(
     let number = cursor::at_number(w, is_beyond(value), c.parts);
     let a = cursor::judged_part(text, number, c);
     if a.number == 0 {
-        put(a, c.parts, 0, key_of(value), 0, 0, records, places)
+        put(
+            a,
+            c.parts,
+            Shape::NUMBER,
+            key_of(value),
+            0,
+            0,
+            records,
+            places,
+        )
     } else {
         a
     }
@@ -246,7 +256,7 @@ pub fn read_shut(
         put(
             a,
             k.place,
-            k.kind,
+            k.kind as u16,
             0,
             k.receiver + 1,
             k.argument,

@@ -1,27 +1,17 @@
 -- An expression is read from the start, with no binder open, and then the end is due. Assumes nothing.
-use native.Mathlib.Omega.{arith}
 use borrow.Author.Needs.{needs}
-use Rattle.reader.proofs.ParserPaths.{read-counts, read-done, read-more, read-refused}
+use Rattle.reader.proofs.ParserPaths.{start-ready, read-done, read-more, read-refused}
 use Rattle.reader.proofs.parser.read.Statement.{statement}
 use Rattle.reader.proofs.parser.read.Tie as tie
 
 expression-requires : tie.Need-expression-requires
-expression-requires c κs = search needs
+expression-requires c κs = start-ready _ _ _ _
 
 token-requires : tie.Need-token-requires
 token-requires c κs = search needs
 
-cast-t15 : tie.Need-cast-t15
-cast-t15 c = omega (arith, read-counts _ _ _ _ _ _ _ (c .before .before .before .before .before .before .expression .ensures) (c .before .before .before .before .if1 .taken))
-
-cast-t16 : tie.Need-cast-t16
-cast-t16 c = omega (arith, read-counts _ _ _ _ _ _ _ (c .before .before .before .before .before .before .before .expression .ensures) (c .before .before .before .before .before .if1 .taken))
-
-cast-t17 : tie.Need-cast-t17
-cast-t17 c = omega (arith, read-counts _ _ _ _ _ _ _ (c .before .before .before .before .before .before .before .before .expression .ensures) (c .before .before .before .before .before .before .if1 .taken))
-
 returns : tie.Need-returns
-returns c = read-done _ _ _ _ _ _ _ (c .before .before .before .before .before .before .before .before .expression .ensures) (c .before .before .before .before .before .before .if1 .taken) _ (c .before .before .before .before .before .token .ensures) (c .before .before .before .if2 .taken)
+returns c = read-done _ _ _ _ _ _ _ (c .before .before .before .before .before .expression .ensures) (c .before .before .before .if1 .taken) _ (c .before .before .token .ensures) (c .if2 .taken)
 
 returns-2 : tie.Need-returns-2
 returns-2 c = read-more _ _ _ _ _ _ _ (c .before .before .before .before .before .expression .ensures) (c .before .before .before .if1 .taken) _ (c .before .before .token .ensures) (c .if2 .left)
@@ -30,14 +20,4 @@ returns-3 : tie.Need-returns-3
 returns-3 c = read-refused _ _ _ _ _ _ _ (c .before .before .expression .ensures) (c .if1 .left)
 
 pub read-spec : {M : Type 1} → statement M
-read-spec =
-    tie.close
-    (tie.spec
-    expression-requires
-    token-requires
-    cast-t15
-    cast-t16
-    cast-t17
-    returns
-    returns-2
-    returns-3)
+read-spec = tie.close (tie.spec expression-requires token-requires returns returns-2 returns-3)

@@ -4,6 +4,9 @@ use Rattle.steps.proofs.ScratchPaths.{put-path}
 use Rattle.steps.proofs.scratch.put.Statement.{statement}
 use Rattle.steps.proofs.scratch.put.Tie as tie
 
+cast-n : tie.Need-cast-n
+cast-n c = search needs
+
 mul-records : tie.Need-mul-records
 mul-records c = search needs
 
@@ -37,17 +40,14 @@ mul-records-6 c = search needs
 element-write-records-2 : tie.Need-element-write-records-2
 element-write-records-2 c = search needs
 
-cast-places : tie.Need-cast-places
-cast-places c = search needs
-
 mul-places : tie.Need-mul-places
 mul-places c = search needs
 
 element-write-places : tie.Need-element-write-places
 element-write-places c = search needs
 
-add-t20 : tie.Need-add-t20
-add-t20 c = search needs
+add-t26 : tie.Need-add-t26
+add-t26 c = search needs
 
 returns : tie.Need-returns
 returns c = put-path _ _ _ _ _ _ _ _
@@ -56,6 +56,7 @@ pub put-spec : {M : Type 1} → statement M
 put-spec =
     tie.close
     (tie.spec
+    cast-n
     mul-records
     add-records
     mul-records-2
@@ -67,8 +68,7 @@ put-spec =
     add-records-3
     mul-records-6
     element-write-records-2
-    cast-places
     mul-places
     element-write-places
-    add-t20
+    add-t26
     returns)

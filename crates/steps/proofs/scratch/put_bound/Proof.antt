@@ -10,6 +10,9 @@ put-requires c κs = search needs
 sub-link : tie.Need-sub-link
 sub-link c = search needs
 
+cast-link : tie.Need-cast-link
+cast-link c = search needs
+
 link-requires : tie.Need-link-requires
 link-requires c κs = search needs
 
@@ -20,4 +23,4 @@ returns-2 : tie.Need-returns-2
 returns-2 c = search bound-record
 
 pub put-bound-spec : {M : Type 1} → statement M
-put-bound-spec = tie.close (tie.spec put-requires sub-link link-requires returns returns-2)
+put-bound-spec = tie.close (tie.spec put-requires sub-link cast-link link-requires returns returns-2)

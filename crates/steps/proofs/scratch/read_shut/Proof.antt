@@ -10,6 +10,9 @@ at-shut-requires c κs = search needs
 judged-requires : tie.Need-judged-requires
 judged-requires c κs = search needs
 
+cast-put : tie.Need-cast-put
+cast-put c = search needs
+
 add-put : tie.Need-add-put
 add-put c = search needs
 
@@ -24,4 +27,4 @@ returns-2 c = search shut-stopped
 
 pub read-shut-spec : {M : Type 1} → statement M
 read-shut-spec =
-    tie.close (tie.spec at-shut-requires judged-requires add-put put-requires returns returns-2)
+    tie.close (tie.spec at-shut-requires judged-requires cast-put add-put put-requires returns returns-2)

@@ -10,28 +10,35 @@ use borrow.Fn.Kinds.{In}
 use borrow.Fn.PlainCycle.{Measures, is, falls, and}
 use Rattle.reader.proofs.parser.arguments.Reads as arguments
 use Rattle.reader.proofs.parser.arguments.Kinds as arguments-kinds
-use Rattle.reader.proofs.parser.+arguments+call+calls+expression+more+read_bracket+read_lambda+read_let.Lts-arguments as arguments-lts
+use Rattle.reader.proofs.parser.+arguments+atom+call+calls+expression+more+read_bracket+read_lambda+read_let.Lts-arguments as arguments-lts
+use Rattle.reader.proofs.parser.atom.Reads as atom
+use Rattle.reader.proofs.parser.atom.Kinds as atom-kinds
+use Rattle.reader.proofs.parser.+arguments+atom+call+calls+expression+more+read_bracket+read_lambda+read_let.Lts-atom as atom-lts
 use Rattle.reader.proofs.parser.call.Reads as call
 use Rattle.reader.proofs.parser.call.Kinds as call-kinds
-use Rattle.reader.proofs.parser.+arguments+call+calls+expression+more+read_bracket+read_lambda+read_let.Lts-call as call-lts
+use Rattle.reader.proofs.parser.+arguments+atom+call+calls+expression+more+read_bracket+read_lambda+read_let.Lts-call as call-lts
 use Rattle.reader.proofs.parser.calls.Reads as calls
 use Rattle.reader.proofs.parser.calls.Kinds as calls-kinds
-use Rattle.reader.proofs.parser.+arguments+call+calls+expression+more+read_bracket+read_lambda+read_let.Lts-calls as calls-lts
+use Rattle.reader.proofs.parser.+arguments+atom+call+calls+expression+more+read_bracket+read_lambda+read_let.Lts-calls as calls-lts
 use Rattle.reader.proofs.parser.expression.Reads as expression
 use Rattle.reader.proofs.parser.expression.Kinds as expression-kinds
-use Rattle.reader.proofs.parser.+arguments+call+calls+expression+more+read_bracket+read_lambda+read_let.Lts-expression as expression-lts
+use Rattle.reader.proofs.parser.+arguments+atom+call+calls+expression+more+read_bracket+read_lambda+read_let.Lts-expression as expression-lts
 use Rattle.reader.proofs.parser.more.Reads as more
 use Rattle.reader.proofs.parser.more.Kinds as more-kinds
-use Rattle.reader.proofs.parser.+arguments+call+calls+expression+more+read_bracket+read_lambda+read_let.Lts-more as more-lts
+use Rattle.reader.proofs.parser.+arguments+atom+call+calls+expression+more+read_bracket+read_lambda+read_let.Lts-more as more-lts
 use Rattle.reader.proofs.parser.read_bracket.Reads as read-bracket
 use Rattle.reader.proofs.parser.read_bracket.Kinds as read-bracket-kinds
-use Rattle.reader.proofs.parser.+arguments+call+calls+expression+more+read_bracket+read_lambda+read_let.Lts-read_bracket as read-bracket-lts
+use Rattle.reader.proofs.parser.+arguments+atom+call+calls+expression+more+read_bracket+read_lambda+read_let.Lts-read_bracket as read-bracket-lts
 use Rattle.reader.proofs.parser.read_lambda.Reads as read-lambda
 use Rattle.reader.proofs.parser.read_lambda.Kinds as read-lambda-kinds
-use Rattle.reader.proofs.parser.+arguments+call+calls+expression+more+read_bracket+read_lambda+read_let.Lts-read_lambda as read-lambda-lts
+use Rattle.reader.proofs.parser.+arguments+atom+call+calls+expression+more+read_bracket+read_lambda+read_let.Lts-read_lambda as read-lambda-lts
 use Rattle.reader.proofs.parser.read_let.Reads as read-let
 use Rattle.reader.proofs.parser.read_let.Kinds as read-let-kinds
-use Rattle.reader.proofs.parser.+arguments+call+calls+expression+more+read_bracket+read_lambda+read_let.Lts-read_let as read-let-lts
+use Rattle.reader.proofs.parser.+arguments+atom+call+calls+expression+more+read_bracket+read_lambda+read_let.Lts-read_let as read-let-lts
+use Rattle.lexer.proofs.tokens.token.Reads as token-reads
+use Rattle.reader.proofs.parser.first_given.Reads as first-given-reads
+use Rattle.reader.proofs.parser.is_call.Reads as is-call-reads
+use Rattle.reader.proofs.parser.next_given.Reads as next-given-reads
 use Rattle.steps.proofs.cursor.at_bracket.Reads as at-bracket-reads
 use Rattle.steps.proofs.cursor.at_comma.Reads as at-comma-reads
 use Rattle.steps.proofs.cursor.call_head.Reads as call-head-reads
@@ -40,25 +47,24 @@ use Rattle.steps.proofs.cursor.lambda_head.Reads as lambda-head-reads
 use Rattle.steps.proofs.cursor.let_head.Reads as let-head-reads
 use Rattle.steps.proofs.cursor.need.Reads as need-reads
 use Rattle.steps.proofs.cursor.refused.Reads as refused-reads
-use Rattle.reader.proofs.parser.first_given.Reads as first-given-reads
-use Rattle.reader.proofs.parser.is_call.Reads as is-call-reads
-use Rattle.reader.proofs.parser.next_given.Reads as next-given-reads
 use Rattle.steps.proofs.scratch.enter.Reads as enter-reads
 use Rattle.steps.proofs.scratch.mark.Reads as mark-reads
 use Rattle.steps.proofs.scratch.put.Reads as put-reads
 use Rattle.steps.proofs.scratch.read_name.Reads as read-name-reads
 use Rattle.steps.proofs.scratch.read_number.Reads as read-number-reads
 use Rattle.steps.proofs.scratch.read_shut.Reads as read-shut-reads
-use Rattle.lexer.proofs.tokens.token.Reads as token-reads
-use Rattle.reader.proofs.parser.+arguments+call+calls+expression+more+read_bracket+read_lambda+read_let.{
+use Rattle.reader.proofs.parser.+arguments+atom+call+calls+expression+more+read_bracket+read_lambda+read_let.{
   statement,
 }
-use Rattle.reader.proofs.parser.+arguments+call+calls+expression+more+read_bracket+read_lambda+read_let.Tie.{
+use Rattle.reader.proofs.parser.+arguments+atom+call+calls+expression+more+read_bracket+read_lambda+read_let.Tie.{
   close,
 }
 
 abbrev μ-arguments : Measures 4 arguments-kinds.ps ℕ
-μ-arguments κs a = measure 2 (a .0 .now) (a .1 .1 .1 .1 .0)
+μ-arguments κs a = measure 3 (a .0 .now) (a .1 .1 .1 .1 .0)
+
+abbrev μ-atom : Measures 4 atom-kinds.ps ℕ
+μ-atom κs a = measure 1 (a .0 .now) (a .1 .1 .1 .1 .1 .0)
 
 abbrev μ-call : Measures 4 call-kinds.ps ℕ
 μ-call κs a = measure 0 (a .0 .now) (a .1 .1 .1 .0)
@@ -67,7 +73,7 @@ abbrev μ-calls : Measures 4 calls-kinds.ps ℕ
 μ-calls κs a = measure 1 (a .0 .now) (a .1 .1 .1 .0)
 
 abbrev μ-expression : Measures 4 expression-kinds.ps ℕ
-μ-expression κs a = measure 1 (a .0 .now) (a .1 .1 .1 .1 .0)
+μ-expression κs a = measure 2 (a .0 .now) (a .1 .1 .1 .1 .0)
 
 abbrev μ-more : Measures 4 more-kinds.ps ℕ
 μ-more κs a = measure 0 (a .0 .now) (a .1 .1 .1 .1 .0)
@@ -87,6 +93,12 @@ arguments-at t = and 4 arguments-kinds.ps (is 4 arguments-kinds.ps μ-arguments 
 abbrev arguments-below : ℕ → In 4 arguments-kinds.ps
 arguments-below t =
     and 4 arguments-kinds.ps (falls 4 arguments-kinds.ps _<_ μ-arguments t) arguments.Pre
+
+abbrev atom-at : ℕ → In 4 atom-kinds.ps
+atom-at t = and 4 atom-kinds.ps (is 4 atom-kinds.ps μ-atom t) atom.Pre
+
+abbrev atom-below : ℕ → In 4 atom-kinds.ps
+atom-below t = and 4 atom-kinds.ps (falls 4 atom-kinds.ps _<_ μ-atom t) atom.Pre
 
 abbrev call-at : ℕ → In 4 call-kinds.ps
 call-at t = and 4 call-kinds.ps (is 4 call-kinds.ps μ-call t) call.Pre
@@ -172,6 +184,34 @@ arguments-returns-2 t c = L.arguments-first _ _ _ _ _ _ _ _ _ _ _ _ (c .before .
 arguments-returns-3 : (t : ℕ) → arguments-lts.Need-returns-3 (arguments-claims t) (arguments-at t) arguments.Post
 arguments-returns-3 t c = L.arguments-first-refused _ _ _ _ _ _ _ _ _ _ _ _ (c .before .before .expression .ensures) _ (c .before .before .before .before .before .before .before .before .before .token .ensures) (c .before .before .before .before .before .before .before .if1 .left) (c .if2 .left)
 
+abbrev atom-claims : ℕ → atom-lts.Claims
+atom-claims t =
+    (read-bracket-below t, read-bracket.Post, read-name-reads.Asked, read-name-reads.Learnt, read-number-reads.Asked, read-number-reads.Learnt, refused-reads.Asked, refused-reads.Learnt)
+
+atom-read-bracket-requires : (t : ℕ) → atom-lts.Need-read-bracket-requires (atom-claims t) (atom-at t) atom.Post
+atom-read-bracket-requires t c κs = (omega (arith, c .before .before .before .before .before .pre .0), L.ready-at _ _ _ _ _ _ _ _ _ (c .before .before .before .before .before .pre .1 .next) _ (c .before .before .before .if1 .taken) (c .before .before .before .before .before .pre .1 .ready))
+
+atom-returns : (t : ℕ) → atom-lts.Need-returns (atom-claims t) (atom-at t) atom.Post
+atom-returns t c = c .read-bracket .ensures
+
+atom-read-name-requires : (t : ℕ) → atom-lts.Need-read-name-requires (atom-claims t) (atom-at t) atom.Post
+atom-read-name-requires t c κs = L.name-ahead _ _ _ _ _ _ _ _ _ (c .before .before .before .before .before .before .pre .1 .next) (c .before .before .before .if2 .taken) (c .before .before .before .before .before .before .pre .1 .ready)
+
+atom-returns-2 : (t : ℕ) → atom-lts.Need-returns-2 (atom-claims t) (atom-at t) atom.Post
+atom-returns-2 t c = L.atom-name _ _ _ _ _ _ _ _ _ (c .before .before .before .before .before .before .before .pre .1 .next) _ _ _ (c .before .before .before .before .if2 .taken) (c .read-name .ensures) (c .before .before .before .before .before .before .before .pre .1 .ready)
+
+atom-read-number-requires : (t : ℕ) → atom-lts.Need-read-number-requires (atom-claims t) (atom-at t) atom.Post
+atom-read-number-requires t c κs = L.number-ahead _ _ _ _ _ _ _ _ _ (c .before .before .before .before .before .before .pre .1 .next) (c .before .before .if3 .taken) (c .before .before .before .before .before .before .pre .1 .ready)
+
+atom-returns-3 : (t : ℕ) → atom-lts.Need-returns-3 (atom-claims t) (atom-at t) atom.Post
+atom-returns-3 t c = L.atom-number _ _ _ _ _ _ _ _ _ (c .before .before .before .before .before .before .before .pre .1 .next) _ _ _ (c .before .before .before .if3 .taken) (c .read-number .ensures) (c .before .before .before .before .before .before .before .pre .1 .ready)
+
+atom-refused-requires : (t : ℕ) → atom-lts.Need-refused-requires (atom-claims t) (atom-at t) atom.Post
+atom-refused-requires t c κs = search needs
+
+atom-returns-4 : (t : ℕ) → atom-lts.Need-returns-4 (atom-claims t) (atom-at t) atom.Post
+atom-returns-4 t c = L.atom-refused _ _ _ _ _ _ _ _ _ (c .before .before .before .before .before .pre .1 .next) _ (c .before .before .before .before .before .pre .1 .no-let) (c .before .before .before .before .before .pre .1 .no-lambda) (c .before .before .before .if1 .left) (c .before .before .if2 .left) (c .before .if3 .left) (c .refused .ensures)
+
 abbrev call-claims : ℕ → call-lts.Claims
 call-claims t =
     (call-head-reads.Asked, call-head-reads.Learnt, arguments-below t, arguments.Post)
@@ -179,11 +219,14 @@ call-claims t =
 call-call-head-requires : (t : ℕ) → call-lts.Need-call-head-requires (call-claims t) (call-at t) call.Post
 call-call-head-requires t c κs = c .before .pre .1 .fit .parts
 
+call-cast-t12 : (t : ℕ) → call-lts.Need-cast-t12 (call-claims t) (call-at t) call.Post
+call-cast-t12 t c = omega (arith, (L.call-fit _ _ _ _ _ _ _ _ (c .before .before .before .before .before .pre .1) (c .before .before .before .call-head .ensures) (c .before .if1 .taken)) .fit .own .kind)
+
 call-arguments-requires : (t : ℕ) → call-lts.Need-arguments-requires (call-claims t) (call-at t) call.Post
-call-arguments-requires t c κs = (omega (arith, c .before .before .before .before .before .before .before .pre .0, L.call-less _ _ _ _ _ _ _ _ (c .before .before .before .before .before .before .before .pre .1) (c .before .before .before .before .before .call-head .ensures) (c .before .before .before .if1 .taken)), L.call-fit _ _ _ _ _ _ _ _ (c .before .before .before .before .before .before .before .pre .1) (c .before .before .before .before .before .call-head .ensures) (c .before .before .before .if1 .taken))
+call-arguments-requires t c κs = (omega (arith, c .before .before .before .before .before .before .before .before .pre .0, L.call-less _ _ _ _ _ _ _ _ (c .before .before .before .before .before .before .before .before .pre .1) (c .before .before .before .before .before .before .call-head .ensures) (c .before .before .before .before .if1 .taken)), L.call-fit _ _ _ _ _ _ _ _ (c .before .before .before .before .before .before .before .before .pre .1) (c .before .before .before .before .before .before .call-head .ensures) (c .before .before .before .before .if1 .taken))
 
 call-returns : (t : ℕ) → call-lts.Need-returns (call-claims t) (call-at t) call.Post
-call-returns t c = L.call-read _ _ _ _ _ _ _ _ (c .before .before .before .before .before .before .before .before .pre .1) (c .before .before .before .before .before .before .call-head .ensures) (c .before .before .before .before .if1 .taken) (c .arguments .ensures)
+call-returns t c = L.call-read _ _ _ _ _ _ _ _ (c .before .before .before .before .before .before .before .before .before .pre .1) (c .before .before .before .before .before .before .before .call-head .ensures) (c .before .before .before .before .before .if1 .taken) (c .arguments .ensures)
 
 call-returns-2 : (t : ℕ) → call-lts.Need-returns-2 (call-claims t) (call-at t) call.Post
 call-returns-2 t c = L.call-head-refused _ _ _ _ _ _ _ _ (c .before .before .before .before .pre .1) (c .before .before .call-head .ensures) (c .if1 .left)
@@ -222,7 +265,7 @@ calls-returns-2 t c = L.chain-over _ _ _ _ _ _ _ _ _ _ _ (c .before .before .loo
 
 abbrev expression-claims : ℕ → expression-lts.Claims
 expression-claims t =
-    (token-reads.Asked, token-reads.Learnt, read-let-below t, read-let.Post, read-lambda-below t, read-lambda.Post, read-bracket-below t, read-bracket.Post, read-name-reads.Asked, read-name-reads.Learnt, calls-below t, calls.Post, read-number-reads.Asked, read-number-reads.Learnt, refused-reads.Asked, refused-reads.Learnt)
+    (token-reads.Asked, token-reads.Learnt, read-let-below t, read-let.Post, read-lambda-below t, read-lambda.Post, atom-below t, atom.Post, calls-below t, calls.Post)
 
 expression-token-requires : (t : ℕ) → expression-lts.Need-token-requires (expression-claims t) (expression-at t) expression.Post
 expression-token-requires t c κs = search needs
@@ -239,41 +282,17 @@ expression-read-lambda-requires t c κs = (omega (arith, c .before .before .befo
 expression-returns-2 : (t : ℕ) → expression-lts.Need-returns-2 (expression-claims t) (expression-at t) expression.Post
 expression-returns-2 t c = c .read-lambda .ensures
 
-expression-read-bracket-requires : (t : ℕ) → expression-lts.Need-read-bracket-requires (expression-claims t) (expression-at t) expression.Post
-expression-read-bracket-requires t c κs = (omega (arith, c .before .before .before .before .before .before .before .before .pre .0), L.ready-at _ _ _ _ _ _ _ _ _ (c .before .before .before .before .before .before .token .ensures) _ (c .before .before .before .if3 .taken) (c .before .before .before .before .before .before .before .before .pre .1))
-
-expression-returns-3 : (t : ℕ) → expression-lts.Need-returns-3 (expression-claims t) (expression-at t) expression.Post
-expression-returns-3 t c = c .read-bracket .ensures
-
-expression-read-name-requires : (t : ℕ) → expression-lts.Need-read-name-requires (expression-claims t) (expression-at t) expression.Post
-expression-read-name-requires t c κs = L.name-ahead _ _ _ _ _ _ _ _ _ (c .before .before .before .before .before .before .before .token .ensures) (c .before .before .before .if4 .taken) (c .before .before .before .before .before .before .before .before .before .pre .1)
+expression-atom-requires : (t : ℕ) → expression-lts.Need-atom-requires (expression-claims t) (expression-at t) expression.Post
+expression-atom-requires t c κs = (omega (arith, c .before .before .before .before .before .before .before .pre .0), record { next = c .before .before .before .before .before .token .ensures; no-let = c .before .before .before .before .if1 .left; no-lambda = c .before .before .before .if2 .left; ready = c .before .before .before .before .before .before .before .pre .1 })
 
 expression-calls-requires : (t : ℕ) → expression-lts.Need-calls-requires (expression-claims t) (expression-at t) expression.Post
-expression-calls-requires t c κs = (omega (arith, c .before .before .before .before .before .before .before .before .before .before .before .before .before .before .before .pre .0, L.name-less _ _ _ _ _ _ _ _ _ _ _ (c .before .before .before .before .before .before .before .before .before .before .before .before .before .token .ensures) (c .before .before .before .before .before .before .before .before .before .if4 .taken) (c .before .before .before .before .before .read-name .ensures) (c .before .before .before .if5 .taken)), L.name-fit _ _ _ _ _ _ _ _ _ (c .before .before .before .before .before .before .before .before .before .before .before .before .before .token .ensures) _ _ _ (c .before .before .before .before .before .before .before .before .before .if4 .taken) (c .before .before .before .before .before .read-name .ensures) (c .before .before .before .if5 .taken) (c .before .before .before .before .before .before .before .before .before .before .before .before .before .before .before .pre .1))
+expression-calls-requires t c κs = (omega (arith, c .before .before .before .before .before .before .before .before .before .before .before .before .before .pre .0, c .before .before .before .before .before .atom .ensures .less (c .before .before .before .if3 .taken)), c .before .before .before .before .before .atom .ensures .fit (c .before .before .before .if3 .taken))
+
+expression-returns-3 : (t : ℕ) → expression-lts.Need-returns-3 (expression-claims t) (expression-at t) expression.Post
+expression-returns-3 t c = c .before .before .before .before .before .before .atom .ensures .goes (c .before .before .before .before .if3 .taken) _ _ _ _ (c .calls .ensures)
 
 expression-returns-4 : (t : ℕ) → expression-lts.Need-returns-4 (expression-claims t) (expression-at t) expression.Post
-expression-returns-4 t c = L.name-read _ _ _ _ _ _ _ _ _ (c .before .before .before .before .before .before .before .before .before .before .before .before .before .before .token .ensures) _ _ _ (c .before .before .before .before .before .before .before .before .before .before .if4 .taken) (c .before .before .before .before .before .before .read-name .ensures) (c .before .before .before .before .if5 .taken) (c .calls .ensures)
-
-expression-returns-5 : (t : ℕ) → expression-lts.Need-returns-5 (expression-claims t) (expression-at t) expression.Post
-expression-returns-5 t c = L.name-refused _ _ _ _ _ _ _ _ _ (c .before .before .before .before .before .before .before .before .before .before .token .ensures) _ _ _ (c .before .before .before .before .before .before .if4 .taken) (c .before .before .read-name .ensures) (c .if5 .left)
-
-expression-read-number-requires : (t : ℕ) → expression-lts.Need-read-number-requires (expression-claims t) (expression-at t) expression.Post
-expression-read-number-requires t c κs = L.number-ahead _ _ _ _ _ _ _ _ _ (c .before .before .before .before .before .before .before .token .ensures) (c .before .before .if6 .taken) (c .before .before .before .before .before .before .before .before .before .pre .1)
-
-expression-calls-requires-2 : (t : ℕ) → expression-lts.Need-calls-requires-2 (expression-claims t) (expression-at t) expression.Post
-expression-calls-requires-2 t c κs = (omega (arith, c .before .before .before .before .before .before .before .before .before .before .before .before .before .before .before .pre .0, L.number-less _ _ _ _ _ _ _ _ _ (c .before .before .before .before .before .before .before .before .before .before .before .before .before .token .ensures) (c .before .before .before .before .before .before .before .before .if6 .taken) (c .before .before .before .before .before .read-number .ensures) (c .before .before .before .if7 .taken)), L.number-fit _ _ _ _ _ _ _ _ _ (c .before .before .before .before .before .before .before .before .before .before .before .before .before .token .ensures) _ _ _ (c .before .before .before .before .before .before .before .before .if6 .taken) (c .before .before .before .before .before .read-number .ensures) (c .before .before .before .if7 .taken) (c .before .before .before .before .before .before .before .before .before .before .before .before .before .before .before .pre .1))
-
-expression-returns-6 : (t : ℕ) → expression-lts.Need-returns-6 (expression-claims t) (expression-at t) expression.Post
-expression-returns-6 t c = L.number-read _ _ _ _ _ _ _ _ _ (c .before .before .before .before .before .before .before .before .before .before .before .before .before .before .token .ensures) _ _ _ (c .before .before .before .before .before .before .before .before .before .if6 .taken) (c .before .before .before .before .before .before .read-number .ensures) (c .before .before .before .before .if7 .taken) (c .calls2 .ensures)
-
-expression-returns-7 : (t : ℕ) → expression-lts.Need-returns-7 (expression-claims t) (expression-at t) expression.Post
-expression-returns-7 t c = L.number-refused _ _ _ _ _ _ _ _ _ (c .before .before .before .before .before .before .before .before .before .before .token .ensures) _ _ _ (c .before .before .before .before .before .if6 .taken) (c .before .before .read-number .ensures) (c .if7 .left)
-
-expression-refused-requires : (t : ℕ) → expression-lts.Need-refused-requires (expression-claims t) (expression-at t) expression.Post
-expression-refused-requires t c κs = search needs
-
-expression-returns-8 : (t : ℕ) → expression-lts.Need-returns-8 (expression-claims t) (expression-at t) expression.Post
-expression-returns-8 t c = L.expression-refused _ _ _ _ _ _ _ _ _ (c .before .before .before .before .before .before .token .ensures) _ (c .before .before .before .before .before .if1 .left) (c .before .before .before .before .if2 .left) (c .before .before .before .if3 .left) (c .before .before .if4 .left) (c .before .if6 .left) (c .refused .ensures)
+expression-returns-4 t c = c .before .before .atom .ensures .stops (c .if3 .left)
 
 abbrev more-claims : ℕ → more-lts.Claims
 more-claims t =
@@ -323,7 +342,7 @@ more-returns-5 t c = L.more-refused _ _ _ _ _ _ _ _ _ _ (c .before .before .befo
 
 abbrev read-bracket-claims : ℕ → read-bracket-lts.Claims
 read-bracket-claims t =
-    (at-bracket-reads.Asked, at-bracket-reads.Learnt, judged-reads.Asked, judged-reads.Learnt, expression-below t, expression.Post, need-reads.Asked, need-reads.Learnt, calls-below t, calls.Post)
+    (at-bracket-reads.Asked, at-bracket-reads.Learnt, judged-reads.Asked, judged-reads.Learnt, expression-below t, expression.Post, need-reads.Asked, need-reads.Learnt)
 
 read-bracket-at-bracket-requires : (t : ℕ) → read-bracket-lts.Need-at-bracket-requires (read-bracket-claims t) (read-bracket-at t) read-bracket.Post
 read-bracket-at-bracket-requires t c κs = search needs
@@ -340,20 +359,14 @@ read-bracket-expression-requires t c κs = (omega (arith, c .before .before .bef
 read-bracket-need-requires : (t : ℕ) → read-bracket-lts.Need-need-requires (read-bracket-claims t) (read-bracket-at t) read-bracket.Post
 read-bracket-need-requires t c κs = search needs
 
-read-bracket-calls-requires : (t : ℕ) → read-bracket-lts.Need-calls-requires (read-bracket-claims t) (read-bracket-at t) read-bracket.Post
-read-bracket-calls-requires t c κs = (omega (arith, c .before .before .before .before .before .before .before .before .before .before .before .before .before .before .before .before .before .pre .0, L.bracket-less _ _ _ _ _ _ _ _ _ _ (c .before .before .before .before .before .before .before .before .before .before .before .before .before .before .before .before .before .pre .1) (c .before .before .before .before .before .before .before .before .before .before .before .before .before .before .before .at-bracket .ensures) (c .before .before .before .before .before .before .before .before .before .before .before .before .before .before .judged .ensures) (c .before .before .before .before .before .before .before .before .before .before .before .before .if1 .taken), L.read-less _ _ _ _ _ _ _ _ _ _ (c .before .before .before .before .before .before .before .before .expression .ensures) (c .before .before .before .before .before .before .if2 .taken), L.need-less _ _ _ _ (omega arith) (c .before .before .before .before .before .need .ensures) (c .before .before .before .if3 .taken)), L.bracket-calls-fit _ _ _ _ _ _ _ _ _ _ (c .before .before .before .before .before .before .before .before .before .before .before .before .before .before .before .before .before .pre .1) (c .before .before .before .before .before .before .before .before .before .before .before .before .before .before .before .at-bracket .ensures) (c .before .before .before .before .before .before .before .before .before .before .before .before .before .before .judged .ensures) (c .before .before .before .before .before .before .before .before .before .before .before .before .if1 .taken) _ _ _ _ (c .before .before .before .before .before .before .before .before .expression .ensures) _ (c .before .before .before .before .before .before .if2 .taken) (c .before .before .before .before .before .need .ensures))
-
 read-bracket-returns : (t : ℕ) → read-bracket-lts.Need-returns (read-bracket-claims t) (read-bracket-at t) read-bracket.Post
-read-bracket-returns t c = L.bracket-read _ _ _ _ _ _ _ _ _ _ (c .before .before .before .before .before .before .before .before .before .before .before .before .before .before .before .before .before .before .pre .1) (c .before .before .before .before .before .before .before .before .before .before .before .before .before .before .before .before .at-bracket .ensures) (c .before .before .before .before .before .before .before .before .before .before .before .before .before .before .before .judged .ensures) (c .before .before .before .before .before .before .before .before .before .before .before .before .before .if1 .taken) _ _ _ _ (c .before .before .before .before .before .before .before .before .before .expression .ensures) _ (c .before .before .before .before .before .before .before .if2 .taken) (c .before .before .before .before .before .before .need .ensures) (c .before .before .before .before .if3 .taken) (c .calls .ensures)
+read-bracket-returns t c = L.bracket-read _ _ _ _ _ _ _ _ _ _ (c .before .before .before .before .before .before .before .before .before .before .before .before .pre .1) (c .before .before .before .before .before .before .before .before .before .before .at-bracket .ensures) (c .before .before .before .before .before .before .before .before .before .judged .ensures) (c .before .before .before .before .before .before .before .if1 .taken) _ _ _ _ (c .before .before .before .expression .ensures) _ (c .before .if2 .taken) (c .need .ensures)
 
 read-bracket-returns-2 : (t : ℕ) → read-bracket-lts.Need-returns-2 (read-bracket-claims t) (read-bracket-at t) read-bracket.Post
-read-bracket-returns-2 t c = L.bracket-shut-refused _ _ _ _ _ _ _ _ _ _ (c .before .before .before .before .before .before .before .before .before .before .before .before .before .before .pre .1) (c .before .before .before .before .before .before .before .before .before .before .before .before .at-bracket .ensures) (c .before .before .before .before .before .before .before .before .before .before .before .judged .ensures) (c .before .before .before .before .before .before .before .before .before .if1 .taken) _ _ _ _ (c .before .before .before .before .before .expression .ensures) _ (c .before .before .before .if2 .taken) (c .before .before .need .ensures) (c .if3 .left)
+read-bracket-returns-2 t c = L.bracketed-refused _ _ _ _ _ _ _ _ _ _ (c .before .before .before .before .before .before .before .before .before .before .before .pre .1) (c .before .before .before .before .before .before .before .before .before .at-bracket .ensures) (c .before .before .before .before .before .before .before .before .judged .ensures) (c .before .before .before .before .before .before .if1 .taken) _ _ _ _ (c .before .before .expression .ensures) (c .if2 .left)
 
 read-bracket-returns-3 : (t : ℕ) → read-bracket-lts.Need-returns-3 (read-bracket-claims t) (read-bracket-at t) read-bracket.Post
-read-bracket-returns-3 t c = L.bracketed-refused _ _ _ _ _ _ _ _ _ _ (c .before .before .before .before .before .before .before .before .before .before .before .pre .1) (c .before .before .before .before .before .before .before .before .before .at-bracket .ensures) (c .before .before .before .before .before .before .before .before .judged .ensures) (c .before .before .before .before .before .before .if1 .taken) _ _ _ _ (c .before .before .expression .ensures) (c .if2 .left)
-
-read-bracket-returns-4 : (t : ℕ) → read-bracket-lts.Need-returns-4 (read-bracket-claims t) (read-bracket-at t) read-bracket.Post
-read-bracket-returns-4 t c = L.bracket-refused _ _ _ _ _ _ _ _ _ _ (c .before .before .before .before .before .pre .1) (c .before .before .before .at-bracket .ensures) (c .before .before .judged .ensures) (c .if1 .left)
+read-bracket-returns-3 t c = L.bracket-refused _ _ _ _ _ _ _ _ _ _ (c .before .before .before .before .before .pre .1) (c .before .before .before .at-bracket .ensures) (c .before .before .judged .ensures) (c .if1 .left)
 
 abbrev read-lambda-claims : ℕ → read-lambda-lts.Claims
 read-lambda-claims t =
@@ -405,29 +418,32 @@ read-let-expression-requires t c κs = (omega (arith, c .before .before .before 
 read-let-need-requires : (t : ℕ) → read-let-lts.Need-need-requires (read-let-claims t) (read-let-at t) read-let.Post
 read-let-need-requires t c κs = search needs
 
+read-let-cast-enter : (t : ℕ) → read-let-lts.Need-cast-enter (read-let-claims t) (read-let-at t) read-let.Post
+read-let-cast-enter t c = search needs
+
 read-let-add-enter : (t : ℕ) → read-let-lts.Need-add-enter (read-let-claims t) (read-let-at t) read-let.Post
-read-let-add-enter t c = omega (arith, L.root-few _ _ _ _ _ _ _ _ _ _ (c .before .before .before .before .before .expression .ensures) (c .before .before .before .if2 .taken) ((L.let-value-fit _ _ _ _ _ _ _ _ _ (c .before .before .before .before .before .before .before .before .before .before .before .before .before .pre .1) (c .before .before .before .before .before .before .before .before .before .before .before .let-head .ensures) (c .before .before .before .before .before .before .before .before .before .if1 .taken)) .fit))
+read-let-add-enter t c = omega (arith, L.root-few _ _ _ _ _ _ _ _ _ _ (c .before .before .before .before .before .before .expression .ensures) (c .before .before .before .before .if2 .taken) ((L.let-value-fit _ _ _ _ _ _ _ _ _ (c .before .before .before .before .before .before .before .before .before .before .before .before .before .before .pre .1) (c .before .before .before .before .before .before .before .before .before .before .before .before .let-head .ensures) (c .before .before .before .before .before .before .before .before .before .before .if1 .taken)) .fit))
 
 read-let-enter-requires : (t : ℕ) → read-let-lts.Need-enter-requires (read-let-claims t) (read-let-at t) read-let.Post
-read-let-enter-requires t c κs = L.let-deep _ _ _ _ _ _ _ _ _ (c .before .before .before .before .before .before .before .before .before .before .before .before .before .before .pre .1) (c .before .before .before .before .before .before .before .before .before .before .before .before .let-head .ensures) (c .before .before .before .before .before .before .before .before .before .before .if1 .taken)
+read-let-enter-requires t c κs = L.let-deep _ _ _ _ _ _ _ _ _ (c .before .before .before .before .before .before .before .before .before .before .before .before .before .before .before .pre .1) (c .before .before .before .before .before .before .before .before .before .before .before .before .before .let-head .ensures) (c .before .before .before .before .before .before .before .before .before .before .before .if1 .taken)
 
 read-let-add-expression-2 : (t : ℕ) → read-let-lts.Need-add-expression-2 (read-let-claims t) (read-let-at t) read-let.Post
-read-let-add-expression-2 t c = omega (arith, c .before .before .before .before .before .before .before .before .before .before .before .before .before .before .before .pre .1 .fit .marks)
+read-let-add-expression-2 t c = omega (arith, c .before .before .before .before .before .before .before .before .before .before .before .before .before .before .before .before .pre .1 .fit .marks)
 
 read-let-add-expression-3 : (t : ℕ) → read-let-lts.Need-add-expression-3 (read-let-claims t) (read-let-at t) read-let.Post
-read-let-add-expression-3 t c = omega (arith, c .before .before .before .before .before .before .before .before .before .before .before .before .before .before .before .pre .1 .fit .depth, c .before .before .before .before .before .before .before .before .before .before .before .before .before .before .before .pre .1 .fit .marks)
+read-let-add-expression-3 t c = omega (arith, c .before .before .before .before .before .before .before .before .before .before .before .before .before .before .before .before .pre .1 .fit .depth, c .before .before .before .before .before .before .before .before .before .before .before .before .before .before .before .before .pre .1 .fit .marks)
 
 read-let-expression-requires-2 : (t : ℕ) → read-let-lts.Need-expression-requires-2 (read-let-claims t) (read-let-at t) read-let.Post
-read-let-expression-requires-2 t c κs = (omega (arith, c .before .before .before .before .before .before .before .before .before .before .before .before .before .before .before .before .before .before .pre .0, L.let-less _ _ _ _ _ _ _ _ _ (c .before .before .before .before .before .before .before .before .before .before .before .before .before .before .before .before .before .before .pre .1) (c .before .before .before .before .before .before .before .before .before .before .before .before .before .before .before .before .let-head .ensures) (c .before .before .before .before .before .before .before .before .before .before .before .before .before .before .if1 .taken), L.read-less _ _ _ _ _ _ _ _ _ _ (c .before .before .before .before .before .before .before .before .before .before .expression .ensures) (c .before .before .before .before .before .before .before .before .if2 .taken), L.need-less _ _ _ _ (omega arith) (c .before .before .before .before .before .before .before .need .ensures) (c .before .before .before .before .before .if3 .taken)), L.let-body-fit _ _ _ _ _ _ _ _ _ (c .before .before .before .before .before .before .before .before .before .before .before .before .before .before .before .before .before .before .pre .1) (c .before .before .before .before .before .before .before .before .before .before .before .before .before .before .before .before .let-head .ensures) (c .before .before .before .before .before .before .before .before .before .before .before .before .before .before .if1 .taken) _ _ _ _ (c .before .before .before .before .before .before .before .before .before .before .expression .ensures) _ (c .before .before .before .before .before .before .before .before .if2 .taken) (c .before .before .before .before .before .before .before .need .ensures) (c .before .before .before .before .before .if3 .taken) _ (c .before .before .before .enter .ensures))
+read-let-expression-requires-2 t c κs = (omega (arith, c .before .before .before .before .before .before .before .before .before .before .before .before .before .before .before .before .before .before .before .pre .0, L.let-less _ _ _ _ _ _ _ _ _ (c .before .before .before .before .before .before .before .before .before .before .before .before .before .before .before .before .before .before .before .pre .1) (c .before .before .before .before .before .before .before .before .before .before .before .before .before .before .before .before .before .let-head .ensures) (c .before .before .before .before .before .before .before .before .before .before .before .before .before .before .before .if1 .taken), L.read-less _ _ _ _ _ _ _ _ _ _ (c .before .before .before .before .before .before .before .before .before .before .before .expression .ensures) (c .before .before .before .before .before .before .before .before .before .if2 .taken), L.need-less _ _ _ _ (omega arith) (c .before .before .before .before .before .before .before .before .need .ensures) (c .before .before .before .before .before .before .if3 .taken)), L.let-body-fit _ _ _ _ _ _ _ _ _ (c .before .before .before .before .before .before .before .before .before .before .before .before .before .before .before .before .before .before .before .pre .1) (c .before .before .before .before .before .before .before .before .before .before .before .before .before .before .before .before .before .let-head .ensures) (c .before .before .before .before .before .before .before .before .before .before .before .before .before .before .before .if1 .taken) _ _ _ _ (c .before .before .before .before .before .before .before .before .before .before .before .expression .ensures) _ (c .before .before .before .before .before .before .before .before .before .if2 .taken) (c .before .before .before .before .before .before .before .before .need .ensures) (c .before .before .before .before .before .before .if3 .taken) _ (c .before .before .before .enter .ensures))
 
 read-let-mark-requires : (t : ℕ) → read-let-lts.Need-mark-requires (read-let-claims t) (read-let-at t) read-let.Post
-read-let-mark-requires t c κs = (L.let-place _ _ _ _ _ _ _ _ _ (c .before .before .before .before .before .before .before .before .before .before .before .before .before .before .before .before .before .before .before .before .before .before .pre .1) (c .before .before .before .before .before .before .before .before .before .before .before .before .before .before .before .before .before .before .before .before .let-head .ensures) (c .before .before .before .before .before .before .before .before .before .before .before .before .before .before .before .before .before .before .if1 .taken), omega (arith, L.let-root _ _ _ _ _ _ _ _ _ (c .before .before .before .before .before .before .before .before .before .before .before .before .before .before .before .before .before .before .before .before .before .before .pre .1) (c .before .before .before .before .before .before .before .before .before .before .before .before .before .before .before .before .before .before .before .before .let-head .ensures) (c .before .before .before .before .before .before .before .before .before .before .before .before .before .before .before .before .before .before .if1 .taken) _ _ _ _ (c .before .before .before .before .before .before .before .before .before .before .before .before .before .before .expression .ensures) _ (c .before .before .before .before .before .before .before .before .before .before .before .before .if2 .taken) (c .before .before .before .before .before .before .before .before .before .before .before .need .ensures) (c .before .before .before .before .before .before .before .before .before .if3 .taken) _ (c .before .before .before .before .before .before .before .enter .ensures) _ _ _ _ (c .before .before .before .expression2 .ensures) (c .before .if4 .taken)))
+read-let-mark-requires t c κs = (L.let-place _ _ _ _ _ _ _ _ _ (c .before .before .before .before .before .before .before .before .before .before .before .before .before .before .before .before .before .before .before .before .before .before .before .pre .1) (c .before .before .before .before .before .before .before .before .before .before .before .before .before .before .before .before .before .before .before .before .before .let-head .ensures) (c .before .before .before .before .before .before .before .before .before .before .before .before .before .before .before .before .before .before .before .if1 .taken), omega (arith, L.let-root _ _ _ _ _ _ _ _ _ (c .before .before .before .before .before .before .before .before .before .before .before .before .before .before .before .before .before .before .before .before .before .before .before .pre .1) (c .before .before .before .before .before .before .before .before .before .before .before .before .before .before .before .before .before .before .before .before .before .let-head .ensures) (c .before .before .before .before .before .before .before .before .before .before .before .before .before .before .before .before .before .before .before .if1 .taken) _ _ _ _ (c .before .before .before .before .before .before .before .before .before .before .before .before .before .before .before .expression .ensures) _ (c .before .before .before .before .before .before .before .before .before .before .before .before .before .if2 .taken) (c .before .before .before .before .before .before .before .before .before .before .before .before .need .ensures) (c .before .before .before .before .before .before .before .before .before .before .if3 .taken) _ (c .before .before .before .before .before .before .before .enter .ensures) _ _ _ _ (c .before .before .before .expression2 .ensures) (c .before .if4 .taken)))
 
 read-let-returns : (t : ℕ) → read-let-lts.Need-returns (read-let-claims t) (read-let-at t) read-let.Post
-read-let-returns t c = L.let-read _ _ _ _ _ _ _ _ _ (c .before .before .before .before .before .before .before .before .before .before .before .before .before .before .before .before .before .before .before .before .before .before .before .pre .1) (c .before .before .before .before .before .before .before .before .before .before .before .before .before .before .before .before .before .before .before .before .before .let-head .ensures) (c .before .before .before .before .before .before .before .before .before .before .before .before .before .before .before .before .before .before .before .if1 .taken) _ _ _ _ (c .before .before .before .before .before .before .before .before .before .before .before .before .before .before .before .expression .ensures) _ (c .before .before .before .before .before .before .before .before .before .before .before .before .before .if2 .taken) (c .before .before .before .before .before .before .before .before .before .before .before .before .need .ensures) (c .before .before .before .before .before .before .before .before .before .before .if3 .taken) _ (c .before .before .before .before .before .before .before .before .enter .ensures) _ _ _ _ (c .before .before .before .before .expression2 .ensures) (c .before .before .if4 .taken) _ (c .mark .ensures)
+read-let-returns t c = L.let-read _ _ _ _ _ _ _ _ _ (c .before .before .before .before .before .before .before .before .before .before .before .before .before .before .before .before .before .before .before .before .before .before .before .before .pre .1) (c .before .before .before .before .before .before .before .before .before .before .before .before .before .before .before .before .before .before .before .before .before .before .let-head .ensures) (c .before .before .before .before .before .before .before .before .before .before .before .before .before .before .before .before .before .before .before .before .if1 .taken) _ _ _ _ (c .before .before .before .before .before .before .before .before .before .before .before .before .before .before .before .before .expression .ensures) _ (c .before .before .before .before .before .before .before .before .before .before .before .before .before .before .if2 .taken) (c .before .before .before .before .before .before .before .before .before .before .before .before .before .need .ensures) (c .before .before .before .before .before .before .before .before .before .before .before .if3 .taken) _ (c .before .before .before .before .before .before .before .before .enter .ensures) _ _ _ _ (c .before .before .before .before .expression2 .ensures) (c .before .before .if4 .taken) _ (c .mark .ensures)
 
 read-let-returns-2 : (t : ℕ) → read-let-lts.Need-returns-2 (read-let-claims t) (read-let-at t) read-let.Post
-read-let-returns-2 t c = L.let-body-refused _ _ _ _ _ _ _ _ _ (c .before .before .before .before .before .before .before .before .before .before .before .before .before .before .before .before .before .before .before .before .before .pre .1) (c .before .before .before .before .before .before .before .before .before .before .before .before .before .before .before .before .before .before .before .let-head .ensures) (c .before .before .before .before .before .before .before .before .before .before .before .before .before .before .before .before .before .if1 .taken) _ _ _ _ (c .before .before .before .before .before .before .before .before .before .before .before .before .before .expression .ensures) _ (c .before .before .before .before .before .before .before .before .before .before .before .if2 .taken) (c .before .before .before .before .before .before .before .before .before .before .need .ensures) (c .before .before .before .before .before .before .before .before .if3 .taken) _ (c .before .before .before .before .before .before .enter .ensures) _ _ _ _ (c .before .before .expression2 .ensures) (c .if4 .left)
+read-let-returns-2 t c = L.let-body-refused _ _ _ _ _ _ _ _ _ (c .before .before .before .before .before .before .before .before .before .before .before .before .before .before .before .before .before .before .before .before .before .before .pre .1) (c .before .before .before .before .before .before .before .before .before .before .before .before .before .before .before .before .before .before .before .before .let-head .ensures) (c .before .before .before .before .before .before .before .before .before .before .before .before .before .before .before .before .before .before .if1 .taken) _ _ _ _ (c .before .before .before .before .before .before .before .before .before .before .before .before .before .before .expression .ensures) _ (c .before .before .before .before .before .before .before .before .before .before .before .before .if2 .taken) (c .before .before .before .before .before .before .before .before .before .before .before .need .ensures) (c .before .before .before .before .before .before .before .before .before .if3 .taken) _ (c .before .before .before .before .before .before .enter .ensures) _ _ _ _ (c .before .before .expression2 .ensures) (c .if4 .left)
 
 read-let-returns-3 : (t : ℕ) → read-let-lts.Need-returns-3 (read-let-claims t) (read-let-at t) read-let.Post
 read-let-returns-3 t c = L.let-in-refused _ _ _ _ _ _ _ _ _ (c .before .before .before .before .before .before .before .before .before .before .before .before .before .pre .1) (c .before .before .before .before .before .before .before .before .before .before .before .let-head .ensures) (c .before .before .before .before .before .before .before .before .before .if1 .taken) _ _ _ _ (c .before .before .before .before .before .expression .ensures) _ (c .before .before .before .if2 .taken) (c .before .before .need .ensures) (c .if3 .left)
@@ -438,11 +454,12 @@ read-let-returns-4 t c = L.let-value-refused _ _ _ _ _ _ _ _ _ (c .before .befor
 read-let-returns-5 : (t : ℕ) → read-let-lts.Need-returns-5 (read-let-claims t) (read-let-at t) read-let.Post
 read-let-returns-5 t c = L.let-head-refused _ _ _ _ _ _ _ _ _ (c .before .before .before .before .pre .1) (c .before .before .let-head .ensures) (c .if1 .left)
 
-pub +arguments+call+calls+expression+more+read-bracket+read-lambda+read-let-spec :
+pub +arguments+atom+call+calls+expression+more+read-bracket+read-lambda+read-let-spec :
     {M : Type 1} → statement M
-+arguments+call+calls+expression+more+read-bracket+read-lambda+read-let-spec =
++arguments+atom+call+calls+expression+more+read-bracket+read-lambda+read-let-spec =
     close
     μ-arguments
+    μ-atom
     μ-call
     μ-calls
     μ-expression
@@ -462,10 +479,22 @@ pub +arguments+call+calls+expression+more+read-bracket+read-lambda+read-let-spec
     (arguments-returns t)
     (arguments-returns-2 t)
     (arguments-returns-3 t))
+    (λ t. atom-lts.spec (atom-claims t)
+    (atom-at t)
+    atom.Post
+    (atom-read-bracket-requires t)
+    (atom-returns t)
+    (atom-read-name-requires t)
+    (atom-returns-2 t)
+    (atom-read-number-requires t)
+    (atom-returns-3 t)
+    (atom-refused-requires t)
+    (atom-returns-4 t))
     (λ t. call-lts.spec (call-claims t)
     (call-at t)
     call.Post
     (call-call-head-requires t)
+    (call-cast-t12 t)
     (call-arguments-requires t)
     (call-returns t)
     (call-returns-2 t))
@@ -489,18 +518,10 @@ pub +arguments+call+calls+expression+more+read-bracket+read-lambda+read-let-spec
     (expression-returns t)
     (expression-read-lambda-requires t)
     (expression-returns-2 t)
-    (expression-read-bracket-requires t)
-    (expression-returns-3 t)
-    (expression-read-name-requires t)
+    (expression-atom-requires t)
     (expression-calls-requires t)
-    (expression-returns-4 t)
-    (expression-returns-5 t)
-    (expression-read-number-requires t)
-    (expression-calls-requires-2 t)
-    (expression-returns-6 t)
-    (expression-returns-7 t)
-    (expression-refused-requires t)
-    (expression-returns-8 t))
+    (expression-returns-3 t)
+    (expression-returns-4 t))
     (λ t. more-lts.spec (more-claims t)
     (more-at t)
     more.Post
@@ -526,11 +547,9 @@ pub +arguments+call+calls+expression+more+read-bracket+read-lambda+read-let-spec
     (read-bracket-add-expression t)
     (read-bracket-expression-requires t)
     (read-bracket-need-requires t)
-    (read-bracket-calls-requires t)
     (read-bracket-returns t)
     (read-bracket-returns-2 t)
-    (read-bracket-returns-3 t)
-    (read-bracket-returns-4 t))
+    (read-bracket-returns-3 t))
     (λ t. read-lambda-lts.spec (read-lambda-claims t)
     (read-lambda-at t)
     read-lambda.Post
@@ -551,6 +570,7 @@ pub +arguments+call+calls+expression+more+read-bracket+read-lambda+read-let-spec
     (read-let-add-expression t)
     (read-let-expression-requires t)
     (read-let-need-requires t)
+    (read-let-cast-enter t)
     (read-let-add-enter t)
     (read-let-enter-requires t)
     (read-let-add-expression-2 t)
