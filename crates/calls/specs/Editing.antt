@@ -1,60 +1,15 @@
--- What an edit plans in its own frame, and what it then answers and leaves. Assumes nothing: these are definitions.
+-- What an edit answers and leaves once its memory and places have passed their tests. Assumes nothing: these are definitions.
 use mathlib.Core.Path.{_≡_}
-use mathlib.Core.List.{List, map}
-use Prim.Native.Nat.{ℕ, _-_, _≤_, _<_}
-use lib.ListN.{length, getD, take}
-use Rattle.language.specs.Limits.{textParts, tableEntries}
-use Rattle.grammar.specs.Grammar.{Expression}
-use Rattle.grammar.specs.Reading.{tree}
+use mathlib.Core.List.{List}
+use Prim.Native.Nat.{ℕ}
 use Rattle.grammar.specs.Machine.{readText}
-use Rattle.records.specs.Records.{recordsOf}
-use Rattle.model.specs.Lists.{All}
-use Rattle.model.specs.Model.{refused, edited, written}
+use Rattle.model.specs.Model.{written}
 use Rattle.formulas.specs.Formulas.{formulas}
-use Rattle.table.specs.Memory.{Memory, entryCount}
-use Rattle.table.specs.Bind.{appendAll}
-use Rattle.table.specs.Right.{numbered}
-use Rattle.table.specs.Held.{freshAt}
-use Rattle.binder.specs.Records.{recordAt}
+use Rattle.table.specs.Memory.{Memory}
 use Rattle.interface.specs.declared.answers.Edited.{Edited}
-use Rattle.calls.specs.declared.edit.Plan.{Plan}
 use Rattle.interface.specs.Answers.{editReply}
 use Rattle.interface.specs.Calls.{readAnswer, readMemory}
 
--- the arrays into which a text was read: two words a record, and the record of each part
-pub record ReadTo (text : List ℕ) (n size root : ℕ) (R P : List ℕ) : Type 0 where
-  pub expression : Expression
-  pub reads : readText text ≡ tree expression
-  pub records : numbered (recordAt R) 0 size ≡ recordsOf expression .records
-  pub places : take n P ≡ recordsOf expression .places
-  pub parts : n ≡ length (recordsOf expression .places)
-  pub whole : root ≡ recordsOf expression .root
-  pub low : root < size
-  pub inside : All (λ (p : ℕ). p < size) (recordsOf expression .places)
-  pub few : n ≤ textParts
-  pub small : size ≤ textParts
-  pub room : length P ≡ textParts
-
--- the text is declined
-pub record Declined (m : Memory) (text : List ℕ) (number place : ℕ) : Type 0 where
-  pub answer : readAnswer m (readText text) ≡ refused number place
-  pub memory : readMemory m (readText text) ≡ m
-
--- the text is accepted: `parts` has the record of each part, `numbers` the entry of each record, `fresh` the entries to append
-pub record Accepted (m : Memory) (text : List ℕ) (p : Plan) (parts numbers fresh : List ℕ) : Type 0 where
-  pub answer : readAnswer m (readText text) ≡ edited (p .whole) (p .parts) (p .total - entryCount m) (map (λ (j : ℕ). getD numbers j 0) (take (p .parts) parts))
-  pub memory : readMemory m (readText text) ≡ appendAll m (numbered (freshAt fresh) 0 (p .total - entryCount m))
-  pub low : entryCount m ≤ p .total
-  pub high : p .total ≤ tableEntries
-  pub few : p .parts ≤ textParts
-  pub room : length parts ≡ textParts
-
--- which of the two it was is told by the number
-pub record Planned (m : Memory) (text : List ℕ) (p : Plan) (parts numbers fresh : List ℕ) : Type 0 where
-  pub declined : ¬ (p .number ≡ 0) → Declined m text (p .number) (p .place)
-  pub accepted : p .number ≡ 0 → Accepted m text p parts numbers fresh
-
--- what is left of the call when the memory and the places have passed their tests
 pub record EditsRead (m : Memory) (places text : List ℕ) (m′ : Memory) (places′ : List ℕ) (r : Edited) : Type 0 where
   pub answer : editReply r places′ ≡ readAnswer m (readText text)
   pub memory : m′ ≡ readMemory m (readText text)

@@ -2,9 +2,9 @@
 use mathlib.Core.Path.{refl, sym, _∙_}
 use native.Mathlib.Omega.{arith}
 use borrow.Author.Needs.{needs}
-use Rattle.calls.proofs.EditLaws.{read-done, planned-refused, planned-full, planned-done}
-use Rattle.calls.proofs.edit.plan_edit.Statement.{statement}
-use Rattle.calls.proofs.edit.plan_edit.Tie as tie
+use Rattle.planner.proofs.PlanLaws.{read-done, planned-refused, planned-full, planned-done}
+use Rattle.planner.proofs.plan.plan_edit.Statement.{statement}
+use Rattle.planner.proofs.plan.plan_edit.Tie as tie
 
 read-requires : tie.Need-read-requires
 read-requires c κs = search needs

@@ -1,0 +1,193 @@
+-- Why the plan of an edit is what its definition says. Assumes nothing.
+use mathlib.Core.Path.{_≡_, refl, sym, ap, _∙_}
+use mathlib.Core.Bool.{true, false}
+use mathlib.Core.List.{List, [], _∷_, map}
+use Prim.Native.Nat.{ℕ, suc, _+_, _-_, _*_, _/_, _%_, _<_, _≤_}
+use native.Mathlib.Omega.{arith}
+use borrow.Author.Tests.{ltb-false, eqb-true, eqb-false}
+use lib.Dec.{eqb, ltb}
+use lib.IntN.{ℤ}
+use lib.ListN.{length, getD, take, drop, length-append, length-drop}
+use lib.Seq.{take-at, getD-take}
+use Rattle.language.specs.Limits.{tableEntries}
+use Rattle.language.specs.Cases.{split}
+use Rattle.grammar.specs.Tokens.{when}
+use Rattle.grammar.specs.Grammar.{Expression}
+use Rattle.grammar.specs.Reading.{tree, refused as refusedAt}
+use Rattle.grammar.specs.Machine.{readText}
+use Rattle.grammar.specs.Theorems.{text-read-plainly}
+use Rattle.model.specs.Lists.{All}
+use Rattle.model.specs.Model.{refused, edited}
+use Rattle.table.specs.Memory.{Memory, Node, entryCount, nodeAt}
+use Rattle.table.specs.Bind.{Bound, bindAll, appendAll}
+use Rattle.table.specs.Right.{numbered}
+use Rattle.table.specs.Held.{freshAt}
+use Rattle.table.specs.Checked.{memory}
+use Rattle.table.specs.CheckedLaws.{nodes-are}
+use Rattle.binder.specs.Records.{recordAt, bound, BoundAll, isFull}
+use Rattle.binder.specs.RecordsLaws.{bound-waits, bound-numbers, bound-total}
+use Rattle.records.specs.Records.{Recorded, recordsOf}
+use Rattle.bridge.specs.Recorded.{unfolds}
+use Rattle.descent.specs.Descent.{State, readInto}
+use Rattle.descent.specs.Decoding as D
+use Rattle.descent.specs.Linked.{Earlier}
+use Rattle.descent.specs.Theorems.{Held, Result, into}
+use Rattle.reader.specs.Reading.{Reading, answerOf, noBinders}
+use Rattle.reader.specs.declared.answer.Read.{Read}
+use Rattle.reader.specs.declared.answer.Read.the-variants.{Done, Refused}
+use Rattle.interface.specs.Calls.{boundTo, tooMany, editedAs, editedMemory, readAnswer, readMemory}
+use Rattle.planner.specs.declared.plan.Plan.{Plan}
+use Rattle.planner.specs.Plans.{ReadTo, Planned}
+
+-- The records that the reader wrote are those that binding reads.
+record-same : (cells : List ℕ) (r : ℕ) → D.recordAt cells r .second < 256 → recordAt cells r ≡ D.recordAt cells r
+unfolding recordAt D.recordAt
+record-same cells r h = let z : getD cells (2 * r) 0 / 8192 % 256 ≡ getD cells (2 * r) 0 / 8192 = omega arith in rw z
+
+records-same : (cells : List ℕ) (r : ℕ) (ns : List Node) → Earlier r ns → r + length ns ≤ 128 → D.recordsFrom cells r (length ns) ≡ ns → numbered (recordAt cells) r (length ns) ≡ ns
+unfolding numbered D.recordsFrom
+records-same cells r [] h l e = refl
+records-same cells r (n ∷ ns) h l e =
+    let q : D.recordAt cells r ≡ n = cc in
+    let u : D.recordsFrom cells (suc r) (length ns) ≡ ns = cc in
+    let s = h .0 .second in
+    let v : D.recordAt cells r .second < 256 = rw q (omega arith) in
+    rw (record-same cells r v, q, records-same cells (suc r) ns (h .1) (omega arith) u)
+
+-- What the reader answers, by the text.
+held-read : (text R P : List ℕ) (x : Expression) (s : State) (n size root : ℕ) (R′ P′ : List ℕ) → readText text ≡ tree x → Held R P x s → length P ≡ 128
+    → s .cursor .parts ≡ n → s .cursor .count ≡ size → s .cursor .root ≡ root → R′ ≡ s .records → P′ ≡ s .places → ReadTo text n size root R′ P′
+held-read text R P x s n size root R′ P′ q h lp qn qs qr qR qP =
+    let u = unfolds x (text-read-plainly text x .0 q .1) in
+    let parts : n ≡ length (recordsOf x .places) = sym qn ∙ h .parts in
+    let count : size ≡ length (recordsOf x .records) = sym qs ∙ h .count in
+    let whole : root ≡ recordsOf x .root = sym qr ∙ h .root in
+    let decoded : D.recordsFrom (s .records) 0 (length (recordsOf x .records)) ≡ recordsOf x .records = rw (h .count) at (h .decoded) in
+    record {
+      expression = x;
+      reads = q;
+      records = rw (qR, count) (records-same (s .records) 0 (recordsOf x .records) (h .linked .earlier) (omega (arith, h .fewParts, h .fewRecords)) decoded);
+      places = rw (qP, h .places) (take-at (recordsOf x .places) (drop (s .cursor .parts) P) n (sym parts));
+      parts = parts;
+      whole = whole;
+      low = omega (arith, u .low);
+      inside = rw count (u .inside);
+      few = omega (arith, h .fewParts);
+      small = omega (arith, h .fewParts, h .fewRecords);
+      room = rw (qP, h .places) (simp (length-append, length-drop) (omega (arith, h .parts, h .fewParts)));
+    }
+
+module _ (text R P : List ℕ) (r : Read) (R′ P′ : List ℕ) (reading : Reading text R P r R′ P′) (lr : length R ≡ 256) (lp : length P ≡ 128) where
+  abbrev after : State
+  after = readInto text R P noBinders
+
+  result : Result text R P after
+  result = into text R P noBinders lr lp refl
+
+  module _ (number place : ℕ) (e : r ≡ Refused number place) where
+    refusal : (after .cursor .number ≡ 0 → ⊥) × (after .cursor .number ≡ number) × (after .cursor .place ≡ place)
+    unfolding answerOf when
+    refusal =
+        split (eqb (after .cursor .number) 0)
+        (λ q. let z = rw q at (reading .answer) in let y : _≡_ {A = ℕ} 0 1 = cc in absurd (omega arith))
+        (λ q. let z = rw q at (reading .answer) in (eqb-false (after .cursor .number) 0 q, cc, cc))
+
+    read-number : (number ≡ 0 → ⊥)
+    read-number z = refusal .0 (refusal .1 ∙ z)
+
+    pub read-refused : readText text ≡ refusedAt number place
+    read-refused = result .declines (refusal .0) ∙ rw (refusal .1, refusal .2)
+
+  module _ (n size root : ℕ) (e : r ≡ Done n size root) where
+    counts : (after .cursor .number ≡ 0) × (after .cursor .parts ≡ n) × (after .cursor .count ≡ size) × (after .cursor .root ≡ root)
+    unfolding answerOf when
+    counts =
+        split (eqb (after .cursor .number) 0)
+        (λ q. let z = rw q at (reading .answer) in (eqb-true (after .cursor .number) 0 q, cc, cc, cc))
+        (λ q. let z = rw q at (reading .answer) in let y : _≡_ {A = ℕ} 0 1 = cc in absurd (omega arith))
+
+    pub read-done : ReadTo text n size root R′ P′
+    read-done =
+        let a = result .accepts (counts .0) in
+        held-read text R P (a .0) after n size root R′ P′ (a .1) (result .reads (a .0) (a .1)) lp (counts .1) (counts .2) (counts .3) (reading .records) (reading .places)
+
+-- The plan.
+abbrev plan : (number place whole parts total : ℕ) → Plan
+plan number place whole parts total = record { number = number; place = place; whole = whole; parts = parts; total = total }
+
+declined-only : (m : Memory) (text : List ℕ) (number place : ℕ) (P N F : List ℕ) → (number ≡ 0 → ⊥) → readAnswer m (readText text) ≡ refused number place → readMemory m (readText text) ≡ m
+    → Planned m text (plan number place 0 0 0) P N F
+declined-only m text number place P N F u a b = record { declined = λ _. record { answer = a; memory = b }; accepted = λ z. absurd (u z) }
+
+pub planned-refused : (m : Memory) (text R P : List ℕ) (r : Read) (R′ P′ : List ℕ) (number place : ℕ) (N F : List ℕ) → Reading text R P r R′ P′ → length R ≡ 256 → length P ≡ 128
+    → r ≡ Refused number place → Planned m text (plan number place 0 0 0) P′ N F
+unfolding readAnswer readMemory
+planned-refused m text R P r R′ P′ number place N F reading lr lp e =
+    let q = read-refused text R P r R′ P′ reading lr lp number place e in
+    declined-only m text number place P′ N F (read-number text R P r R′ P′ reading lr lp number place e) (ap (readAnswer m) q) (ap (readMemory m) q)
+
+taken : (numbers : List ℕ) (size : ℕ) (ps : List ℕ) → All (λ (p : ℕ). p < size) ps → map (λ (j : ℕ). getD (take size numbers) j 0) ps ≡ map (λ (j : ℕ). getD numbers j 0) ps
+taken numbers size [] h = refl
+taken numbers size (p ∷ ps) h = rw (getD-take size numbers p 0 (h .0), taken numbers size ps (h .1))
+
+module _ (readings : List ℤ) (heads links cells : List ℕ) (count : ℕ) (held : getD heads 0 0 ≡ count) (text R P : List ℕ) (n size root : ℕ) (read : ReadTo text n size root R P)
+    (total : ℕ) (N F : List ℕ) (all : BoundAll links cells count R size total N F) where
+  abbrev m : Memory
+  m = memory readings heads links cells
+
+  abbrev Z : Recorded
+  Z = recordsOf (read .expression)
+
+  abbrev b : Bound
+  b = boundTo m Z
+
+  bound-is : b ≡ bindAll (bound (numbered (nodeAt links cells) 0 count) []) (numbered (recordAt R) 0 size)
+  bound-is =
+      ap (λ (ns : List Node). bindAll (bound ns []) (Z .records)) (nodes-are links cells 0 (getD heads 0 0) ∙ ap (numbered (nodeAt links cells) 0) held)
+      ∙ ap (bindAll (bound (numbered (nodeAt links cells) 0 count) [])) (sym (read .records))
+
+  total-is : length (b .nodes) ≡ total
+  total-is = ap (λ (x : Bound). length (x .nodes)) bound-is ∙ sym (bound-total links cells count R size total N F all)
+
+  numbers-are : b .numbers ≡ take size N
+  numbers-are = ap (λ (x : Bound). x .numbers) bound-is ∙ sym (bound-numbers links cells count R size total N F all)
+
+  fresh-are : drop (entryCount m) (b .nodes) ≡ numbered (freshAt F) 0 (total - entryCount m)
+  fresh-are =
+      ap (drop (getD heads 0 0)) (ap (λ (x : Bound). x .nodes) bound-is) ∙ ap (λ (k : ℕ). drop k (bindAll (bound (numbered (nodeAt links cells) 0 count) []) (numbered (recordAt R) 0 size) .nodes)) held
+      ∙ sym (bound-waits links cells count R size total N F all) ∙ ap (λ (k : ℕ). numbered (freshAt F) 0 (total - k)) (sym held)
+
+  answer-is : readAnswer m (readText text) ≡ editedAs m Z b
+  unfolding readAnswer
+  answer-is = ap (readAnswer m) (read .reads)
+
+  memory-is : readMemory m (readText text) ≡ editedMemory m b
+  unfolding readMemory
+  memory-is = ap (readMemory m) (read .reads)
+
+  pub planned-full : isFull total ≡ true → Planned m text (plan 13 0 0 0 0) P N F
+  planned-full t =
+      let q : tooMany b ≡ true = ap (ltb tableEntries) total-is ∙ t in
+      declined-only m text 13 0 P N F (λ z. omega arith) (answer-is ∙ rw q) (memory-is ∙ rw q)
+
+  pub planned-done : isFull total ≡ false → Planned m text (plan 0 0 (getD N root 0) n total) P N F
+  planned-done t =
+      let q : tooMany b ≡ false = ap (ltb tableEntries) total-is ∙ t in
+      let l = read .low in
+      let w = read .whole in
+      let whole : getD (b .numbers) (Z .root) 0 ≡ getD N root 0 =
+      ap (λ (l : List ℕ). getD l (Z .root) 0) numbers-are ∙ getD-take size N (Z .root) 0 (omega arith) ∙ ap (λ (j : ℕ). getD N j 0) (sym (read .whole)) in
+      let numbers : map (λ (j : ℕ). getD (b .numbers) j 0) (Z .places) ≡ map (λ (j : ℕ). getD N j 0) (take n P) =
+      ap (λ (l : List ℕ). map (λ (j : ℕ). getD l j 0) (Z .places)) numbers-are ∙ taken N size (Z .places) (read .inside) ∙ ap (map (λ (j : ℕ). getD N j 0)) (sym (read .places)) in
+      record {
+        declined = λ u. absurd (u refl);
+        accepted = λ _.
+            record {
+              answer = answer-is ∙ rw q (λ i. edited (whole i) (sym (read .parts) i) (total-is i - entryCount m) (numbers i));
+              memory = memory-is ∙ rw q (ap (appendAll m) fresh-are);
+              low = omega (arith, all .low);
+              high = ltb-false tableEntries total t;
+              few = read .few;
+              room = read .room;
+            };
+      }
