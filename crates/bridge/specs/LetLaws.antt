@@ -5,12 +5,14 @@ use Prim.Native.Nat.{ℕ}
 use Rattle.language.specs.Names.{packed}
 use Rattle.grammar.specs.Grammar.{Expression}
 use Rattle.grammar.specs.Faults.{Around, outermost}
-use Rattle.grammar.specs.KeptLimits.{Site, aLet, aLambda, aBracket, aName, aNumber, aCall}
+use Rattle.grammar.specs.KeptLimits.{Site, aLet, aLambda, aBracket, aName, aNumber, aCall, EverywhereE}
 use Rattle.grammar.specs.Reading.{tree}
 use Rattle.grammar.specs.Machine.{readText}
 use Rattle.grammar.specs.Theorems.{text-read-plainly}
 use Rattle.meaning.specs.Substitution.{NonzeroNames, EveryLetE}
 use Rattle.meaning.specs.SubstitutionLaws.{word-nonzero, lets-substituted}
+use Rattle.meaning.specs.PartSubstitution.{PartsSubstituted, AtLetsE}
+use Rattle.meaning.specs.PartSubstitutionLaws.{parts-substituted}
 use Rattle.bridge.specs.Words.{IsWord, word-bytes, text-words}
 use Rattle.bridge.specs.ProperLaws.{Worded, wordedE, bothE}
 
@@ -26,9 +28,15 @@ at-site (aName x) d p q = nonzero x p
 at-site (aNumber z) d p q = tt
 at-site (aCall m n) d p q = tt
 
-pub text-lets : (text : List ℕ) (e : Expression) → readText text ≡ tree e → EveryLetE e []
-text-lets text e h =
-    let r = text-read-plainly text e .0 h in
-    let s = r .0 in
+text-nonzero : (text : List ℕ) (e : Expression) → readText text ≡ tree e → EverywhereE NonzeroNames e outermost
+text-nonzero text e h =
+    let s = text-read-plainly text e .0 h .0 in
     let w = wordedE e outermost [] (rw s (text-words text)) .0 in
-    lets-substituted e (r .1) (bothE Worded Worded NonzeroNames at-site e outermost w w)
+    bothE Worded Worded NonzeroNames at-site e outermost w w
+
+pub text-lets : (text : List ℕ) (e : Expression) → readText text ≡ tree e → EveryLetE e []
+text-lets text e h = lets-substituted e (text-read-plainly text e .0 h .1) (text-nonzero text e h)
+
+-- and so in each part of its body
+pub text-parts : (text : List ℕ) (e : Expression) → readText text ≡ tree e → AtLetsE PartsSubstituted e []
+text-parts text e h = parts-substituted e (text-read-plainly text e .0 h .1) (text-nonzero text e h)
