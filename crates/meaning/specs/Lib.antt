@@ -5,3 +5,5 @@ pub mod Evaluation
 pub mod EvaluationLaws
 pub mod Substitution
 pub mod SubstitutionLaws
+pub mod PartSubstitution
+pub mod PartSubstitutionLaws

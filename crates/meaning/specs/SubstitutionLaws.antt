@@ -28,7 +28,7 @@ word-nonzero b w h e = let q : (b ∷ w) ≡ [] = packed-injective (b ∷ w) [] 
 -- ---- the forms of an environment
 
 -- P holds of each form that a name stands for
-abbrev Forms : (Form → Type 0) → List Meaning → Type 0
+abbrev pub Forms : (Form → Type 0) → List Meaning → Type 0
 Forms P [] = Unit {0}
 Forms P (e ∷ Γ) = P (e .form) × Forms P Γ
 
@@ -37,7 +37,7 @@ unfolding lookUp
 looked-up P x [] u h = u
 looked-up P x (e ∷ Γ) u h = by-cond P (sameName x (e .name)) (e .form) (lookUp x Γ) (λ _. h .0) (λ _. looked-up P x Γ u (h .1))
 
-of-name : (P : Form → Type 0) (x : List ℕ) (Γ : List Meaning) → P readings → P (unbound (packed x)) → Forms P Γ → P (named x Γ)
+pub of-name : (P : Form → Type 0) (x : List ℕ) (Γ : List Meaning) → P readings → P (unbound (packed x)) → Forms P Γ → P (named x Γ)
 unfolding named
 of-name P x Γ r u h = by-cond P (isData x) readings (lookUp x Γ) (λ _. r) (λ _. looked-up P x Γ u h)
 
@@ -57,14 +57,14 @@ module _ (f : Form) where
   fill-lookup x [] n = rw (ne-eqb (packed x) 0 n)
   fill-lookup x (e ∷ Γ) n = fill-pick (sameName x (e .name)) (e .form) (lookUp x Γ) ∙ rw (fill-lookup x Γ n)
 
-  fill-named : (x : List ℕ) (Γ : List Meaning) → ¬ (packed x ≡ 0) → fill f (named x Γ) ≡ named x (fillAll Γ)
+  pub fill-named : (x : List ℕ) (Γ : List Meaning) → ¬ (packed x ≡ 0) → fill f (named x Γ) ≡ named x (fillAll Γ)
   unfolding fill named
   fill-named x Γ n = fill-pick (isData x) readings (lookUp x Γ) ∙ rw (fill-lookup x Γ n)
 
   mutual
     unfolding fill fillAll formE
 
-    fill-E : (e : Expression) (Γ : List Meaning) (d : Around) → EverywhereE NonzeroNames e d → fill f (formE e Γ) ≡ formE e (fillAll Γ)
+    pub fill-E : (e : Expression) (Γ : List Meaning) (d : Around) → EverywhereE NonzeroNames e d → fill f (formE e Γ) ≡ formE e (fillAll Γ)
     fill-E (letIn x a b) Γ d n = fill-E b (means x (formE a Γ) ∷ Γ) (inLet x d) (n .2) ∙ rw (fill-E a Γ (opened d) (n .1))
     fill-E (lambda x b) Γ d n = ap (function (packed x)) (fill-E b (asLambda x Γ) (inLambda x d) (n .1))
     fill-E (name x r) Γ d n = fill-C r (named x Γ) Γ d (n .1) ∙ rw (fill-named x Γ (n .0))
@@ -84,21 +84,21 @@ module _ (f : Form) where
     fill-M (next e x) g Γ d n = fill-M x g Γ d (n .1)
 
 -- a form that holds no hole: filling leaves it
-abbrev Whole : Form → Type 0
+abbrev pub Whole : Form → Type 0
 Whole g = (f : Form) → fill f g ≡ g
 
-whole-variable : (x : ℕ) → Whole (variable x)
+pub whole-variable : (x : ℕ) → Whole (variable x)
 unfolding fill
 whole-variable x f = refl
 
-fill-whole : (f : Form) (Γ : List Meaning) → Forms Whole Γ → fillAll f Γ ≡ Γ
+pub fill-whole : (f : Form) (Γ : List Meaning) → Forms Whole Γ → fillAll f Γ ≡ Γ
 unfolding fillAll
 fill-whole f [] w = refl
 fill-whole f (e ∷ Γ) w = rw (w .0 f, fill-whole f Γ (w .1))
 
 -- without holes in the environment: the form of a tree holds none, and a let is replaced
 module _ (Γ : List Meaning) (w : Forms Whole Γ) where
-  whole-E : (e : Expression) (d : Around) → EverywhereE NonzeroNames e d → Whole (formE e Γ)
+  pub whole-E : (e : Expression) (d : Around) → EverywhereE NonzeroNames e d → Whole (formE e Γ)
   whole-E e d n f = fill-E f e Γ d n ∙ ap (formE e) (fill-whole f Γ w)
 
   let-filled : (x : List ℕ) (a b : Expression) (d : Around) → EverywhereE NonzeroNames b d
@@ -134,7 +134,7 @@ not-without y x (z ∷ ys) h =
     (λ e. rw e more)
     (λ e. rw (e, ne-eqb y z (λ q. eqb-false y z (both (λ p. eqb-false x z e (sym p ∙ q)) .0) q)) more)
 
-not-variable : (y x : ℕ) → ¬ (y ≡ x) → NotFree y (variable x)
+pub not-variable : (y x : ℕ) → ¬ (y ≡ x) → NotFree y (variable x)
 unfolding awaited hasName
 not-variable y x n = rw (ne-eqb y x n)
 
@@ -142,7 +142,7 @@ module _ (y : ℕ) where
   mutual
     unfolding formE awaited hasName
 
-    not-free-E : (e : Expression) (Γ : List Meaning) → Forms (NotFree y) Γ → NotFree y (formE e Γ)
+    pub not-free-E : (e : Expression) (Γ : List Meaning) → Forms (NotFree y) Γ → NotFree y (formE e Γ)
     not-free-E (letIn x a b) Γ h = not-free-E b (means x (formE a Γ) ∷ Γ) (not-free-E a Γ h, h)
     not-free-E (lambda x b) Γ h = not-without y (packed x) _ (λ n. not-free-E b (asLambda x Γ) (not-variable y (packed x) n, h))
     not-free-E (name x r) Γ h = not-free-C r (named x Γ) Γ h (of-name (NotFree y) x Γ refl refl h)
@@ -164,7 +164,7 @@ module _ (y : ℕ) where
 -- ---- nothing is captured
 
 -- what is free in a form of the environment is the name of a lambda around
-abbrev Scoped : List Meaning → Around → Type 0
+abbrev pub Scoped : List Meaning → Around → Type 0
 Scoped Γ d = (y : List ℕ) → NoLambdaNamed y (d .binders) → Forms (NotFree (packed y)) Γ
 
 module _ (f : Form) where
@@ -180,21 +180,21 @@ module _ (f : Form) where
   whole-avoids (function y b) w ys = whole-avoids b (λ k. cc (w k)) (y ∷ ys)
 
   -- nothing is captured below functions whose names are not free in f
-  abbrev Clear : Form → Type 0
+  abbrev pub Clear : Form → Type 0
   Clear g = (ys : List ℕ) → Each (λ y. NotFree y f) ys → Avoids f ys g
 
-  whole-clear : (Γ : List Meaning) → Forms Whole Γ → Forms Clear Γ
+  pub whole-clear : (Γ : List Meaning) → Forms Whole Γ → Forms Clear Γ
   whole-clear [] w = tt
   whole-clear (e ∷ Γ) w = (λ ys h. whole-avoids (e .form) (w .0) ys, whole-clear Γ (w .1))
 
   -- what is free in f is the name of a lambda around
-  abbrev Within : Around → Type 0
+  abbrev pub Within : Around → Type 0
   Within d = (y : List ℕ) → NoLambdaNamed y (d .binders) → NotFree (packed y) f
 
   mutual
     unfolding formE opened inLet inLambda
 
-    clear-E : (e : Expression) (Γ : List Meaning) (d : Around) → Within d → EverywhereE NewLambdas e d → Forms Clear Γ → Clear (formE e Γ)
+    pub clear-E : (e : Expression) (Γ : List Meaning) (d : Around) → Within d → EverywhereE NewLambdas e d → Forms Clear Γ → Clear (formE e Γ)
     clear-E (letIn x a b) Γ d i n h = clear-E b (means x (formE a Γ) ∷ Γ) (inLet x d) i (n .2) (clear-E a Γ (opened d) i (n .1) h, h)
     clear-E (lambda x b) Γ d i n h = λ ys k.
         clear-E b (asLambda x Γ) (inLambda x d) (λ y o. i y (o .1)) (n .1) (λ zs l. tt, h) (packed x ∷ ys) (i x (n .0), k)

@@ -64,6 +64,33 @@ pub fetch-none : (m : Memory) (n : ℕ) → (fits m && (wellFormed m && doneAt (
 unfolding partOf
 fetch-none m n h = rw h
 
+-- an entry that shows no window
+no-window : (v : Value) (name other : ℕ) → ((s l : ℕ) → ¬ (shownOf (view (shownNumbers v) name other) ≡ aWindow s l))
+    → windowIn v ≡ record { start = 0; length = 0 }
+unfolding shownOf
+no-window (Number z) name other h = refl
+no-window (Window s l) name other h = absurd (h s l refl)
+no-window Function name other h = refl
+no-window Delayed name other h = refl
+no-window (Missing r) name other h = refl
+
+pub fetch-windowless : (m : Memory) (n : ℕ) → ((s l : ℕ) → ¬ (shownOf (showOf (readingCount m) (m .links) (m .cells) n) ≡ aWindow s l))
+    → partOf m n ≡ record { start = 0; length = 0 }
+unfolding partOf showOf
+fetch-windowless m n h =
+    split (fits m && (wellFormed m && doneAt (entriesOf m) n)) (λ p. rw p none) (λ p. rw p)
+  where
+    v : Value
+    v = unpackOf (startAt (readingCount m) (m .links) (m .cells) n)
+
+    none : windowIn v ≡ record { start = 0; length = 0 }
+    none =
+        split (eqb (kindAt (m .links) n) 1)
+        (λ p. no-window v (keyAt (m .cells) n) 0 (λ s l e. h s l (rw p e)))
+        (λ p. split (ltb (kindAt (m .links) n) 4)
+        (λ q. no-window v 0 0 (λ s l e. h s l (rw (p, q) e)))
+        (λ q. no-window v (getD (m .cells) (4 * n + 2) 0) (getD (m .cells) (4 * n + 3) 0) (λ s l e. h s l (rw (p, q) e))))
+
 -- an entry whose preview is finished, in the cache that it leaves
 pub fetch-previewed : (m : Memory) (n a k : ℕ) (v : View) → previewed m n a ≡ Finished k v → All IsReading (recordingOf m)
     → fetched (previewMemory m n a) n ≡ readingsOf (m .readings) (shownOf v)

@@ -6,4 +6,5 @@ pub mod Accepting
 pub mod Finishing
 pub mod Showing
 pub mod Fetching
+pub mod Awaiting
 pub mod Promises

@@ -1,17 +1,21 @@
--- What the engine promises, on one page. The calls are those of engine's Calls, which the contracts of the exported functions cite; what each
+-- What the engine promises, on one page. The calls are those of interface's Calls, which the contracts of the exported functions cite; what each
 -- of these theorems says is written out where it is named. Assumes nothing.
---   1. Any call gets a result or a numbered refusal: the definitions of Calls are total, and the exported functions ask for nothing. A refusal
---      changes no lent memory (Declined), and cells beyond the sizes keep their contents (Outside). A cache that a call accepts, whatever was
---      in it, is accepted by the next one (Accepting).
---   2. A text is read exactly if a tree of the grammar spells its tokens and keeps the limits, and is refused exactly where 01 says. What a
---      finished preview of a part shows is what evaluation gives for its let-free form.
+--   1. Any call gets a result or a numbered refusal: the definitions of Calls are total, and the exported functions ask for nothing. When a call
+--      is accepted and with which numbers it is refused is said exactly (interface's Acceptance). A refusal changes no lent memory (Declined),
+--      and cells beyond the sizes keep their contents (Outside). A cache that a call accepts, whatever was in it, is accepted by the next one
+--      (Accepting).
+--   2. A text is read exactly if a tree of the grammar spells its tokens and keeps the limits, and is refused exactly where 01 says; an edit is
+--      declined for its text exactly if that is too long or is not read. What a finished preview of a part shows is what evaluation gives for
+--      its let-free form, and what is delayed shows the names of Figure 5 (Awaiting).
 --   3. Over every list of calls after an opening the engine answers as the reference model does, and ends holding what it holds (model's Demand).
 use mathlib.Core.Path.{_≡_, ap}
 use mathlib.Core.Bool.{true, false, _&&_}
-use mathlib.Core.Logic.{_↔_}
+use mathlib.Core.Logic.{_↔_, _⊎_}
 use mathlib.Core.List.{List, [], map}
-use Prim.Native.Nat.{ℕ, _+_, _<_}
+use Prim.Native.Nat.{ℕ, _+_, _≤_, _<_}
 use lib.IntN.{ℤ}
+use lib.ListN.{length}
+use Rattle.language.specs.Limits.{textParts, tableReadings}
 use Rattle.grammar.specs.Grammar.{Expression, Spells}
 use Rattle.grammar.specs.KeptLimits.{KeepsLimits}
 use Rattle.grammar.specs.Reading.{tree, refused as refusedAt, RefusedBy, placeOf, tokensOf}
@@ -23,9 +27,14 @@ use Rattle.model.specs.Since.{Sendable}
 use Rattle.model.specs.Engine.{Sent, told, lendTo}
 use Rattle.model.specs.Demand.{Demand, demand}
 use Rattle.formulas.specs.Formulas.{IsReading, formulas}
+use Rattle.values.specs.declared.Value.the-variants.{Number, Function}
+use Rattle.meaning.specs.Forms.{Form, function}
+use Rattle.meaning.specs.Evaluation.{valueOf, runOf, Environment, bind, evaluate, putFor, hasName, awaited, aWindow, aDelay, aReason, shows}
+use Rattle.meaning.specs.EvaluationLaws.{evaluate-put}
 use Rattle.meaning.specs.Substitution.{EveryLetE}
+use Rattle.meaning.specs.PartSubstitution.{PartsSubstituted, AtLetsE}
 use Rattle.bridge.specs.FormulaLaws.{formula-laws}
-use Rattle.bridge.specs.LetLaws.{text-lets}
+use Rattle.bridge.specs.LetLaws.{text-lets, text-parts}
 use Rattle.table.specs.Memory.{Memory, fits, entryCount, readingCount, recordingOf, entriesOf}
 use Rattle.table.specs.WellFormed.{doneAt, wellFormed}
 use Rattle.scheduler.specs.declared.works.View.{View}
@@ -35,12 +44,18 @@ use Rattle.interface.specs.declared.answers.Opened.{Opened}
 use Rattle.interface.specs.declared.answers.Edited.{Edited}
 use Rattle.interface.specs.declared.answers.Previewed.{Previewed}
 use Rattle.interface.specs.declared.answers.Previewed.the-variants.{Finished, Refused}
+use Rattle.interface.specs.declared.answers.EditAnswer.{EditAnswer}
+use Rattle.interface.specs.declared.answers.PreviewAnswer.{PreviewAnswer}
 use Rattle.interface.specs.Answers.{openReply, editReply, previewReply, shownOf}
 use Rattle.interface.specs.Calls.{openAnswer, openMemory, editAnswer, editMemory, editPlaces, previewed, previewAnswer, previewMemory, partOf, fetched}
-use Rattle.interface.specs.Effects.{Opens, Edits, Previews}
+use Rattle.interface.specs.Effects.{Opens, Edits, Previews, OpensForC, EditsForC, PreviewsForC}
+use Rattle.interface.specs.Acceptance.{OpenRefusal, EditRefusal, PreviewRefusal, IsEdited, CanEdit, InLanguage, TextDeclined}
+use Rattle.interface.specs.AcceptanceLaws as Acceptance
 use Rattle.demand.specs.WorkedOut.{workedOut}
 use Rattle.promises.specs.Implementing as Implementing
 use Rattle.promises.specs.Implementing.{engine, implements}
+use Rattle.promises.specs.Awaiting as Awaiting
+use Rattle.promises.specs.Awaiting.{AwaitedNames}
 use Rattle.promises.specs.Declined as Declined
 use Rattle.promises.specs.Outside as Outside
 use Rattle.promises.specs.Showing as Showing
@@ -60,7 +75,44 @@ edit-answers m places text m′ places′ x p = p .answer
 pub preview-answers : (m : Memory) (n a : ℕ) (m′ : Memory) (x : Previewed) → Previews m n a m′ x → previewReply x ≡ previewAnswer m n a
 preview-answers m n a m′ x p = ap previewReply (p .answer)
 
--- 1. A declined call changes nothing.
+-- 1. When a call is accepted. An open: the memory fits, and the recording has at most 1,024 readings.
+pub open-accepted : (m : Memory) (r : List ℤ) → (openAnswer m r ≡ opened) ↔ ((fits m ≡ true) × (length r ≤ tableReadings))
+open-accepted = Acceptance.open-accepted
+
+-- An edit: the text has at most 1,024 bytes, the memory fits with 128 places, the cache is well-formed, the reader reads the text, and the
+-- entries held and the new ones are at most 512.
+pub edit-accepted : (m : Memory) (places text : List ℕ) → IsEdited (editAnswer m places text) ↔ CanEdit m places text
+edit-accepted = Acceptance.edit-accepted
+
+-- A preview: the memory fits, the cache is well-formed, and it holds the entry.
+pub preview-accepted : (m : Memory) (n a : ℕ)
+    → ((k : ℕ) → ¬ (previewed m n a ≡ Refused k)) ↔ ((fits m ≡ true) × (wellFormed m ≡ true) × (n < entryCount m))
+preview-accepted = Acceptance.preview-accepted
+
+-- One of the numbered refusals and no other: of an open 2 or 3; of an edit 1, 3, 4 or 13, or 5 to 12 with a place in the text or at its end; of
+-- a preview 3, 4 or 14. The place of all others is 0.
+pub open-refusals : (m : Memory) (r : List ℤ) (n at : ℕ) → openAnswer m r ≡ refused n at → OpenRefusal n at
+open-refusals = Acceptance.open-refusals
+
+pub edit-refusals : (m : Memory) (places text : List ℕ) (n at : ℕ) → editAnswer m places text ≡ refused n at → EditRefusal text n at
+edit-refusals = Acceptance.edit-refusals
+
+pub preview-refusals : (m : Memory) (n a k : ℕ) → previewed m n a ≡ Refused k → PreviewRefusal k
+preview-refusals = Acceptance.preview-refusals
+
+-- The number that a caller in C gets is 0 exactly if the call was accepted.
+pub open-zero : (m : Memory) (r : List ℤ) (m′ : Memory) (c : ℕ) → OpensForC m r m′ c → (c ≡ 0) ↔ (openAnswer m r ≡ opened)
+open-zero = Acceptance.open-zero
+
+pub edit-zero : (m : Memory) (places text : List ℕ) (m′ : Memory) (places′ : List ℕ) (c : EditAnswer) → EditsForC m places text m′ places′ c
+    → (c .refusal ≡ 0) ↔ IsEdited (editAnswer m places text)
+edit-zero = Acceptance.edit-zero
+
+pub preview-zero : (m : Memory) (n a : ℕ) (m′ : Memory) (c : PreviewAnswer) → PreviewsForC m n a m′ c
+    → (c .refusal ≡ 0) ↔ ((k : ℕ) → ¬ (previewed m n a ≡ Refused k))
+preview-zero = Acceptance.preview-zero
+
+-- A declined call changes nothing.
 pub open-declined : (m : Memory) (r : List ℤ) (n at : ℕ) → openAnswer m r ≡ refused n at → openMemory m r ≡ m
 open-declined = Declined.open-declined
 
@@ -113,16 +165,47 @@ read-exactly = text-read-plainly
 pub refused-exactly : (text : List ℕ) (n p : ℕ) → (readText text ≡ refusedAt n p) ↔ ((j : ℕ) × RefusedBy (tokensOf text) n j × (p ≡ placeOf text j))
 refused-exactly = text-refused
 
+-- Where neither 3 nor 4 comes up, an edit is declined with 1 or a number from 5 to 12 exactly if the text is over 1,024 bytes or no tree of the
+-- grammar spells its tokens and keeps the limits.
+pub text-declined : (m : Memory) (places text : List ℕ) → fits m ≡ true → textParts ≤ length places → wellFormed m ≡ true
+    → TextDeclined (editAnswer m places text) ↔ (¬ InLanguage text)
+text-declined = Acceptance.text-declined
+
 -- Every let of a text that is read is replaced by capture-avoiding substitution.
 pub lets-replaced : (text : List ℕ) (e : Expression) → readText text ≡ tree e → EveryLetE e []
 lets-replaced = text-lets
+
+-- And so in each part of its body, with the lambdas around the part: also in one that the let's own form does not have, as a part of the value
+-- of an unused let.
+pub parts-replaced : (text : List ℕ) (e : Expression) → readText text ≡ tree e → AtLetsE PartsSubstituted e []
+parts-replaced = text-parts
+
+-- A run of a function on a reading puts the number for its variable in the let-free body.
+pub run-puts : (xs : List ℤ) (ρ : Environment) (x : ℕ) (b : Form) (z : ℤ) → valueOf (evaluate xs ρ (function x b)) ≡ Function
+    → runOf (evaluate xs ρ (function x b)) z ≡ valueOf (evaluate xs ρ (putFor x z b))
+run-puts = Awaiting.run-puts
+
+pub body-put : (xs : List ℤ) (x : ℕ) (z : ℤ) (ρ : Environment) (b : Form) → evaluate xs (bind x (Number z) ρ) b ≡ evaluate xs ρ (putFor x z b)
+body-put = evaluate-put
+
+-- The names that a form awaits are joined from its dependencies as in Figure 5. A form that has a free lambda variable is delayed, and shows
+-- them, or missing; one that is delayed shows them, and there is one.
+pub awaited-names : AwaitedNames
+awaited-names = Awaiting.awaited-names
+
+pub free-shown : (xs : List ℤ) (f : Form) (y : ℕ) → hasName y (awaited f) ≡ true
+    → (shows xs f ≡ aDelay (awaited f)) ⊎ ((r : ℕ) × (shows xs f ≡ aReason r))
+free-shown = Awaiting.free-shown
+
+pub delay-free : (xs : List ℤ) (f : Form) (names : List ℕ) → shows xs f ≡ aDelay names → (names ≡ awaited f) × ((y : ℕ) × (hasName y names ≡ true))
+delay-free = Awaiting.delay-free
 
 -- A field of an answer that has no value is 0: what a finished preview gives are the numbers and names of what it shows.
 pub preview-plain : (m : Memory) (n a k : ℕ) (v : View) → previewed m n a ≡ Finished k v → All IsReading (recordingOf m) → v ≡ viewOf (shownOf v)
 preview-plain = Showing.preview-plain
 
 -- Fetch hands out the readings of the window that the entry shows, and so those that a finished preview showed; the empty part at the start
--- for an entry that is not worked out or does not exist, and for a cache that is refused.
+-- for an entry that shows no window, one that is not worked out or does not exist, and for a cache that is refused.
 pub fetch-shown : (m : Memory) (n : ℕ) → fits m ≡ true → wellFormed m ≡ true → n < entryCount m
     → fetched m n ≡ readingsOf (m .readings) (shownOf (showOf (readingCount m) (m .links) (m .cells) n))
 fetch-shown = Fetching.fetch-shown
@@ -130,6 +213,10 @@ fetch-shown = Fetching.fetch-shown
 pub fetch-previewed : (m : Memory) (n a k : ℕ) (v : View) → previewed m n a ≡ Finished k v → All IsReading (recordingOf m)
     → fetched (previewMemory m n a) n ≡ readingsOf (m .readings) (shownOf v)
 fetch-previewed = Fetching.fetch-previewed
+
+pub fetch-windowless : (m : Memory) (n : ℕ) → ((s l : ℕ) → ¬ (shownOf (showOf (readingCount m) (m .links) (m .cells) n) ≡ aWindow s l))
+    → partOf m n ≡ record { start = 0; length = 0 }
+fetch-windowless = Fetching.fetch-windowless
 
 pub fetch-none : (m : Memory) (n : ℕ) → (fits m && (wellFormed m && doneAt (entriesOf m) n)) ≡ false → partOf m n ≡ record { start = 0; length = 0 }
 fetch-none = Fetching.fetch-none

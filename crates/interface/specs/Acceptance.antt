@@ -1,0 +1,65 @@
+-- 01, "When a call is declined": the numbers and places of each call's refusals, what an edit is accepted for, and what a text must be so that
+-- no edit is declined for it. That the calls do so is in AcceptanceLaws. Assumes nothing: these are definitions.
+use mathlib.Core.Path.{_≡_}
+use mathlib.Core.Logic.{_⊎_}
+use mathlib.Core.Bool.{true}
+use mathlib.Core.List.{List}
+use Prim.Native.Nat.{ℕ, _≤_}
+use lib.ListN.{length}
+use Rattle.language.specs.Limits.{textBytes, textParts, tableEntries}
+use Rattle.grammar.specs.Grammar.{Expression, Spells}
+use Rattle.grammar.specs.KeptLimits.{KeepsLimits}
+use Rattle.grammar.specs.Reading.{tree, tokensOf}
+use Rattle.grammar.specs.Machine.{readText}
+use Rattle.model.specs.Model.{refused, edited}
+use Rattle.table.specs.Memory.{Memory, fits}
+use Rattle.table.specs.WellFormed.{wellFormed}
+use Rattle.records.specs.Records.{recordsOf}
+use Rattle.interface.specs.Answers.{Reply}
+use Rattle.interface.specs.Calls.{boundTo}
+
+-- the numbers and places of the refusals of an open, an edit and a preview: the text's, 5 to 12, have a place in the text or at its end
+abbrev pub OpenRefusal : (number place : ℕ) → Type 0
+OpenRefusal n at = ((n ≡ 2) ⊎ (n ≡ 3)) × (at ≡ 0)
+
+abbrev pub EditRefusal : (text : List ℕ) (number place : ℕ) → Type 0
+EditRefusal text n at = ((((n ≡ 1) ⊎ (n ≡ 3)) ⊎ ((n ≡ 4) ⊎ (n ≡ 13))) × (at ≡ 0)) ⊎ (((5 ≤ n) × (n ≤ 12)) × (at ≤ length text))
+
+abbrev pub PreviewRefusal : (number : ℕ) → Type 0
+PreviewRefusal n = ((n ≡ 3) ⊎ (n ≡ 4)) ⊎ (n ≡ 14)
+
+-- the answer to an edit that was accepted
+pub record IsEdited (x : Reply) : Type 0 where
+  pub whole : ℕ
+  pub parts : ℕ
+  pub added : ℕ
+  pub numbers : List ℕ
+  pub is : x ≡ edited whole parts added numbers
+
+-- none of 1, 3 and 4 comes up
+pub record Ready (m : Memory) (places text : List ℕ) : Type 0 where
+  pub short : length text ≤ textBytes
+  pub whole : fits m ≡ true
+  pub room : textParts ≤ length places
+  pub well : wellFormed m ≡ true
+
+-- nor 5 to 12, as the text is read, nor 13: the entries held and the new ones
+pub record CanEdit (m : Memory) (places text : List ℕ) : Type 0 where
+  pub ready : Ready m places text
+  pub expression : Expression
+  pub read : readText text ≡ tree expression
+  pub held : length (boundTo m (recordsOf expression) .nodes) ≤ tableEntries
+
+-- a text of the language: short enough, and its tokens are spelled by a tree that keeps the limits
+pub record InLanguage (text : List ℕ) : Type 0 where
+  pub short : length text ≤ textBytes
+  pub expression : Expression
+  pub spelled : Spells expression (tokensOf text)
+  pub kept : KeepsLimits expression
+
+-- declined for its text: too long, or refused by the reader
+pub record TextDeclined (x : Reply) : Type 0 where
+  pub number : ℕ
+  pub place : ℕ
+  pub is : x ≡ refused number place
+  pub of-text : (number ≡ 1) ⊎ ((5 ≤ number) × (number ≤ 12))

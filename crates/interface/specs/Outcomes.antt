@@ -1,0 +1,100 @@
+-- Each call's answer, case by case, with what is known in each: the tests of Calls in their order. Assumes nothing.
+use mathlib.Core.Path.{_≡_, refl}
+use mathlib.Core.Bool.{true, false, _&&_}
+use mathlib.Core.List.{List}
+use Prim.Native.Nat.{ℕ, _≤_, _<_}
+use borrow.Author.Tests.{leb-true, ltb-true, ltb-false}
+use lib.Dec.{leb, ltb}
+use lib.IntN.{ℤ}
+use lib.ListN.{length}
+use Rattle.language.specs.Limits.{textBytes, textParts, tableEntries, tableReadings}
+use Rattle.grammar.specs.Grammar.{Expression}
+use Rattle.grammar.specs.Reading.{Reading, tree, refused as refusedAt}
+use Rattle.grammar.specs.Machine.{readText}
+use Rattle.model.specs.Cases.{split, both}
+use Rattle.model.specs.Model.{refused, opened, edited}
+use Rattle.table.specs.Memory.{Memory, fits, entryCount, readingCount}
+use Rattle.table.specs.WellFormed.{wellFormed}
+use Rattle.records.specs.Records.{recordsOf}
+use Rattle.scheduler.specs.declared.works.View.{View}
+use Rattle.scheduler.specs.Works.{showOf}
+use Rattle.interface.specs.declared.answers.Previewed.the-variants.{NotYet, Finished, Refused}
+use Rattle.interface.specs.Answers.{Reply}
+use Rattle.interface.specs.Acceptance.{IsEdited, Ready}
+use Rattle.interface.specs.Calls.{boundTo, readAnswer, openAnswer, editAnswer, workOn, previewed}
+
+-- ---- open
+
+pub data OpenOutcome (m : Memory) (r : List ℤ) : Type 0 where
+  long : tableReadings < length r → openAnswer m r ≡ refused 2 0 → OpenOutcome m r
+  little : fits m ≡ false → openAnswer m r ≡ refused 3 0 → OpenOutcome m r
+  taken : fits m ≡ true → length r ≤ tableReadings → openAnswer m r ≡ opened → OpenOutcome m r
+
+pub open-outcome : (m : Memory) (r : List ℤ) → OpenOutcome m r
+unfolding openAnswer
+open-outcome m r =
+    split (ltb tableReadings (length r)) (λ p. long (ltb-true tableReadings (length r) p) (rw p))
+    (λ p. split (fits m) (λ q. taken q (ltb-false tableReadings (length r) p) (rw (p, q))) (λ q. little q (rw (p, q))))
+
+-- ---- edit
+
+pub is-edited : {x : Reply} {w p k : ℕ} {ns : List ℕ} → x ≡ edited w p k ns → IsEdited x
+is-edited {x} {w} {p} {k} {ns} e = record { whole = w; parts = p; added = k; numbers = ns; is = e }
+
+pub data EditOutcome (m : Memory) (places text : List ℕ) : Type 0 where
+  long : textBytes < length text → editAnswer m places text ≡ refused 1 0 → EditOutcome m places text
+  little : (fits m && leb textParts (length places)) ≡ false → editAnswer m places text ≡ refused 3 0 → EditOutcome m places text
+  ill : wellFormed m ≡ false → editAnswer m places text ≡ refused 4 0 → EditOutcome m places text
+  unread : (n at : ℕ) → Ready m places text → readText text ≡ refusedAt n at → editAnswer m places text ≡ refused n at → EditOutcome m places text
+  full : (e : Expression) → Ready m places text → readText text ≡ tree e → tableEntries < length (boundTo m (recordsOf e) .nodes)
+      → editAnswer m places text ≡ refused 13 0 → EditOutcome m places text
+  taken : (e : Expression) → Ready m places text → readText text ≡ tree e → length (boundTo m (recordsOf e) .nodes) ≤ tableEntries
+      → IsEdited (editAnswer m places text) → EditOutcome m places text
+
+-- once the text is read
+read-outcome : (m : Memory) (places text : List ℕ) → Ready m places text → (x : Reading) → readText text ≡ x
+    → editAnswer m places text ≡ readAnswer m x → EditOutcome m places text
+unfolding readAnswer
+read-outcome m places text ready (refusedAt n at) h e = unread n at ready h e
+read-outcome m places text ready (tree t) h e =
+    let all : ℕ = length (boundTo m (recordsOf t) .nodes) in
+    split (ltb tableEntries all)
+    (λ p. full t ready h (ltb-true tableEntries all p) (rw p at e))
+    (λ p. taken t ready h (ltb-false tableEntries all p) (is-edited (rw p at e)))
+
+pub edit-outcome : (m : Memory) (places text : List ℕ) → EditOutcome m places text
+unfolding editAnswer
+edit-outcome m places text =
+    split (ltb textBytes (length text)) (λ p. long (ltb-true textBytes (length text) p) (rw p))
+    (λ p. split (fits m && leb textParts (length places))
+    (λ q. split (wellFormed m)
+    (λ w.
+    let b = both (fits m) _ q in
+    let ready : Ready m places text =
+    record { short = ltb-false textBytes (length text) p; whole = b .0; room = leb-true textParts (length places) (b .1); well = w } in
+    read-outcome m places text ready (readText text) refl (rw (p, q, w)))
+    (λ w. ill w (rw (p, q, w))))
+    (λ q. little q (rw (p, q))))
+
+-- ---- preview
+
+pub data PreviewOutcome (m : Memory) (n a : ℕ) : Type 0 where
+  little : fits m ≡ false → previewed m n a ≡ Refused 3 → PreviewOutcome m n a
+  ill : wellFormed m ≡ false → previewed m n a ≡ Refused 4 → PreviewOutcome m n a
+  none : entryCount m ≤ n → previewed m n a ≡ Refused 14 → PreviewOutcome m n a
+  unfinished : fits m ≡ true → wellFormed m ≡ true → n < entryCount m → (k : ℕ) → previewed m n a ≡ NotYet k → PreviewOutcome m n a
+  finished : fits m ≡ true → wellFormed m ≡ true → n < entryCount m → (k : ℕ) (v : View) → previewed m n a ≡ Finished k v → PreviewOutcome m n a
+
+pub preview-outcome : (m : Memory) (n a : ℕ) → PreviewOutcome m n a
+unfolding previewed
+preview-outcome m n a =
+    split (fits m)
+    (λ f. split (wellFormed m)
+    (λ w. split (ltb n (entryCount m))
+    (λ l. split (workOn m n a .left)
+    (λ t. unfinished f w (ltb-true n (entryCount m) l) (workOn m n a .count) (rw (f, w, l, t)))
+    (λ t.
+    finished f w (ltb-true n (entryCount m) l) (workOn m n a .count) (showOf (readingCount m) (m .links) (workOn m n a .cells) n) (rw (f, w, l, t))))
+    (λ l. none (ltb-false n (entryCount m) l) (rw (f, w, l))))
+    (λ w. ill w (rw (f, w))))
+    (λ f. little f (rw f))
