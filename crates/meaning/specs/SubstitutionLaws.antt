@@ -44,7 +44,7 @@ of-name P x Γ r u h = by-cond P (isData x) readings (lookUp x Γ) (λ _. r) (λ
 -- ---- filling the form of a tree is filling the forms of its environment
 
 module _ (f : Form) where
-  unfoldable fillAll : List Meaning → List Meaning
+  unfoldable pub fillAll : List Meaning → List Meaning
   fillAll [] = []
   fillAll (e ∷ Γ) = means (e .name) (fill f (e .form)) ∷ fillAll Γ
 
