@@ -3,18 +3,17 @@
 use mathlib.Core.Path.{_≡_, refl, sym, ap, _∙_, subst}
 use mathlib.Core.Bool.{Bool, true, false, and-eq-true-iff}
 use mathlib.Core.List.{List, [], _∷_}
-use Prim.Native.Nat.{ℕ, zero, suc, _+_, _-_, _<_}
-use native.Mathlib.Omega.{arith}
-use borrow.Author.Tests.{eqb-true, eq-eqb, ne-eqb, le-ltb}
+use Prim.Native.Nat.{ℕ, zero, suc, _-_}
+use borrow.Author.Tests.{eqb-true, eq-eqb}
 use lib.Dec.{eqb}
 use lib.IntN.{pos, natAbs, -ℤ-+ℤ-cancel}
-use Rattle.language.specs.Members.{row, memberAt, memberNumber}
+use Rattle.language.specs.Members.{row}
 use Rattle.language.specs.declared.members.Member.{Member}
 use Rattle.language.specs.declared.members.Found.{Found}
 use Rattle.language.specs.declared.members.Found.the-variants.{Is, Unknown}
 use Rattle.language.specs.Cases.{impossible, split, either, or-right}
 use Rattle.meaning.specs.Forms.{Form, number, variable, unbound, readings, ask, call, function, same, dependency, firstOf, secondOf}
-use Rattle.meaning.specs.FormsLaws.{same-eq, same-self, found}
+use Rattle.meaning.specs.FormsLaws.{same-eq, same-self}
 use Rattle.model.specs.Lists.{member}
 use Rattle.model.specs.ListLaws.{Equality}
 use Rattle.model.specs.Graph.{among, Graph, GraphLaws}
@@ -22,37 +21,11 @@ use Rattle.table.specs.Memory.{Node}
 use Rattle.records.specs.Records.{node, numberKey}
 use Rattle.table.specs.Nodes.{numberKind, variableKind, unboundKind, readingsKind, functionKind, memberKind, pickForm}
 use Rattle.table.specs.Nodes.{memberOfKind, memberArity, memberForm, arity, listed, kids, sameNode, numberOfKey, build}
+use Rattle.table.specs.NodeKinds.{Fine, aNumber, aVariable, anUnbound, theReadings, aFunction, anAsk, aCall, less-one, member-arity, build-ask, build-call}
 use Rattle.formulas.specs.Formulas.{formulas}
-
--- nodes as they stand in tables: what each kind has, and nothing else
-pub data Fine : Node → Type 0 where
-  aNumber : (key : ℕ) → Fine (node numberKind key 0 0)
-  aVariable : (x : ℕ) → Fine (node variableKind x 0 0)
-  anUnbound : (x : ℕ) → Fine (node unboundKind x 0 0)
-  theReadings : Fine (node readingsKind 0 0 0)
-  aFunction : (x b : ℕ) → Fine (node functionKind x (suc b) 0)
-  anAsk : (m : Member) (f : ℕ) → row m .arguments ≡ 0 → Fine (node (memberKind m) 0 (suc f) 0)
-  aCall : (m : Member) (f a : ℕ) → row m .arguments ≡ 1 → Fine (node (memberKind m) 0 (suc f) (suc a))
 
 abbrev pub nodes : Graph formulas
 nodes = record { Node = Node; Fine = Fine; same = sameNode; links = kids; build = build; nowhere = readings }
-
--- the members' kinds are told apart from the others, and stand for their members
-member-found : (m : Member) → memberOfKind (memberKind m) ≡ Is m
-unfolding memberOfKind memberAt
-member-found m =
-    let q : 5 + memberNumber m - 5 ≡ memberNumber m = omega arith in
-    rw (le-ltb (5 + memberNumber m) 5 (omega arith), q) (found m)
-
-pub not-member : (m : Member) (k : ℕ) → k < 5 → eqb (memberKind m) k ≡ false
-not-member m k h = ne-eqb (memberKind m) k (λ e. omega arith)
-
-pub member-arity : (m : Member) → arity (memberKind m) ≡ suc (row m .arguments)
-unfolding arity
-member-arity m = rw (not-member m 4 (omega arith), member-found m)
-
-pub less-one : (n : ℕ) → suc n - 1 ≡ n
-less-one n = omega arith
 
 -- the test of nodes is equality
 node-equal : (a b : Node) → sameNode a b ≡ true → a ≡ b
@@ -111,7 +84,7 @@ record Known (n : Node) (φ : ℕ → Form) (f : Form) : Type 0 where
   first : HasFirst f → (among left (kids n) ≡ true) × (φ left ≡ firstOf f)
   second : HasSecond f → (among right (kids n) ≡ true) × (φ right ≡ secondOf f)
 
--- the dependencies of each kind, and its form
+-- the dependencies of each kind
 pub kids-function : (x b : ℕ) → kids (node functionKind x (suc b) 0) ≡ b ∷ []
 unfolding kids arity
 kids-function x b = rw (less-one b)
@@ -123,16 +96,6 @@ kids-ask m f e = rw (member-arity m, e, less-one f)
 pub kids-call : (m : Member) (f a : ℕ) → row m .arguments ≡ 1 → kids (node (memberKind m) 0 (suc f) (suc a)) ≡ f ∷ a ∷ []
 unfolding kids
 kids-call m f a e = rw (member-arity m, e, less-one f, less-one a)
-
-build-member : (m : Member) (f a : ℕ) (φ : ℕ → Form) → build (node (memberKind m) 0 f a) φ ≡ memberForm (Is m) (φ (f - 1)) (φ (a - 1))
-unfolding build
-build-member m f a φ = rw (not-member m 0 (omega arith), not-member m 1 (omega arith), not-member m 2 (omega arith), not-member m 3 (omega arith), not-member m 4 (omega arith), member-found m)
-
-pub build-ask : (m : Member) (f : ℕ) (φ : ℕ → Form) → row m .arguments ≡ 0 → build (node (memberKind m) 0 (suc f) 0) φ ≡ ask m (φ f)
-build-ask m f φ e = build-member m (suc f) 0 φ ∙ rw (e, less-one f)
-
-pub build-call : (m : Member) (f a : ℕ) (φ : ℕ → Form) → row m .arguments ≡ 1 → build (node (memberKind m) 0 (suc f) (suc a)) φ ≡ call m (φ f) (φ a)
-build-call m f a φ e = build-member m (suc f) (suc a) φ ∙ rw (e, less-one f, less-one a)
 
 pub among-first : (i : ℕ) (l : List ℕ) → among i (i ∷ l) ≡ true
 unfolding member

@@ -31,10 +31,10 @@ use Rattle.model.specs.ListLaws.{Equality, all-append, insert-old, insertAll-ha
 use Rattle.model.specs.Graph.{among, formAt, Placed, AllPlaced, decode, decode-snoc}
 use Rattle.table.specs.Memory.{Node}
 use Rattle.table.specs.Nodes.{numberKind, variableKind, unboundKind, readingsKind, functionKind, memberKind, build, kids, arity, memberOfKind}
+use Rattle.table.specs.NodeKinds.{Fine, aNumber, aVariable, anUnbound, theReadings, aFunction, anAsk, aCall, build-ask, build-call, less-one}
 use Rattle.records.specs.Records.{Named, stands, Recorded, node, newRecord, numberKey, linked, recordScoped, recordName, behind, recordE, recordC, recordA, recordM, recordsOf}
 use Rattle.formulas.specs.Formulas.{formulas}
-use Rattle.bridge.specs.Graphs.{Fine, aNumber, aVariable, anUnbound, theReadings, aFunction, anAsk, aCall, nodes, build-ask}
-use Rattle.bridge.specs.Graphs.{build-call, kids-function, kids-ask, kids-call, among-one, among-two, less-one}
+use Rattle.bridge.specs.Graphs.{nodes, kids-function, kids-ask, kids-call, among-one, among-two}
 
 -- the forms of records, and the form of one
 abbrev pub formsOf : List Node → List Form

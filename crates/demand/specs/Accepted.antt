@@ -18,7 +18,7 @@ use Rattle.language.specs.declared.members.Member.{Member}
 use Rattle.values.specs.Packing.{isPacked}
 use Rattle.meaning.specs.Forms.{Form, readings, same, works}
 use Rattle.meaning.specs.FormsLaws.{same-eq, same-self}
-use Rattle.meaning.specs.Evaluation.{joined as join, awaited, Shown, shows}
+use Rattle.meaning.specs.Evaluation.{awaited, Shown, shows}
 use Rattle.grammar.specs.KeptLimits.{InRange}
 use Rattle.model.specs.Lists.{All, member as isIn}
 use Rattle.model.specs.Cases.{impossible, split}
@@ -30,11 +30,13 @@ use Rattle.model.specs.Invariant.{Invariant}
 use Rattle.model.specs.Graph.{among, formAt, Placed, AllPlaced, Stands, decodes, decode}
 use Rattle.model.specs.Checks as Checks
 use Rattle.table.specs.Memory.{Memory, Node, Entry, entryCount, readingCount, recordingOf, entriesOf, nodesOf}
-use Rattle.table.specs.Nodes.{memberKind, worksKind, arity, memberOfKind, kids, sameNode, build, numberOfKey}
+use Rattle.table.specs.Nodes.{memberKind, worksKind, arity, memberOfKind, listed, kids, sameNode, build, numberOfKey}
 use Rattle.table.specs.WellFormed.{every, kindKnown, keyRight, given, arityRight, lower, hasNode, distinct, awaitedBy, awaitedAfter, isDone, doneAt, allDone, settled, namesRight, keptRight, wellFormed}
+use Rattle.table.specs.AwaitedForms.{awaited-build}
+use Rattle.table.specs.NodeKinds.{Fine, aNumber, aVariable, anUnbound, theReadings, aFunction, anAsk, aCall, not-member, member-arity, build-ask, build-call}
 use Rattle.records.specs.Records.{node}
 use Rattle.formulas.specs.Formulas.{formulas, IsReading}
-use Rattle.bridge.specs.Graphs.{Fine, aNumber, aVariable, anUnbound, theReadings, aFunction, anAsk, aCall, nodes, graph-laws, equality, not-member, member-arity, build-ask, build-call, kids-function, kids-ask, kids-call, less-one, among-first, among-second}
+use Rattle.bridge.specs.Graphs.{nodes, graph-laws, equality, kids-function, kids-ask, kids-call, among-first, among-second}
 use Rattle.bridge.specs.Recorded.{formsOf}
 use Rattle.bridge.specs.Proper.{Shape, Proper}
 use Rattle.bridge.specs.FormulaLaws.{formula-laws}
@@ -137,33 +139,32 @@ getD-awaited [] j h = absurd (omega arith)
 getD-awaited (f ∷ fs) zero h = refl
 getD-awaited (f ∷ fs) (suc j) h = getD-awaited fs j (omega arith)
 
-awaited-ask : (fs : List Form) (m : Member) (f : ℕ) → row m .arguments ≡ 0 → f < length fs → awaitedBy (map awaited fs) (node (memberKind m) 0 (suc f) 0) ≡ awaited (build (node (memberKind m) 0 (suc f) 0) (formAt formulas nodes fs))
-unfolding awaitedBy awaited
-awaited-ask fs m f e l = rw (build-ask m f (formAt formulas nodes fs) e, not-member m 1 (omega arith), not-member m 4 (omega arith), member-arity m, e, less-one f) (getD-awaited fs f l)
+-- the links of a node are among its dependencies
+first-among : (n : Node) → (arity (n .kind) ≡ 0 → ⊥) → among (n .first - 1) (kids n) ≡ true
+unfolding kids
+first-among n u = by (arity (n .kind)) u
+  where
+    by : (k : ℕ) → (k ≡ 0 → ⊥) → among (n .first - 1) (listed k n) ≡ true
+    by zero u = absurd (u refl)
+    by (suc zero) u = among-first (n .first - 1) []
+    by (suc (suc k)) u = among-first (n .first - 1) ((n .second - 1) ∷ [])
 
-awaited-call : (fs : List Form) (m : Member) (f a : ℕ) → row m .arguments ≡ 1 → f < length fs → a < length fs
-    → awaitedBy (map awaited fs) (node (memberKind m) 0 (suc f) (suc a)) ≡ awaited (build (node (memberKind m) 0 (suc f) (suc a)) (formAt formulas nodes fs))
-unfolding awaitedBy awaited
-awaited-call fs m f a e l k =
-    rw (build-call m f a (formAt formulas nodes fs) e, not-member m 1 (omega arith), not-member m 4 (omega arith), member-arity m, e, less-one f, less-one a)
-    (λ t. join (getD-awaited fs f l t) (getD-awaited fs a k t))
+second-among : (n : Node) → arity (n .kind) ≡ 2 → among (n .second - 1) (kids n) ≡ true
+unfolding kids
+second-among n e = rw e (among-second (n .first - 1) (n .second - 1))
 
-pub awaited-by : (fs : List Form) (n : Node) → Fine n → ((j : ℕ) → among j (kids n) ≡ true → j < length fs) → awaitedBy (map awaited fs) n ≡ awaited (build n (formAt formulas nodes fs))
-unfolding awaitedBy awaited build arity memberOfKind
-awaited-by fs _ (aNumber k) h = refl
-awaited-by fs _ (aVariable x) h = refl
-awaited-by fs _ (anUnbound x) h = refl
-awaited-by fs _ theReadings h = refl
-awaited-by fs _ (aFunction x b) h = let l = h b (among-by b _ _ (kids-function x b) (among-first b [])) in rw (less-one b, getD-awaited fs b l)
-awaited-by fs _ (anAsk m f e) h = awaited-ask fs m f e (h f (among-by f _ _ (kids-ask m f e) (among-first f [])))
-awaited-by fs _ (aCall m f a e) h = awaited-call fs m f a e (h f (among-by f _ _ (kids-call m f a e) (among-first f (a ∷ [])))) (h a (among-by a _ _ (kids-call m f a e) (among-second f a)))
+pub awaited-by : (fs : List Form) (n : Node) → ((j : ℕ) → among j (kids n) ≡ true → j < length fs) → awaitedBy (map awaited fs) n ≡ awaited (build n (formAt formulas nodes fs))
+awaited-by fs n h =
+    awaited-build n (map awaited fs) (formAt formulas nodes fs)
+    (λ u. getD-awaited fs (n .first - 1) (h (n .first - 1) (first-among n u)))
+    (λ e. getD-awaited fs (n .second - 1) (h (n .second - 1) (second-among n e)))
 
 pub awaited-after : (fs : List Form) (ns : List Node) → AllPlaced formulas nodes (length fs) ns → awaitedAfter (map awaited fs) ns ≡ map awaited (decode formulas nodes fs ns)
 unfolding awaitedAfter decode
 awaited-after fs [] p = refl
 awaited-after fs (n ∷ ns) p =
     let f = build n (formAt formulas nodes fs) in
-    let e = awaited-by fs n (p .0 .fine) (p .0 .lower) in
+    let e = awaited-by fs n (p .0 .lower) in
     let q : map awaited fs ++ (awaitedBy (map awaited fs) n ∷ []) ≡ map awaited (fs ++ (f ∷ [])) = ap (λ (x : List ℕ). map awaited fs ++ (x ∷ [])) e ∙ sym (map-append awaited fs (f ∷ [])) in
     let l = length-append fs (f ∷ []) in
     let z : length (fs ++ (f ∷ [])) ≡ suc (length fs) = omega arith in

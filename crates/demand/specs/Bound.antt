@@ -15,8 +15,9 @@ use Rattle.model.specs.Binder as Binder
 use Rattle.table.specs.Memory.{Node}
 use Rattle.table.specs.Nodes.{sameNode, build, kids, arity, memberOfKind}
 use Rattle.table.specs.Bind.{find, relinked, relink, Bound, bindOne, bindAll}
+use Rattle.table.specs.NodeKinds.{Fine, aNumber, aVariable, anUnbound, theReadings, aFunction, anAsk, aCall, build-ask, build-call}
 use Rattle.formulas.specs.Formulas.{formulas}
-use Rattle.bridge.specs.Graphs.{Fine, aNumber, aVariable, anUnbound, theReadings, aFunction, anAsk, aCall, nodes, build-ask, build-call, kids-function, kids-ask, kids-call, among-one, among-two, among-first, among-second}
+use Rattle.bridge.specs.Graphs.{nodes, kids-function, kids-ask, kids-call, among-one, among-two, among-first, among-second}
 use Rattle.bridge.specs.Recorded.{build-function}
 
 -- links changed by a function of numbers

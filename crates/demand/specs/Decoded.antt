@@ -1,34 +1,28 @@
 -- The entries of any well-formed cache stand for forms, no two of them for the same form. Assumes nothing.
-use mathlib.Core.Path.{_≡_, refl, sym, ap, _∙_, subst}
+use mathlib.Core.Path.{_≡_, refl, sym, ap, _∙_}
 use mathlib.Core.Bool.{Bool, true, false, not}
 use mathlib.Core.List.{List, [], _∷_}
 use mathlib.Core.Option.{some}
 use Prim.Native.Nat.{ℕ, zero, suc, _+_, _-_, _<_}
 use native.Mathlib.Omega.{arith}
-use borrow.Author.Tests.{eqb-true, eqb-false, ltb-true}
-use lib.Dec.{eqb}
 use lib.ListN.{getElem?}
-use Rattle.language.specs.Members.{row}
-use Rattle.language.specs.MembersLaws.{none-of}
-use Rattle.language.specs.declared.members.Member.{Member}
-use Rattle.language.specs.declared.members.Found.the-variants.{Is}
 use Rattle.meaning.specs.Forms.{Form, readings, same}
 use Rattle.model.specs.Lists.{member, Distinct}
 use Rattle.model.specs.Cases.{impossible, split, both}
 use Rattle.model.specs.ListLaws.{nth-below, nth-has, getD-nth, Equality, nth-index, index-nth}
 use Rattle.model.specs.Graph.{among, formAt, Placed, AllPlaced, Stands, decodes}
 use Rattle.table.specs.Memory.{Memory, Node, entryCount, nodeAt, entriesOf, nodesOf}
-use Rattle.table.specs.Nodes.{memberKind, memberOfKind, arity, listed, kids, sameNode}
-use Rattle.table.specs.WellFormed.{keyRight, hasNode, distinct}
+use Rattle.table.specs.Nodes.{arity, listed, kids, sameNode}
+use Rattle.table.specs.WellFormed.{hasNode, distinct}
 use Rattle.table.specs.Right.{nodeRight}
-use Rattle.table.specs.RightLaws.{right-kind, right-key, first-low, second-low, first-given}
+use Rattle.table.specs.RightLaws.{first-low, second-low, first-given}
+use Rattle.table.specs.ArityLaws.{a-second}
 use Rattle.table.specs.CheckedLaws.{nodes-are}
+use Rattle.table.specs.NodeKinds.{right-fine}
 use Rattle.binder.specs.AppendedLaws.{Well}
-use Rattle.records.specs.Records.{node}
-use Rattle.refine.specs.Waiting.{of-kind, no-links, no-second, a-second}
 use Rattle.formulas.specs.Formulas.{formulas}
-use Rattle.bridge.specs.Graphs.{Fine, aNumber, aVariable, anUnbound, theReadings, aFunction, anAsk, aCall, nodes, graph-laws, equality, among-one, among-two}
-use Rattle.bridge.specs.Recorded.{formsOf, few-arguments}
+use Rattle.bridge.specs.Graphs.{nodes, graph-laws, equality, among-one, among-two}
+use Rattle.bridge.specs.Recorded.{formsOf}
 use Rattle.bridge.specs.FormulaLaws.{tests}
 use Rattle.demand.specs.Standing.{placed-all, count-nodes}
 use Rattle.demand.specs.Needs.{node-nth}
@@ -36,56 +30,6 @@ use Rattle.demand.specs.Needs.{node-nth}
 -- ---- a right node is of one of the kinds, and its dependencies are lower
 
 module _ (i : ℕ) (n : Node) (r : nodeRight i n ≡ true) where
-  abbrev k : ℕ
-  k = n .kind
-
-  made : (k key f s : ℕ) → n .kind ≡ k → n .key ≡ key → n .first ≡ f → n .second ≡ s → Fine (node k key f s) → Fine n
-  made k key f s a b c d x = subst Fine (λ t. record { kind = sym a t; key = sym b t; first = sym c t; second = sym d t }) x
-
-  leaf : (x : ℕ) → n .kind ≡ x → arity (n .kind) ≡ 0 → Fine (node x (n .key) 0 0) → Fine n
-  leaf x e a f = let l = no-links i n r a in made x (n .key) 0 0 e refl (l .0) (l .1) f
-
-  first-is : (arity (n .kind) ≡ 0 → ⊥) → n .first ≡ suc (n .first - 1)
-  first-is u = omega (arith, first-given i n r u)
-
-  of-member : (m : Member) → n .kind ≡ memberKind m → memberOfKind (n .kind) ≡ Is m → eqb (n .kind) 4 ≡ false → n .key ≡ 0 → Fine n
-  unfolding arity
-  of-member m e is y z =
-      let a : arity (n .kind) ≡ suc (row m .arguments) = rw (y, is) in
-      let l = few-arguments m in
-      split (eqb (row m .arguments) 0)
-      (λ p.
-      let q = eqb-true (row m .arguments) 0 p in
-      made (memberKind m) 0 (suc (n .first - 1)) 0 e z (first-is (λ w. omega arith)) (no-second i n r (omega arith)) (anAsk m (n .first - 1) q))
-      (λ p.
-      let q = eqb-false (row m .arguments) 0 p in
-      let s = a-second i n r (omega arith) in
-      made (memberKind m) 0 (suc (n .first - 1)) (suc (n .second - 1)) e z (first-is (λ w. omega arith)) (omega arith) (aCall m (n .first - 1) (n .second - 1) (omega arith)))
-
-  fine : Fine n
-  unfolding arity memberOfKind keyRight
-  fine =
-      split (eqb k 0) (λ p. let e = eqb-true k 0 p in leaf 0 e (rw e) (aNumber (n .key)))
-      (λ p.
-      split (eqb k 1) (λ q. let e = eqb-true k 1 q in leaf 1 e (rw e) (aVariable (n .key)))
-      (λ q.
-      split (eqb k 2) (λ u. let e = eqb-true k 2 u in leaf 2 e (rw e) (anUnbound (n .key)))
-      (λ u.
-      split (eqb k 3)
-      (λ v.
-      let e = eqb-true k 3 v in
-      let l = no-links i n r (rw e) in
-      made 3 0 0 0 e (eqb-true (n .key) 0 (rw e at (right-key i n r))) (l .0) (l .1) theReadings)
-      (λ v.
-      split (eqb k 4)
-      (λ w. let e = eqb-true k 4 w in made 4 (n .key) (suc (n .first - 1)) 0 e refl (first-is (λ z. never (rw e at z))) (no-second i n r (rw e)) (aFunction (n .key) (n .first - 1)))
-      (λ w.
-      let o = of-kind k (none-of 5 k (((((tt, eqb-false k 0 p), eqb-false k 1 q), eqb-false k 2 u), eqb-false k 3 v), eqb-false k 4 w)) (ltb-true k 21 (right-kind i n r)) in
-      of-member (o .member) (o .kind) (o .is) w (eqb-true (n .key) 0 (rw (p, q, u, w) at (right-key i n r))))))))
-    where
-      never : _≡_ {A = ℕ} 1 0 → ⊥
-      never z = omega arith
-
   lower : (j : ℕ) → among j (kids n) ≡ true → j < i
   unfolding kids member
   lower j = by (arity (n .kind)) refl
@@ -99,7 +43,7 @@ module _ (i : ℕ) (n : Node) (r : nodeRight i n ≡ true) where
       by (suc (suc x)) e h = among-two j (n .first - 1) (n .second - 1) h (first (λ z. omega arith)) (λ q. omega (arith, a-second i n r (omega arith), second-low i n r))
 
   placed : Placed formulas nodes i n
-  placed = record { fine = fine; lower = lower }
+  placed = record { fine = right-fine i n r; lower = lower }
 
 -- ---- no two numbers have the same element: a list without doubles
 

@@ -71,7 +71,7 @@ module _ (m : Memory) (f : fits m ≡ true) (w : wellFormed m ≡ true) where
     few : length (awaitedBy (awaitedAfter [] ns) n) ≤ 2
     few =
         let l = length-forms ns in
-        rw (awaited-after [] ns (all-placed m (well-parts m w)), awaited-by fs n (here .fine) (λ j a. let k = here .lower j a in omega arith)) (proper .few)
+        rw (awaited-after [] ns (all-placed m (well-parts m w)), awaited-by fs n (λ j a. let k = here .lower j a in omega arith)) (proper .few)
 
     one-well : wellFormed (append m n) ≡ true
     one-well =

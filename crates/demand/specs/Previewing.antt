@@ -32,6 +32,7 @@ use Rattle.table.specs.CheckedLaws.{nodes-are}
 use Rattle.binder.specs.AppendedLaws.{well-parts}
 use Rattle.table.specs.Links.{kindAt, firstAt, secondAt, keyAt}
 use Rattle.table.specs.Waits.{waitsFrom}
+use Rattle.table.specs.NodeKinds.{Fine, aNumber, aVariable, anUnbound, theReadings, aFunction, anAsk, aCall, build-ask, build-call}
 use Rattle.evaluator.specs.Frames.{startAt, startFrom}
 use Rattle.evaluator.specs.Working.{graph, applyAt}
 use Rattle.scheduler.specs.Works.{Work, needOf, worked, showOf}
@@ -39,7 +40,7 @@ use Rattle.refine.specs.Tables.{Link}
 use Rattle.refine.specs.Waiting.{waits-names, waits-full, good}
 use Rattle.refine.specs.Counts.{chosenIn, work-count, work-left}
 use Rattle.formulas.specs.Formulas.{formulas, IsReading}
-use Rattle.bridge.specs.Graphs.{Fine, aNumber, aVariable, anUnbound, theReadings, aFunction, anAsk, aCall, nodes, graph-laws, build-ask, build-call, kids-function, kids-ask, kids-call, among-first, among-second}
+use Rattle.bridge.specs.Graphs.{nodes, graph-laws, kids-function, kids-ask, kids-call, among-first, among-second}
 use Rattle.bridge.specs.Recorded.{formsOf}
 use Rattle.bridge.specs.Proper.{Proper}
 use Rattle.bridge.specs.FormulaLaws.{formula-laws}

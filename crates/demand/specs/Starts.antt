@@ -33,11 +33,12 @@ use Rattle.table.specs.Checked.{entriesRight}
 use Rattle.table.specs.CheckedLaws.{well-is}
 use Rattle.table.specs.RightLaws.{right-key, right-at}
 use Rattle.formulas.specs.Formulas.{formulas}
-use Rattle.bridge.specs.Graphs.{Fine, aNumber, aVariable, anUnbound, theReadings, aFunction, anAsk, aCall, nodes, graph-laws, number-key}
+use Rattle.bridge.specs.Graphs.{nodes, graph-laws, number-key}
 use Rattle.bridge.specs.Recorded.{formsOf}
 use Rattle.bridge.specs.FormulaLaws.{formula-laws}
 use Rattle.table.specs.Links.{kindAt, keyAt}
 use Rattle.table.specs.Waits.{slotA, slotB}
+use Rattle.table.specs.NodeKinds.{Fine, aNumber, aVariable, anUnbound, theReadings, aFunction, anAsk, aCall}
 use Rattle.evaluator.specs.Frames.{leafOf, startAt, startFrom}
 use Rattle.scheduler.specs.declared.works.View.{View}
 use Rattle.scheduler.specs.Works.{nameFor, otherFor, view, pickV, showOf}

@@ -25,14 +25,15 @@ use Rattle.table.specs.CheckedLaws.{done-is}
 use Rattle.binder.specs.AppendedLaws.{Well, and-true, settled-later}
 use Rattle.table.specs.LinksLaws.{kept-length as keep-length, kept-key as keep-key, kept-apart as keep-apart, kept-here as keep-here}
 use Rattle.table.specs.Links.{kindAt, firstAt, secondAt, keyAt, valueAt, isBelow}
+use Rattle.table.specs.ArityLaws.{a-second}
 use Rattle.table.specs.Waits.{waitsFrom}
+use Rattle.table.specs.AwaitsLaws.{few-at}
+use Rattle.table.specs.WaitsLaws.{apart, found}
 use Rattle.evaluator.specs.Frames.{startAt, startFrom}
 use Rattle.evaluator.specs.Working.{graph, applyAt}
 use Rattle.scheduler.specs.Works.{needOf, chosen, nameFor, otherFor, kept, Work, workFrom, worked}
 use Rattle.refine.specs.Packed.{Cell, Cells, set-cells, Right, apply-packed, leaf-packed, zeros, start-cells}
-use Rattle.refine.specs.Slots.{slots}
 use Rattle.refine.specs.Named.{names-right}
-use Rattle.refine.specs.Waiting.{a-second}
 use Rattle.refine.specs.Needed.{Flagged, needed-link}
 use Rattle.formulas.specs.Formulas.{IsReading}
 use Rattle.interface.specs.Calls.{workOn, workedMemory}
@@ -230,9 +231,11 @@ module _ (m : Memory) (f : fits m ≡ true) (well : Well m) (sound : All IsReadi
       unfolding nodeAt
       names =
           let few = well .few in
-          names-right links now i v w (λ e. rw (s .keys i) (function-named i (omega arith) e))
-          (λ j l e. rw (s .keys j) (variable-named j (nodeAt links (m .cells) j) (well .right j (omega arith)) e))
-          (slots links (m .cells) (suc n) (omega arith) i (omega arith)) (right-value .function)
+          let ν = nodeAt links (m .cells) in
+          names-right links now i (λ j l e. rw (s .keys j) (variable-named j (ν j) (well .right j (omega arith)) e))
+          v (λ e. rw (s .keys i) (function-named i (omega arith) e)) (right-value .function)
+          (found links (m .cells) (suc n) (omega arith) (λ j l. well .right j (omega arith)) (λ j k h l. apart ν c (well .apart) j k (omega arith) (omega arith))
+          (λ k l. few-at ν c k (well .names) (omega arith)) i (omega arith))
 
       -- what it depends on is flagged and lower, so it is done
       linked : (link : ℕ) → (nodeAt links (m .cells) i .first ≡ link) ⊎ (nodeAt links (m .cells) i .second ≡ link) → isBelow link i ≡ true → doneAt (entries then) (link - 1) ≡ true

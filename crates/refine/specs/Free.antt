@@ -1,7 +1,7 @@
 -- The free names of a form: what it comes to depends on the environment at these alone. Assumes nothing.
 use mathlib.Core.Path.{_≡_, refl, sym, ap, _∙_, subst}
 use mathlib.Core.Bool.{Bool, true, false, not, _&&_, _||_, false≢true}
-use mathlib.Core.List.{List, [], _∷_, _++_}
+use mathlib.Core.List.{List, [], _∷_}
 use Prim.Native.Nat.{ℕ}
 use borrow.Author.Tests.{eq-eqb, ne-eqb, eqb-true, eqb-false}
 use lib.Dec.{eqb}
@@ -11,7 +11,8 @@ use Rattle.values.specs.declared.Value.{Value}
 use Rattle.values.specs.declared.Value.the-variants.{Number, Delayed}
 use Rattle.values.specs.Apply.{isDelayed}
 use Rattle.meaning.specs.Forms.{Form, number, variable, unbound, readings, ask, call, function}
-use Rattle.meaning.specs.Evaluation.{plain, valueOf, Environment, bind, lookup, settled, functionOf, evaluate, hasName, joined, without, awaited}
+use Rattle.meaning.specs.Evaluation.{plain, valueOf, Environment, bind, lookup, settled, functionOf, evaluate, hasName, without, awaited}
+use Rattle.table.specs.AwaitsLaws.{has-joined}
 
 abbrev pub free : ℕ → Form → Bool
 free y f = hasName y (awaited f)
@@ -41,34 +42,7 @@ or-right false b e = e
 pub decEq : (m n : ℕ) → Dec (m ≡ n)
 decEq m n = split (eqb m n) (λ p. yes (eqb-true m n p)) (λ p. no (eqb-false m n p))
 
--- ---- names in joined lists
-has-append : (y : ℕ) (xs ys : List ℕ) → hasName y (xs ++ ys) ≡ (hasName y xs || hasName y ys)
-unfolding hasName
-has-append y [] ys = refl
-has-append y (x ∷ xs) ys = split (eqb y x) (λ p. rw p) (λ p. rw p (has-append y xs ys))
-
-or-swap : (a b c : Bool) → ((a || (b || false)) || c) ≡ (a || (b || c))
-or-swap true b c = refl
-or-swap false true c = refl
-or-swap false false c = refl
-
-or-held : (a b c : Bool) → (b ≡ true → a ≡ true) → (a || c) ≡ (a || (b || c))
-or-held true b c h = refl
-or-held false true c h = absurd (false≢true (h refl))
-or-held false false c h = refl
-
-pub has-joined : (y : ℕ) (xs ys : List ℕ) → hasName y (joined xs ys) ≡ (hasName y xs || hasName y ys)
-unfolding joined hasName
-has-joined y xs [] = by (hasName y xs)
-  where
-    by : (a : Bool) → a ≡ (a || false)
-    by true = refl
-    by false = refl
-has-joined y xs (x ∷ ys) =
-    split (hasName x xs)
-    (λ p. rw p (has-joined y xs ys ∙ or-held (hasName y xs) (eqb y x) (hasName y ys) (λ e. subst (λ (z : ℕ). hasName z xs ≡ true) (sym (eqb-true y x e)) p)))
-    (λ p. rw p (has-joined y (xs ++ (x ∷ [])) ys ∙ rw (has-append y xs (x ∷ [])) (or-swap (hasName y xs) (eqb y x) (hasName y ys))))
-
+-- ---- names in lists
 pub has-without : (y x : ℕ) (ys : List ℕ) → hasName y (without x ys) ≡ (not (eqb x y) && hasName y ys)
 unfolding without hasName
 has-without y x [] = by (eqb x y)

@@ -8,6 +8,5 @@ pub mod Shows
 pub mod Counts
 pub mod Waiting
 pub mod Packed
-pub mod Slots
 pub mod Named
 pub mod Needed

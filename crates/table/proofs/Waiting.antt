@@ -1,6 +1,6 @@
 -- The steps of the rising pass over the awaited variables, each over plain numbers and lists. Assumes nothing.
 use mathlib.Core.Path.{_≡_, refl, sym, _∙_}
-use mathlib.Core.Bool.{Bool, true, false, _&&_, false≢true}
+use mathlib.Core.Bool.{Bool, true, false, _&&_, _||_, false≢true}
 use mathlib.Core.List.{List}
 use Prim.Native.Nat.{ℕ, suc, _+_, _*_, _-_, _/_, _%_, _≤_, _<_}
 use native.Mathlib.Omega.{arith}
@@ -10,7 +10,7 @@ use borrow.Author.Tests.{lt-ltb, le-ltb, le-leb, lt-leb, eq-eqb, ne-eqb, leb-tru
 use lib.Dec.{leb, eqb}
 use lib.ListN.{getD, set}
 use Rattle.table.specs.Links.{isBelow}
-use Rattle.table.specs.Waits.{holds, awaits, joined, isNamed, without, waitsOf, waitsAt, waitsFrom, ownOf}
+use Rattle.table.specs.Waits.{holds, awaits, joined, isNamed, without, waitsOf, waitsAt, waitsFrom, covers, fewAt, ownOf}
 
 pub awaits-is : (w v : ℕ) (r : Bool) → r ≡ holds w v → leb 1 v && r ≡ awaits w v
 awaits-is w v r e = rw e
@@ -97,6 +97,15 @@ pub waits-end : (links cells waits : List ℕ) (n i : ℕ) {all : List ℕ} → 
 unfolding waitsFrom
 waits-end links cells waits n i h v = let q : n - i ≡ 0 = omega arith in rw q at v
 
+pub covers-is : (w u : ℕ) (r s : Bool) → r ≡ holds w (u / 65536) → s ≡ holds w (u % 65536)
+    → ((eqb (u / 65536) 0 || r) && (eqb (u % 65536) 0 || s)) ≡ covers w u
+covers-is w u r s d e = rw (d, e)
+
+pub few-here : (links waits : List ℕ) (i g second : ℕ) (r : Bool) → r ≡ covers (getD waits i 0) second → second ≡ waitsOf waits g i
+    → g ≡ getD links (3 * i + 2) 0 → r ≡ fewAt links waits i
+unfolding fewAt
+few-here links waits i g second r e q p = rw (← p, ← q) e
+
 module _ (b f : ℕ) (r : Bool) (e : r ≡ holds f (b / 65536)) where
   pub own-first : r ≡ false → b / 65536 ≡ ownOf b f
   unfolding ownOf
@@ -111,4 +120,4 @@ module _ (b f : ℕ) (r : Bool) (e : r ≡ holds f (b / 65536)) where
     unfolding ownOf
     own-second u = rw (sym e ∙ t, sym d ∙ u)
 
-pub ruleset waiting = (needs, awaits-is, join-first, join-full, join-same, join-both, named-is, named-none, without-first, without-second, without-none, waits-below, waits-none, at-variable, at-leaf, at-function, at-member, own-first, own-none, own-second)
+pub ruleset waiting = (needs, awaits-is, join-first, join-full, join-same, join-both, named-is, named-none, without-first, without-second, without-none, waits-below, waits-none, at-variable, at-leaf, at-function, at-member, covers-is, few-here, own-first, own-none, own-second)

@@ -2,14 +2,12 @@
 use mathlib.Core.Path.{_≡_, sym, ap, _∙_}
 use mathlib.Core.Bool.{true, false, cond}
 use mathlib.Core.List.{List, []}
-use Prim.Native.Nat.{ℕ, zero, suc, _-_, _≤_, _<_}
+use Prim.Native.Nat.{ℕ, zero, suc, _-_, _<_}
 use native.Mathlib.Omega.{arith}
-use borrow.Author.Tests.{eqb-true, eqb-false, ne-eqb, lt-ltb}
+use borrow.Author.Tests.{eqb-true, eqb-false, ne-eqb}
 use lib.Dec.{eqb}
 use lib.ListN.{getD}
 use Rattle.language.specs.Members.{row}
-use Rattle.language.specs.declared.members.Member.{Member}
-use Rattle.language.specs.declared.members.Member.the-variants.{Add, Sub, Mul, Div, Gt, Eq, Skip, Take, Count, Sum, Min, Max, At, CountWhere, LongestRun, SumBy}
 use Rattle.language.specs.declared.members.Found.{Found}
 use Rattle.language.specs.declared.members.Found.the-variants.{Is, Unknown}
 use Rattle.meaning.specs.Forms.{Form}
@@ -17,30 +15,11 @@ use Rattle.meaning.specs.Evaluation.{joined, awaited}
 use Rattle.meaning.specs.EvaluationLaws.{split}
 use Rattle.table.specs.Memory.{Node}
 use Rattle.table.specs.Nodes.{memberOfKind, memberArity, memberForm, arity, build}
-use Rattle.table.specs.WellFormed.{awaitedBy, awaitedAfter}
-use Rattle.table.specs.Right.{numbered, nodeRight}
+use Rattle.table.specs.WellFormed.{awaitedBy}
+use Rattle.table.specs.Right.{nodeRight}
 use Rattle.table.specs.RightLaws.{first-low, first-given, second-low, second-given}
-use Rattle.table.specs.AwaitsLaws.{function-arity, after-at}
-
--- no member takes more than one argument
-few-arguments : (m : Member) → row m .arguments ≤ 1
-unfolding row
-few-arguments Add = omega arith
-few-arguments Sub = omega arith
-few-arguments Mul = omega arith
-few-arguments Div = omega arith
-few-arguments Gt = omega arith
-few-arguments Eq = omega arith
-few-arguments Skip = omega arith
-few-arguments Take = omega arith
-few-arguments Count = omega arith
-few-arguments Sum = omega arith
-few-arguments Min = omega arith
-few-arguments Max = omega arith
-few-arguments At = omega arith
-few-arguments CountWhere = omega arith
-few-arguments LongestRun = omega arith
-few-arguments SumBy = omega arith
+use Rattle.table.specs.ArityLaws.{few-arguments, function-arity, leaf-arity}
+use Rattle.table.specs.AwaitsLaws.{after, namesOf, after-at}
 
 -- what a member awaits, by the number of its dependencies
 member-awaits : (f : Found) (g a : Form) (k : ℕ) → k ≡ memberArity f
@@ -57,17 +36,10 @@ arity-as : (k : ℕ) → eqb k 4 ≡ false → arity k ≡ memberArity (memberOf
 unfolding arity
 arity-as k p = rw p
 
-leaf-arity : (k : ℕ) → k < 4 → arity k ≡ 0
-unfolding arity memberOfKind
-leaf-arity k h = rw (ne-eqb k 4 (λ e. omega arith), lt-ltb k 5 (omega arith))
-
-module _ (i : ℕ) (n : Node) (r : nodeRight i n ≡ true) (b : List (List ℕ)) (φ : ℕ → Form) (held : (j : ℕ) → j < i → getD b j [] ≡ awaited (φ j)) where
-  first-held : (arity (n .kind) ≡ 0 → ⊥) → getD b (n .first - 1) [] ≡ awaited (φ (n .first - 1))
-  first-held u = let g = first-given i n r u in let l = first-low i n r in held (n .first - 1) (omega arith)
-
-  second-held : arity (n .kind) ≡ 2 → getD b (n .second - 1) [] ≡ awaited (φ (n .second - 1))
-  second-held e = let g = second-given i n r e in let l = second-low i n r in held (n .second - 1) (omega arith)
-
+-- a node, and what its dependencies await
+module _ (n : Node) (b : List (List ℕ)) (φ : ℕ → Form)
+    (first-held : (arity (n .kind) ≡ 0 → ⊥) → getD b (n .first - 1) [] ≡ awaited (φ (n .first - 1)))
+    (second-held : arity (n .kind) ≡ 2 → getD b (n .second - 1) [] ≡ awaited (φ (n .second - 1))) where
   works-awaits : eqb (n .kind) 4 ≡ false
       → cond (eqb (arity (n .kind)) 1) (getD b (n .first - 1) []) (cond (eqb (arity (n .kind)) 2) (joined (getD b (n .first - 1) []) (getD b (n .second - 1) [])) [])
       ≡ awaited (memberForm (memberOfKind (n .kind)) (φ (n .first - 1)) (φ (n .second - 1)))
@@ -84,7 +56,7 @@ module _ (i : ℕ) (n : Node) (r : nodeRight i n ≡ true) (b : List (List ℕ))
           (λ u. let z : arity (n .kind) ≡ 2 = eqb-true _ _ u in rw u (rw (first-held (λ e. omega arith), second-held z)))
           (λ u. rw u)))
 
-  -- the names of a right node are those of its form
+  -- the names of the node are those of its form
   pub awaited-build : awaitedBy b n ≡ awaited (build n φ)
   unfolding awaitedBy build awaited
   awaited-build =
@@ -106,12 +78,13 @@ module _ (i : ℕ) (n : Node) (r : nodeRight i n ≡ true) (b : List (List ℕ))
 
 -- so of every entry, where each form is built from those of the entries before it
 pub awaited-forms : (ν : ℕ → Node) (φ : ℕ → Form) (n : ℕ) → ((i : ℕ) → i < n → nodeRight i (ν i) ≡ true) → ((i : ℕ) → i < n → φ i ≡ build (ν i) φ)
-    → (i : ℕ) → i < n → getD (awaitedAfter [] (numbered ν 0 n)) i [] ≡ awaited (φ i)
-awaited-forms ν φ n right forms i l = after-at ν i n l ∙ below n right forms i l
-  where
-    below : (n : ℕ) → ((i : ℕ) → i < n → nodeRight i (ν i) ≡ true) → ((i : ℕ) → i < n → φ i ≡ build (ν i) φ) → (i : ℕ) → i < n → awaitedBy (awaitedAfter [] (numbered ν 0 i)) (ν i) ≡ awaited (φ i)
-    below zero right forms i l = absurd (omega arith)
-    below (suc n) right forms i l =
-        awaited-build i (ν i) (right i l) (awaitedAfter [] (numbered ν 0 i)) φ
-        (λ j m. after-at ν j i m ∙ below n (λ k h. right k (omega arith)) (λ k h. forms k (omega arith)) j (omega arith))
-        ∙ ap awaited (sym (forms i l))
+    → (i : ℕ) → i < n → namesOf ν i ≡ awaited (φ i)
+awaited-forms ν φ zero right forms i l = absurd (omega arith)
+awaited-forms ν φ (suc n) right forms i l =
+    let r = right i l in
+    let before : (j : ℕ) → j < i → getD (after ν i) j [] ≡ awaited (φ j) =
+    λ j m. after-at ν j i m ∙ awaited-forms ν φ n (λ k h. right k (omega arith)) (λ k h. forms k (omega arith)) j (omega arith) in
+    awaited-build (ν i) (after ν i) φ
+    (λ u. before (ν i .first - 1) (omega (arith, first-given i (ν i) r u, first-low i (ν i) r)))
+    (λ e. before (ν i .second - 1) (omega (arith, second-given i (ν i) r e, second-low i (ν i) r)))
+    ∙ ap awaited (sym (forms i l))

@@ -89,7 +89,7 @@ all-snoc p i (suc n) =
     by true b c = refl
     by false b c = refl
 
-all-last : (p : ℕ → Bool) (n : ℕ) → allFrom p (suc n) 0 ≡ (allFrom p n 0 && p n)
+pub all-last : (p : ℕ → Bool) (n : ℕ) → allFrom p (suc n) 0 ≡ (allFrom p n 0 && p n)
 all-last p n = let q : 0 + n ≡ n = omega arith in all-snoc p 0 n ∙ rw q
 
 -- equal nodes twice

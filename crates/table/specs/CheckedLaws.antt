@@ -16,7 +16,6 @@ use Rattle.table.specs.Nodes.{worksKind, arity, listed, kids, isName}
 use Rattle.table.specs.WellFormed.{every, kindKnown, keyRight, arityRight, lower, distinct, awaitsFew, isDone, doneAt, allDone, settled, namesRight, keptRight, wellFormed}
 use Rattle.table.specs.Right.{allFrom, numbered, nodeRight, rightAt}
 use Rattle.table.specs.Held.{shaped}
-use Rattle.table.specs.Awaits.{Awaited}
 use Rattle.table.specs.Checked.{memory, kept, keptOk, entriesRight}
 use Rattle.table.specs.declared.nodes.Shape.{Shape}
 
@@ -129,13 +128,11 @@ module _ (links cells : List ℕ) (n readings i value name other : ℕ) (r : Boo
       by true = refl
       by false = refl
 
-pub few-is : (ns : List Node) (n : ℕ) (held : List ℕ) (r : Bool) → Awaited ns n held r → r ≡ awaitsFew ns
-few-is ns n held r a = a .few
+-- a test that was passed
+pub passed : (a b : Bool) → a ≡ b → a ≡ true → b ≡ true
+passed a b q t = sym q ∙ t
 
 module _ (links cells : List ℕ) (readings n : ℕ) (a : Bool) (qa : a ≡ allFrom (rightAt links cells) n 0) where
-  pub right-true : a ≡ true → allFrom (rightAt links cells) n 0 ≡ true
-  right-true t = sym qa ∙ t
-
   pub entries-nodes : a ≡ false → false ≡ entriesRight links cells readings n
   unfolding entriesRight
   entries-nodes t = rw (← qa, t)
@@ -228,4 +225,4 @@ module _ (rs : List ℤ) (heads links cells : List ℕ) where
   pub well-entries : (n m : ℕ) (r : Bool) → r ≡ entriesRight links cells m n → n ≡ getD heads 0 0 → m ≡ getD heads 1 0 → n ≤ 512 → m ≤ 1024 → r ≡ wellFormed (memory rs heads links cells)
   well-entries n m r q p o h k = q ∙ sym (well-is ∙ rw (← p, ← o, le-leb n 512 h, le-leb m 1024 k))
 
-pub ruleset checks = (done-is, kids-none, kids-one, kids-two, names-function, names-delayed, names-none, kept-none, kept-some, kept-bad, few-is, right-true, entries-nodes, entries-twice, entries-many, entries-kept, well-count, well-readings, well-entries)
+pub ruleset checks = (done-is, kids-none, kids-one, kids-two, names-function, names-delayed, names-none, kept-none, kept-some, kept-bad, entries-nodes, entries-twice, entries-many, entries-kept, well-count, well-readings, well-entries)

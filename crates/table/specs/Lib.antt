@@ -1,5 +1,5 @@
+pub mod ArityLaws
 pub mod AwaitedForms
-pub mod Awaits
 pub mod AwaitsLaws
 pub mod Bind
 pub mod Chain
@@ -11,8 +11,10 @@ pub mod HeldLaws
 pub mod Links
 pub mod LinksLaws
 pub mod Memory
+pub mod NodeKinds
 pub mod Nodes
 pub mod Right
 pub mod RightLaws
 pub mod Waits
+pub mod WaitsLaws
 pub mod WellFormed

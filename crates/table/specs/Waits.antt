@@ -55,6 +55,14 @@ unfoldable pub waitsFrom : List ℕ → List ℕ → ℕ → ℕ → List ℕ �
 waitsFrom links cells zero i waits = waits
 waitsFrom links cells (suc k) i waits = waitsFrom links cells k (suc i) (set waits i (waitsAt links cells waits i))
 
+-- each variable of u is one of w's
+abbrev pub covers : ℕ → ℕ → Bool
+covers w u = (eqb (slotA u) 0 || holds w (slotA u)) && (eqb (slotB u) 0 || holds w (slotB u))
+
+-- entry i awaits no more than two: what a join leaves out is a variable of the second dependency
+unfoldable pub fewAt : List ℕ → List ℕ → ℕ → Bool
+fewAt links waits i = covers (getD waits i 0) (waitsOf waits (secondAt links i) i)
+
 -- a function's own variable: what its body awaits and it does not
 unfoldable pub ownOf : ℕ → ℕ → ℕ
 ownOf body function =

@@ -8,10 +8,11 @@ use crate::chain::distinct_nodes;
 use crate::entries::arity;
 use crate::entries::is_name;
 use crate::entries::nodes_right;
-use crate::names::await_names;
 use crate::nodes::Shape;
 use crate::nodes::entry_of;
 use crate::nodes::node_at;
+use crate::waits::are_few;
+use crate::waits::fill_waits;
 use language::limits::Table;
 use values::packing::Packed;
 use values::packing::is_packed;
@@ -23,7 +24,7 @@ ghost use lib.IntN.{ℤ};
 ghost use Rattle.language.specs.Limits.{tableEntries};
 ghost use Rattle.table.specs.Memory.{nodeAt, entriesFrom};
 ghost use Rattle.table.specs.Nodes.{kids};
-ghost use Rattle.table.specs.WellFormed.{doneAt, allDone, namesRight, awaitsFew, wellFormed};
+ghost use Rattle.table.specs.WellFormed.{doneAt, allDone, namesRight, distinct, awaitsFew, wellFormed};
 ghost use Rattle.table.specs.Right.{numbered, allFrom, rightAt};
 ghost use Rattle.table.specs.Checked.{memory, kept, keptOk, entriesRight};
 
@@ -99,11 +100,13 @@ fn all_kept_right(links: &[u16], cells: &[u64], n: u16, readings: usize) -> bool
 // Whether none of n entries awaits over two names.
 fn few_names(links: &[u16], cells: &[u64], n: u16) -> bool
     requires { ⌜ allFrom (rightAt (now links) (now cells)) n 0 ≡ true ⌝ }
+    requires { ⌜ distinct (numbered (nodeAt (now links) (now cells)) 0 n) ≡ true ⌝ }
     requires { ⌜ n ≤ 512 ⌝ }
     ensures { λ r. ⌜ r ≡ awaitsFew (numbered (nodeAt (now (links .entry)) (now (cells .entry))) 0 n) ⌝ }
 {
-    let mut names = [0u64; 1024];
-    await_names(links, cells, n, &mut names)
+    let mut waits = [0u32; 512];
+    fill_waits(links, cells, n as usize, &mut waits);
+    are_few(links, &waits, n as usize)
 }
 
 // The clauses after the counts, of n entries.

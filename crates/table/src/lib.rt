@@ -4,6 +4,5 @@ pub mod chain;
 pub mod check;
 pub mod entries;
 pub mod links;
-pub mod names;
 pub mod nodes;
 pub mod waits;

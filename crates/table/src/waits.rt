@@ -4,7 +4,8 @@ use crate::links::is_below;
 use crate::links::link;
 ghost use mathlib.Core.Path.{_≡_};
 ghost use Prim.Native.Nat.{_<_, _≤_};
-ghost use Rattle.table.specs.Waits.{holds, awaits as awaitsOf, joined, isNamed, without as withoutOf, waitsOf, waitsAt, waitsFrom, ownOf};
+ghost use Rattle.table.specs.Right.{allFrom};
+ghost use Rattle.table.specs.Waits.{holds, awaits as awaitsOf, joined, isNamed, without as withoutOf, waitsOf, waitsAt, waitsFrom, covers as coversOf, fewAt, ownOf};
 
 pub fn has(w: u32, v: u32) -> bool
     ensures { λ r. ⌜ r ≡ holds w v ⌝ }
@@ -94,6 +95,40 @@ pub fn fill_waits(links: &[u16], cells: &[u64], n: usize, waits: &mut [u32; 512]
         waits[i] = waits_at(links, cells, waits, i);
         i += 1;
     }
+}
+
+// Whether each variable of u is one of w's.
+fn covers(w: u32, u: u32) -> bool
+    ensures { λ r. ⌜ r ≡ coversOf w u ⌝ }
+{
+    ((u / 65536 == 0) | has(w, u / 65536)) & ((u % 65536 == 0) | has(w, u % 65536))
+}
+
+// Whether entry i awaits no more than two: what a join leaves out is a variable of the second dependency.
+fn is_few(links: &[u16], waits: &[u32; 512], i: usize) -> bool
+    requires { ⌜ i < 512 ⌝ }
+    ensures { λ r. ⌜ r ≡ fewAt (now (links .entry)) (now (waits .entry)) i ⌝ }
+{
+    covers(
+        waits[i],
+        waits_of(waits, link(links, 3 * i + 2) as usize, i),
+    )
+}
+
+// Whether none of the first n entries awaits more than two.
+pub fn are_few(links: &[u16], waits: &[u32; 512], n: usize) -> bool
+    requires { ⌜ n ≤ 512 ⌝ }
+    ensures { λ r. ⌜ r ≡ allFrom (fewAt (now (links .entry)) (now (waits .entry))) n 0 ⌝ }
+{
+    let mut i: usize = 0;
+    while i < n {
+        if is_few(links, waits, i) {
+            i += 1;
+        } else {
+            return false;
+        }
+    }
+    true
 }
 
 // A function's own variable: what its body awaits and it does not.

@@ -1,6 +1,6 @@
 -- The clauses one after the other. Assumes nothing.
 use borrow.Author.Needs.{needs}
-use Rattle.table.specs.CheckedLaws.{checks}
+use Rattle.table.specs.CheckedLaws.{passed, checks}
 use Rattle.table.proofs.check.entries_right.Statement.{statement}
 use Rattle.table.proofs.check.entries_right.Tie as tie
 
@@ -11,7 +11,7 @@ distinct-nodes-requires : tie.Need-distinct-nodes-requires
 distinct-nodes-requires c κs = search needs
 
 few-names-requires : tie.Need-few-names-requires
-few-names-requires c κs = search (needs, checks)
+few-names-requires c κs = (search (needs, passed), (search (needs, passed), search needs))
 
 all-kept-right-requires : tie.Need-all-kept-right-requires
 all-kept-right-requires c κs = search needs

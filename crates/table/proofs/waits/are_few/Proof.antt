@@ -1,0 +1,50 @@
+-- What is left of the numbers decides. Assumes nothing.
+use mathlib.Core.Path.{_≡_}
+use Prim.Native.Nat.{_≤_, _-_}
+use borrow.Author.Needs.{needs}
+use Rattle.table.specs.Waits.{fewAt}
+use Rattle.table.specs.Right.{allFrom}
+use Rattle.table.specs.RightLaws.{loops}
+use Rattle.table.proofs.waits.are_few.Statement.{statement}
+use Rattle.table.proofs.waits.are_few.Tie as tie
+
+abbrev Inv-loop : tie.InvT-loop
+Inv-loop links waits n i₀ i = (i ≤ n) × (allFrom (fewAt links waits) n 0 ≡ allFrom (fewAt links waits) (n - i) i)
+
+abbrev μ-loop : tie.MeasureT-loop
+μ-loop links waits n i₀ i = n - i
+
+loop-holds : tie.Need-loop-holds Inv-loop μ-loop
+loop-holds c = (search needs, search (needs, loops))
+
+is-few-requires : tie.Need-is-few-requires Inv-loop μ-loop
+is-few-requires c κs = search needs
+
+add-i : tie.Need-add-i Inv-loop μ-loop
+add-i c = search needs
+
+loop-less : tie.Need-loop-less Inv-loop μ-loop
+loop-less c = search needs
+
+loop-again : tie.Need-loop-again Inv-loop μ-loop
+loop-again c = (search needs, search (needs, loops))
+
+returns : tie.Need-returns Inv-loop μ-loop
+returns c = search (needs, loops)
+
+returns-2 : tie.Need-returns-2 Inv-loop μ-loop
+returns-2 c = search (needs, loops)
+
+pub are-few-spec : {M : Type 1} → statement M
+are-few-spec =
+    tie.close
+    (tie.spec
+    Inv-loop
+    μ-loop
+    loop-holds
+    is-few-requires
+    add-i
+    loop-less
+    loop-again
+    returns
+    returns-2)

@@ -1,0 +1,45 @@
+-- `table::waits::is_few` meets its contract: each path is a law of Waiting. Assumes nothing.
+use Rattle.table.proofs.Waiting.{waiting}
+use Rattle.table.proofs.waits.is_few.Statement.{statement}
+use Rattle.table.proofs.waits.is_few.Tie as tie
+
+mul-covers : tie.Need-mul-covers
+mul-covers c = search waiting
+
+element-copy-out-covers : tie.Need-element-copy-out-covers
+element-copy-out-covers c = search waiting
+
+mul-link : tie.Need-mul-link
+mul-link c = search waiting
+
+add-link : tie.Need-add-link
+add-link c = search waiting
+
+link-requires : tie.Need-link-requires
+link-requires c κs = search waiting
+
+cast-waits-of : tie.Need-cast-waits-of
+cast-waits-of c = search waiting
+
+waits-of-requires : tie.Need-waits-of-requires
+waits-of-requires c κs = search waiting
+
+covers-requires : tie.Need-covers-requires
+covers-requires c κs = search waiting
+
+returns : tie.Need-returns
+returns c = search waiting
+
+pub is-few-spec : {M : Type 1} → statement M
+is-few-spec =
+    tie.close
+    (tie.spec
+    mul-covers
+    element-copy-out-covers
+    mul-link
+    add-link
+    link-requires
+    cast-waits-of
+    waits-of-requires
+    covers-requires
+    returns)

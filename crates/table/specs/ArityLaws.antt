@@ -1,0 +1,71 @@
+-- How many dependencies an entry has: two at most, and a right node's links are given or 0 as its kind says. Assumes nothing.
+use mathlib.Core.Path.{_≡_}
+use mathlib.Core.Bool.{true}
+use Prim.Native.Nat.{ℕ, _≤_, _<_}
+use native.Mathlib.Omega.{arith}
+use borrow.Author.Tests.{eqb-true, eq-eqb, ne-eqb, lt-ltb}
+use lib.Dec.{leb, eqb}
+use Rattle.language.specs.Members.{row}
+use Rattle.language.specs.declared.members.Member.{Member}
+use Rattle.language.specs.declared.members.Member.the-variants.{Add, Sub, Mul, Div, Gt, Eq, Skip, Take, Count, Sum, Min, Max, At, CountWhere, LongestRun, SumBy}
+use Rattle.language.specs.declared.members.Found.{Found}
+use Rattle.language.specs.declared.members.Found.the-variants.{Is, Unknown}
+use Rattle.meaning.specs.FormsLaws.{and-left, and-right}
+use Rattle.meaning.specs.EvaluationLaws.{split}
+use Rattle.table.specs.Memory.{Node}
+use Rattle.table.specs.Nodes.{memberOfKind, memberArity, arity}
+use Rattle.table.specs.WellFormed.{arityRight}
+use Rattle.table.specs.Right.{nodeRight}
+use Rattle.table.specs.RightLaws.{right-arity, second-given}
+
+-- no member takes more than one argument
+pub few-arguments : (m : Member) → row m .arguments ≤ 1
+unfolding row
+few-arguments Add = omega arith
+few-arguments Sub = omega arith
+few-arguments Mul = omega arith
+few-arguments Div = omega arith
+few-arguments Gt = omega arith
+few-arguments Eq = omega arith
+few-arguments Skip = omega arith
+few-arguments Take = omega arith
+few-arguments Count = omega arith
+few-arguments Sum = omega arith
+few-arguments Min = omega arith
+few-arguments Max = omega arith
+few-arguments At = omega arith
+few-arguments CountWhere = omega arith
+few-arguments LongestRun = omega arith
+few-arguments SumBy = omega arith
+
+pub arity-few : (k : ℕ) → arity k ≤ 2
+unfolding arity
+arity-few k = split (eqb k 4) (λ p. rw p (omega arith)) (λ p. rw p (by (memberOfKind k)))
+  where
+    by : (f : Found) → memberArity f ≤ 2
+    by (Is m) = omega (arith, few-arguments m)
+    by Unknown = omega arith
+
+pub function-arity : (k : ℕ) → k ≡ 4 → arity k ≡ 1
+unfolding arity
+function-arity k e = rw (eq-eqb k 4 e)
+
+pub leaf-arity : (k : ℕ) → k < 4 → arity k ≡ 0
+unfolding arity memberOfKind
+leaf-arity k h = rw (ne-eqb k 4 (λ e. omega arith), lt-ltb k 5 (omega arith))
+
+module _ (i : ℕ) (n : Node) (r : nodeRight i n ≡ true) where
+  pub no-links : arity (n .kind) ≡ 0 → (n .first ≡ 0) × (n .second ≡ 0)
+  unfolding arityRight
+  no-links e =
+      let w = rw (eq-eqb (arity (n .kind)) 0 e) at (right-arity i n r) in
+      (eqb-true (n .first) 0 (and-left _ _ w), eqb-true (n .second) 0 (and-right (eqb (n .first) 0) _ w))
+
+  pub no-second : arity (n .kind) ≡ 1 → n .second ≡ 0
+  unfolding arityRight
+  no-second e =
+      eqb-true (n .second) 0 (and-right (leb 1 (n .first)) _
+      (rw (ne-eqb (arity (n .kind)) 0 (λ q. omega arith), eq-eqb (arity (n .kind)) 1 e) at (right-arity i n r)))
+
+  pub a-second : 2 ≤ arity (n .kind) → 1 ≤ n .second
+  a-second h = second-given i n r (omega (arith, arity-few (n .kind)))

@@ -1,0 +1,139 @@
+-- Nodes by their kinds: a right node has what its kind has, and nothing else, and the form that it builds goes by that. Assumes nothing.
+use mathlib.Core.Path.{_≡_, refl, sym, _∙_, subst}
+use mathlib.Core.Bool.{Bool, true, false, _&&_}
+use mathlib.Core.List.{List, [], _∷_}
+use Prim.Native.Nat.{ℕ, zero, suc, _+_, _-_, _≤_, _<_}
+use native.Mathlib.Omega.{arith}
+use borrow.Author.Tests.{eqb-true, eqb-false, ne-eqb, ltb-true, le-ltb}
+use lib.Dec.{eqb}
+use lib.ListN.{length}
+use Rattle.language.specs.Members.{row, members, memberNumber, foundIn, memberAt}
+use Rattle.language.specs.MembersLaws.{none-of}
+use Rattle.language.specs.declared.members.Member.{Member}
+use Rattle.language.specs.declared.members.Found.the-variants.{Is}
+use Rattle.meaning.specs.Forms.{Form, ask, call}
+use Rattle.meaning.specs.FormsLaws.{and-left, and-right, found}
+use Rattle.meaning.specs.EvaluationLaws.{split}
+use Rattle.table.specs.Memory.{Node}
+use Rattle.table.specs.Nodes.{numberKind, variableKind, unboundKind, readingsKind, functionKind, memberKind, memberOfKind, memberForm, arity, build}
+use Rattle.table.specs.WellFormed.{keyRight}
+use Rattle.table.specs.Right.{node, nodeRight}
+use Rattle.table.specs.RightLaws.{right-kind, right-key, first-given}
+use Rattle.table.specs.ArityLaws.{few-arguments, function-arity, leaf-arity, no-links, no-second, a-second}
+
+-- nodes as they stand in tables: what each kind has, and nothing else
+pub data Fine : Node → Type 0 where
+  aNumber : (key : ℕ) → Fine (node numberKind key 0 0)
+  aVariable : (x : ℕ) → Fine (node variableKind x 0 0)
+  anUnbound : (x : ℕ) → Fine (node unboundKind x 0 0)
+  theReadings : Fine (node readingsKind 0 0 0)
+  aFunction : (x b : ℕ) → Fine (node functionKind x (suc b) 0)
+  anAsk : (m : Member) (f : ℕ) → row m .arguments ≡ 0 → Fine (node (memberKind m) 0 (suc f) 0)
+  aCall : (m : Member) (f a : ℕ) → row m .arguments ≡ 1 → Fine (node (memberKind m) 0 (suc f) (suc a))
+
+-- ---- the members' kinds are told apart from the others, and stand for their members
+pub less-one : (n : ℕ) → suc n - 1 ≡ n
+less-one n = omega arith
+
+member-found : (m : Member) → memberOfKind (memberKind m) ≡ Is m
+unfolding memberOfKind memberAt
+member-found m =
+    let q : 5 + memberNumber m - 5 ≡ memberNumber m = omega arith in
+    rw (le-ltb (5 + memberNumber m) 5 (omega arith), q) (found m)
+
+pub not-member : (m : Member) (k : ℕ) → k < 5 → eqb (memberKind m) k ≡ false
+not-member m k h = ne-eqb (memberKind m) k (λ e. omega arith)
+
+pub member-arity : (m : Member) → arity (memberKind m) ≡ suc (row m .arguments)
+unfolding arity
+member-arity m = rw (not-member m 4 (omega arith), member-found m)
+
+build-member : (m : Member) (f a : ℕ) (φ : ℕ → Form) → build (node (memberKind m) 0 f a) φ ≡ memberForm (Is m) (φ (f - 1)) (φ (a - 1))
+unfolding build
+build-member m f a φ =
+    let no = not-member m in
+    rw (no 0 (omega arith), no 1 (omega arith), no 2 (omega arith), no 3 (omega arith), no 4 (omega arith), member-found m)
+
+pub build-ask : (m : Member) (f : ℕ) (φ : ℕ → Form) → row m .arguments ≡ 0 → build (node (memberKind m) 0 (suc f) 0) φ ≡ ask m (φ f)
+build-ask m f φ e = build-member m (suc f) 0 φ ∙ rw (e, less-one f)
+
+pub build-call : (m : Member) (f a : ℕ) (φ : ℕ → Form) → row m .arguments ≡ 1 → build (node (memberKind m) 0 (suc f) (suc a)) φ ≡ call m (φ f) (φ a)
+build-call m f a φ e = build-member m (suc f) (suc a) φ ∙ rw (e, less-one f, less-one a)
+
+-- ---- the member of a kind
+record Numbered (ms : List Member) (j n : ℕ) : Type 0 where
+  member : Member
+  is : foundIn ms n ≡ Is member
+  number : memberNumber member ≡ j + n
+
+-- the members' numbers rise from j on
+abbrev inOrder : ℕ → List Member → Bool
+inOrder j [] = true
+inOrder j (m ∷ ms) = eqb (memberNumber m) j && inOrder (suc j) ms
+
+numbered : (ms : List Member) (j n : ℕ) → inOrder j ms ≡ true → n < length ms → Numbered ms j n
+numbered [] j n e h = absurd (omega arith)
+numbered (m ∷ ms) j zero e h = record { member = m; is = refl; number = omega (arith, eqb-true (memberNumber m) j (and-left _ _ e)) }
+numbered (m ∷ ms) j (suc n) e h =
+    let w = numbered ms (suc j) n (and-right (eqb (memberNumber m) j) _ e) (omega arith) in
+    record { member = w .member; is = w .is; number = omega (arith, w .number) }
+
+record OfKind (k : ℕ) : Type 0 where
+  member : Member
+  is : memberOfKind k ≡ Is member
+  kind : k ≡ memberKind member
+
+of-kind : (k : ℕ) → 5 ≤ k → k < 21 → OfKind k
+unfolding memberOfKind memberAt
+of-kind k l h =
+    let w = numbered members 0 (k - 5) refl (omega arith) in
+    record { member = w .member; is = rw (le-ltb k 5 l) (w .is); kind = omega (arith, w .number) }
+
+-- ---- a right node
+module _ (i : ℕ) (n : Node) (r : nodeRight i n ≡ true) where
+  abbrev k : ℕ
+  k = n .kind
+
+  made : (k key f s : ℕ) → n .kind ≡ k → n .key ≡ key → n .first ≡ f → n .second ≡ s → Fine (node k key f s) → Fine n
+  made k key f s a b c d x = subst Fine (λ t. record { kind = sym a t; key = sym b t; first = sym c t; second = sym d t }) x
+
+  leaf : (x key : ℕ) → x < 4 → n .kind ≡ x → n .key ≡ key → Fine (node x key 0 0) → Fine n
+  leaf x key h e y f = let l = no-links i n r (leaf-arity k (omega arith)) in made x key 0 0 e y (l .0) (l .1) f
+
+  first-is : (arity k ≡ 0 → ⊥) → n .first ≡ suc (n .first - 1)
+  first-is u = omega (arith, first-given i n r u)
+
+  of-member : OfKind k → n .key ≡ 0 → Fine n
+  unfolding arity
+  of-member o z =
+      let m = o .member in
+      let a : arity k ≡ suc (row m .arguments) = rw (ne-eqb k 4 (λ q. omega (arith, o .kind)), o .is) in
+      let f = first-is (λ w. omega arith) in
+      split (eqb (row m .arguments) 0)
+      (λ p.
+      let q : row m .arguments ≡ 0 = eqb-true _ _ p in
+      made (memberKind m) 0 (suc (n .first - 1)) 0 (o .kind) z f (no-second i n r (omega arith)) (anAsk m (n .first - 1) q))
+      (λ p.
+      let q : row m .arguments ≡ 1 = omega (arith, eqb-false (row m .arguments) 0 p, few-arguments m) in
+      let s = a-second i n r (omega arith) in
+      made (memberKind m) 0 (suc (n .first - 1)) (suc (n .second - 1)) (o .kind) z f (omega arith) (aCall m (n .first - 1) (n .second - 1) q))
+
+  pub right-fine : Fine n
+  unfolding keyRight
+  right-fine =
+      split (eqb k 0) (λ p. leaf 0 (n .key) (omega arith) (eqb-true k 0 p) refl (aNumber (n .key)))
+      (λ p.
+      split (eqb k 1) (λ q. leaf 1 (n .key) (omega arith) (eqb-true k 1 q) refl (aVariable (n .key)))
+      (λ q.
+      split (eqb k 2) (λ u. leaf 2 (n .key) (omega arith) (eqb-true k 2 u) refl (anUnbound (n .key)))
+      (λ u.
+      split (eqb k 3) (λ v. let e = eqb-true k 3 v in leaf 3 0 (omega arith) e (eqb-true (n .key) 0 (rw e at (right-key i n r))) theReadings)
+      (λ v.
+      split (eqb k 4)
+      (λ w.
+      let e = eqb-true k 4 w in
+      let a = function-arity k e in
+      made 4 (n .key) (suc (n .first - 1)) 0 e refl (first-is (λ z. omega arith)) (no-second i n r a) (aFunction (n .key) (n .first - 1)))
+      (λ w.
+      let l = none-of 5 k (((((tt, eqb-false k 0 p), eqb-false k 1 q), eqb-false k 2 u), eqb-false k 3 v), eqb-false k 4 w) in
+      of-member (of-kind k l (ltb-true k 21 (right-kind i n r))) (eqb-true (n .key) 0 (rw (p, q, u, w) at (right-key i n r))))))))
