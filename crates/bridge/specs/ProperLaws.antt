@@ -8,6 +8,7 @@ use borrow.Author.Tests.{eqb-true, eq-eqb, ne-eqb}
 use lib.Dec.{eqb}
 use lib.IntN.{ℤ}
 use lib.ListN.{length}
+use Rattle.language.specs.MembersLaws.{few-arguments}
 use Rattle.language.specs.Limits.{openLambdas}
 use Rattle.language.specs.Names.{packed, sameName, isData, dataWord}
 use Rattle.language.specs.Members.{row}
@@ -23,7 +24,7 @@ use Rattle.meaning.specs.Binding.{Meaning, means, lookUp, named, asLambda, memb
 use Rattle.meaning.specs.Evaluation.{hasName, awaited}
 use Rattle.model.specs.Lists.{All}
 use Rattle.table.specs.Nodes.{isName}
-use Rattle.bridge.specs.Recorded.{few-arguments, given-right}
+use Rattle.bridge.specs.Recorded.{given-right}
 use Rattle.bridge.specs.Words.{word-name}
 use Rattle.bridge.specs.Proper.{Shape, Proper, Has, nodup-awaited, has-joined, has-without, no-more}
 

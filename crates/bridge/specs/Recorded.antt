@@ -14,8 +14,8 @@ use lib.Seq.{getD-at}
 use Rattle.language.specs.Limits.{leastNumber}
 use Rattle.language.specs.Names.{packed, sameName, isData}
 use Rattle.language.specs.Members.{row, memberOf, isUnknown, takes}
+use Rattle.language.specs.MembersLaws.{few-arguments}
 use Rattle.language.specs.declared.members.Member.{Member}
-use Rattle.language.specs.declared.members.Member.the-variants.{Add, Sub, Mul, Div, Gt, Eq, Skip, Take, Count, Sum, Min, Max, At, CountWhere, LongestRun, SumBy}
 use Rattle.language.specs.declared.members.Found.{Found}
 use Rattle.language.specs.declared.members.Found.the-variants.{Is, Unknown}
 use Rattle.language.specs.Cases.{impossible, split}
@@ -289,25 +289,6 @@ name-right x Σ Γ t h =
     (scoped-right x Σ Γ t h)
 
 -- a member that is known and given what it takes
-pub few-arguments : (m : Member) → row m .arguments ≤ 1
-unfolding row
-few-arguments Add = omega arith
-few-arguments Sub = omega arith
-few-arguments Mul = omega arith
-few-arguments Div = omega arith
-few-arguments Gt = omega arith
-few-arguments Eq = omega arith
-few-arguments Skip = omega arith
-few-arguments Take = omega arith
-few-arguments Count = omega arith
-few-arguments Sum = omega arith
-few-arguments Min = omega arith
-few-arguments Max = omega arith
-few-arguments At = omega arith
-few-arguments CountWhere = omega arith
-few-arguments LongestRun = omega arith
-few-arguments SumBy = omega arith
-
 pub given-right : (m : List ℕ) (k : ℕ) → isUnknown (memberOf m) ≡ false → k ≡ takes (memberOf m) → row (member m) .arguments ≡ k
 unfolding member takes
 given-right m k u e = by (memberOf m) refl

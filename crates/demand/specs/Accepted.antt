@@ -30,7 +30,7 @@ use Rattle.model.specs.Invariant.{Invariant}
 use Rattle.model.specs.Graph.{among, formAt, Placed, AllPlaced, Stands, decodes, decode}
 use Rattle.model.specs.Checks as Checks
 use Rattle.table.specs.Memory.{Memory, Node, Entry, entryCount, readingCount, recordingOf, entriesOf, nodesOf}
-use Rattle.table.specs.Nodes.{memberKind, worksKind, arity, memberOfKind, listed, kids, sameNode, build, numberOfKey}
+use Rattle.table.specs.Nodes.{memberKind, kindCount, worksKind, arity, memberOfKind, listed, kids, sameNode, build, numberOfKey}
 use Rattle.table.specs.WellFormed.{every, kindKnown, keyRight, given, arityRight, lower, hasNode, distinct, awaitedBy, awaitedAfter, isDone, doneAt, allDone, settled, namesRight, keptRight, wellFormed}
 use Rattle.table.specs.AwaitedForms.{awaited-build}
 use Rattle.table.specs.NodeKinds.{Fine, aNumber, aVariable, anUnbound, theReadings, aFunction, anAsk, aCall, not-member, member-arity, build-ask, build-call}
@@ -63,8 +63,8 @@ kind-right _ (aVariable x) = refl
 kind-right _ (anUnbound x) = refl
 kind-right _ theReadings = refl
 kind-right _ (aFunction x b) = refl
-kind-right _ (anAsk m f e) = let l = number-below m in lt-ltb (memberKind m) 21 (omega arith)
-kind-right _ (aCall m f a e) = let l = number-below m in lt-ltb (memberKind m) 21 (omega arith)
+kind-right _ (anAsk m f e) = let l = number-below m in lt-ltb (memberKind m) kindCount (omega arith)
+kind-right _ (aCall m f a e) = let l = number-below m in lt-ltb (memberKind m) kindCount (omega arith)
 
 -- a number in range has a key of 32 bits
 key-small : (key : ℕ) → InRange (numberOfKey key) → key < 2 ^ 32

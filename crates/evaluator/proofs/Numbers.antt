@@ -6,21 +6,21 @@ use mathlib.Core.List.{List}
 use Prim.Native.Nat.{ℕ, _<_}
 use borrow.Author.Needs.{needs}
 use borrow.Author.Tests.{ltb-true}
-use lib.Dec.{ltb}
+use lib.Dec.{eqb, ltb}
 use lib.IntN.{ℤ}
 use mir.Syntax.{w32}
 use mir.Val.{SFits, toZ, ofZ}
 use mir.Facts.{toZ-ofZ}
-use Rattle.language.specs.Members.{row}
+use Rattle.language.specs.Members.{kindNumber}
 use Rattle.language.specs.declared.members.Member.{Member}
-use Rattle.language.specs.declared.members.Member.the-variants.{Add, Sub, Mul, Div, Gt, Eq, Skip, Take, Count, Sum, Min, Max, At, CountWhere, LongestRun, SumBy}
 use Rattle.language.specs.declared.members.Found.{Found}
 use Rattle.language.specs.declared.members.Found.the-variants.{Is, Unknown}
 use Rattle.values.specs.declared.Value.{Value}
 use Rattle.values.specs.declared.Value.the-variants.{Number, Missing}
 use Rattle.values.specs.declared.apply.Applied.the-variants.{Done}
-use Rattle.values.specs.Numbers.{onNumbers}
-use Rattle.values.specs.Applied.{ruled1, applied1}
+use Rattle.values.specs.Rules.{Rule, twoNumbers, window, windowNumber, windowRuns, rule, byNumbers, onNumbers}
+use Rattle.values.specs.RulesLaws.{receiverOf, argumentOf, receiver-kind, argument-kind}
+use Rattle.values.specs.Applied.{choose, ruled1, applied1}
 use Rattle.values.specs.Packing.{windowCell}
 use Rattle.values.specs.PackingLaws.{numberIn, unpack-number}
 use Rattle.meaning.specs.FormsLaws.{and-left, and-right}
@@ -30,23 +30,14 @@ pub both-numbers : (a b : ℕ) → (ltb a windowCell && ltb b windowCell) ≡ tr
 both-numbers a b e = (ltb-true a windowCell (and-left _ (ltb b windowCell) e), ltb-true b windowCell (and-right (ltb a windowCell) _ e))
 
 pub two-numbers : (m : Member) (xs : List ℤ) (x y : ℤ) → applied1 m xs (Number x) (Number y) ≡ Done (onNumbers m x y)
-unfolding applied1 ruled1 onNumbers row
-two-numbers Add xs x y = refl
-two-numbers Sub xs x y = refl
-two-numbers Mul xs x y = refl
-two-numbers Div xs x y = refl
-two-numbers Gt xs x y = refl
-two-numbers Eq xs x y = refl
-two-numbers Skip xs x y = refl
-two-numbers Take xs x y = refl
-two-numbers Count xs x y = refl
-two-numbers Sum xs x y = refl
-two-numbers Min xs x y = refl
-two-numbers Max xs x y = refl
-two-numbers At xs x y = refl
-two-numbers CountWhere xs x y = refl
-two-numbers LongestRun xs x y = refl
-two-numbers SumBy xs x y = refl
+unfolding applied1 ruled1 onNumbers
+two-numbers m xs x y = rw (receiver-kind m, argument-kind m) (by (rule m))
+  where
+    by : (r : Rule) → choose (eqb 1 (kindNumber (receiverOf r))) (choose (eqb 1 (kindNumber (argumentOf r))) (Done (byNumbers r x y)) (Done (Missing 2))) (Done (Missing 2)) ≡ Done (byNumbers r x y)
+    by (twoNumbers f) = refl
+    by (window f) = refl
+    by (windowNumber f) = refl
+    by (windowRuns f) = refl
 
 pub call-two : (m : Member) (xs : List ℤ) (a b : ℕ) → a < windowCell → b < windowCell → callOf (Is m) xs a b ≡ Done (onNumbers m (numberIn a) (numberIn b))
 unfolding callOf boundedOf

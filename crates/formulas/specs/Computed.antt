@@ -9,6 +9,7 @@ use Rattle.values.specs.Values
 use Rattle.values.specs.Numbers
 use Rattle.values.specs.Windows
 use Rattle.values.specs.Runs
+use Rattle.values.specs.Rules
 use Rattle.values.specs.Apply
 use Rattle.meaning.specs.Forms
 use Rattle.meaning.specs.Binding
@@ -23,8 +24,8 @@ unfolding parsed Names.bytes Names.packOnto Names.letWord Names.inWord! Names.da
     Tokens.markToken Tokens.tokenAt Tokens.scan Faults.faultNumber Faults.opened Faults.inLet Faults.inLambda Faults.lambdasOf Faults.lambdaNamed
     Faults.markFault Faults.lambdaFault Faults.letNameFault Faults.lambdaNameFault Faults.nameFault Faults.literalFault Faults.callFault Faults.fault
     Faults.counted Reading.placeIn Machine.step Machine.finish Machine.further Machine.ended Machine.judge Machine.readFrom Machine.read
-    Machine.readText Values.ranged Numbers.divided Numbers.onNumbers Windows.total Windows.foldFrom Windows.extreme Windows.ofWindow Windows.onWindow
-    Runs.results Runs.countOf Runs.stretch Runs.longest Runs.ofNumbers Runs.ofRuns Apply.rule0 Apply.rule1 Apply.apply0 Apply.apply1 Forms.shapeOf
+    Machine.readText Values.ranged Numbers.divided Windows.total Windows.foldFrom Windows.extreme
+    Runs.results Runs.countOf Runs.stretch Runs.longest Rules.rule Rules.onNumbers Rules.ofWindow Rules.onWindow Rules.ofRuns Apply.rule0 Apply.rule1 Apply.apply0 Apply.apply1 Forms.shapeOf
     Forms.integerOf Forms.nameOf Forms.memberOf Forms.firstOf Forms.secondOf Forms.same Forms.within Forms.works Binding.lookUp Binding.named
     Binding.member Binding.formE Binding.called Binding.placesE Binding.orderE Evaluation.valueOf Evaluation.runOf Evaluation.lookup
     Evaluation.settled Evaluation.evaluate Evaluation.hasName Evaluation.joined Evaluation.without Evaluation.awaited Evaluation.shows Lists.countIf

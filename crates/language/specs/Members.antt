@@ -9,44 +9,64 @@ use Rattle.language.specs.Names.{bytes}
 use Rattle.language.specs.declared.members.Member.{Member}
 use Rattle.language.specs.declared.members.Member.the-variants.{Add, Sub, Mul, Div, Gt, Eq, Skip, Take, Count, Sum, Min, Max, At, CountWhere, LongestRun, SumBy}
 use Rattle.language.specs.declared.members.Kind.{Kind}
-use Rattle.language.specs.declared.members.Kind.the-variants.{Number, Window, Function, Nothing}
-use Rattle.language.specs.declared.members.Row as Declared
+use Rattle.language.specs.declared.members.Kind.the-variants as Kinds
+use Rattle.language.specs.declared.members.Form.{Form}
+use Rattle.language.specs.declared.members.Form.the-variants.{Numbers, Window, WindowNumber, WindowFunction}
+use Rattle.language.specs.declared.members.Name.{Name}
 use Rattle.language.specs.declared.members.Found.{Found}
 use Rattle.language.specs.declared.members.Found.the-variants.{Is, Unknown}
+
+-- a member's name, and what it is used on and with
+abbrev pub listed : Member → String × Form
+listed Add = ("add", Numbers)
+listed Sub = ("sub", Numbers)
+listed Mul = ("mul", Numbers)
+listed Div = ("div", Numbers)
+listed Gt = ("gt", Numbers)
+listed Eq = ("eq", Numbers)
+listed Skip = ("skip", WindowNumber)
+listed Take = ("take", WindowNumber)
+listed Count = ("count", Window)
+listed Sum = ("sum", Window)
+listed Min = ("min", Window)
+listed Max = ("max", Window)
+listed At = ("at", WindowNumber)
+listed CountWhere = ("countWhere", WindowFunction)
+listed LongestRun = ("longestRun", WindowFunction)
+listed SumBy = ("sumBy", WindowFunction)
+
+abbrev pub argumentsOf : Form → ℕ
+argumentsOf Numbers = 1
+argumentsOf Window = 0
+argumentsOf WindowNumber = 1
+argumentsOf WindowFunction = 1
+
+abbrev pub receiverOf : Form → Kind
+receiverOf Numbers = Kinds.Number
+receiverOf Window = Kinds.Window
+receiverOf WindowNumber = Kinds.Window
+receiverOf WindowFunction = Kinds.Window
+
+-- Nothing where the member takes no argument
+abbrev pub argumentOf : Form → Kind
+argumentOf Numbers = Kinds.Number
+argumentOf Window = Kinds.Nothing
+argumentOf WindowNumber = Kinds.Number
+argumentOf WindowFunction = Kinds.Function
 
 pub record Row : Type 0 where
   pub name : List ℕ
   pub arguments : ℕ
   pub receiver : Kind
-  -- of the argument: Nothing where the member takes none
   pub argument : Kind
 
-abbrev pub onNumber : String → Row
-onNumber s = record { name = bytes s; arguments = 1; receiver = Number; argument = Number }
-
-abbrev pub ofWindow : String → Row
-ofWindow s = record { name = bytes s; arguments = 0; receiver = Window; argument = Nothing }
-
-abbrev pub onWindow : String → Kind → Row
-onWindow s k = record { name = bytes s; arguments = 1; receiver = Window; argument = k }
-
 unfoldable pub row : Member → Row
-row Add = onNumber "add"
-row Sub = onNumber "sub"
-row Mul = onNumber "mul"
-row Div = onNumber "div"
-row Gt = onNumber "gt"
-row Eq = onNumber "eq"
-row Skip = onWindow "skip" Number
-row Take = onWindow "take" Number
-row Count = ofWindow "count"
-row Sum = ofWindow "sum"
-row Min = ofWindow "min"
-row Max = ofWindow "max"
-row At = onWindow "at" Number
-row CountWhere = onWindow "countWhere" Function
-row LongestRun = onWindow "longestRun" Function
-row SumBy = onWindow "sumBy" Function
+row m = record {
+  name = bytes (listed m .0);
+  arguments = argumentsOf (listed m .1);
+  receiver = receiverOf (listed m .1);
+  argument = argumentOf (listed m .1);
+}
 
 abbrev pub members : List Member
 members = Add ∷ Sub ∷ Mul ∷ Div ∷ Gt ∷ Eq ∷ Skip ∷ Take ∷ Count ∷ Sum ∷ Min ∷ Max ∷ At ∷ CountWhere ∷ LongestRun ∷ SumBy ∷ []
@@ -109,14 +129,11 @@ takes Unknown = 0
 
 -- a kind by its number
 abbrev pub kindNumber : Kind → ℕ
-kindNumber Nothing = 0
-kindNumber Number = 1
-kindNumber Window = 2
-kindNumber Function = 3
+kindNumber Kinds.Nothing = 0
+kindNumber Kinds.Number = 1
+kindNumber Kinds.Window = 2
+kindNumber Kinds.Function = 3
 
--- the table as the code has it: a name with zeros up to 12 bytes, and its length
-abbrev pub rowWith : List ℕ → ℕ → ℕ → Kind → Kind → Declared.Row
-rowWith name size arguments receiver argument = record { name = name; size = size; arguments = arguments; receiver = receiver; argument = argument }
-
-unfoldable pub rowOf : Member → Declared.Row
-rowOf m = rowWith (row m .name ++ replicate (12 - length (row m .name)) 0) (length (row m .name)) (row m .arguments) (row m .receiver) (row m .argument)
+-- a name as the code has it: with zeros up to 12 bytes, and its length
+unfoldable pub padded : Member → Name
+padded m = (row m .name ++ replicate (12 - length (row m .name)) 0, length (row m .name))

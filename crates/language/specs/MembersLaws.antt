@@ -2,7 +2,7 @@
 -- Assumes nothing.
 use mathlib.Core.Path.{_≡_, refl, sym, ap, _∙_}
 use mathlib.Core.Bool.{Bool, true, false, _&&_, and-eq-true-iff}
-use mathlib.Core.List.{List, [], _∷_}
+use mathlib.Core.List.{List, [], _∷_, map}
 use mathlib.Core.Logic.{_↔_}
 use Prim.Native.Nat.{ℕ, zero, suc, _+_, _-_, _≤_, _<_}
 use native.Mathlib.Nat.{add-zero, zero-add, add-suc, suc-add}
@@ -11,12 +11,12 @@ use native.Mathlib.Omega.{arith}
 use lib.Dec.{eqb, leb}
 use lib.ListN.{length, getD, take, drop, replicate, drop-of-length-le, length-take, length-append, length-replicate}
 use lib.Seq.{take-at, getD-take, ext-getD}
-use borrow.Author.Tests.{eqb-true, eq-eqb, ne-eqb, leb-true}
+use borrow.Author.Tests.{eqb-true, eq-eqb, leb-true}
 use Rattle.language.specs.Names.{bytes}
-use Rattle.language.specs.Members.{row, members, memberNumber, foundIn, memberAt, sameBytes, pickFound, namedIn, memberOf, rowOf}
+use Rattle.language.specs.Members.{row, members, memberNumber, foundIn, memberAt, sameBytes, pickFound, namedIn, memberOf, padded}
 use Rattle.language.specs.declared.members.Member.{Member}
 use Rattle.language.specs.declared.members.Member.the-variants.{Add, Sub, Mul, Div, Gt, Eq, Skip, Take, Count, Sum, Min, Max, At, CountWhere, LongestRun, SumBy}
-use Rattle.language.specs.declared.members.Row.{Row}
+use Rattle.language.specs.declared.members.Name.{Name}
 use Rattle.language.specs.declared.members.Found.{Found}
 use Rattle.language.specs.declared.members.Found.the-variants.{Is, Unknown}
 
@@ -78,7 +78,7 @@ found-inside [] n m e = let z : _≡_ {A = ℕ} 0 1 = cc in absurd (omega arith)
 found-inside (k ∷ ms) zero m e = (omega arith, cc)
 found-inside (k ∷ ms) (suc n) m e = let h = found-inside ms n m e in (omega arith, h .1)
 
-pub number-below : (m : Member) → memberNumber m < 16
+pub number-below : (m : Member) → memberNumber m < length members
 unfolding memberAt
 number-below m = found-inside members (memberNumber m) m (number-found m) .0
 
@@ -87,16 +87,22 @@ found-beyond [] n h = refl
 found-beyond (k ∷ ms) zero h = absurd (omega arith)
 found-beyond (k ∷ ms) (suc n) h = found-beyond ms n (omega arith)
 
-pub number-beyond : (n : ℕ) → 16 ≤ n → memberAt n ≡ Unknown
+pub number-beyond : (n : ℕ) → length members ≤ n → memberAt n ≡ Unknown
 unfolding memberAt
 number-beyond n h = found-beyond members n h
 
--- a test that passes in the table passes for every member
-each : (p : Member → Bool) → passes (λ i m. p m) 0 members ≡ true → (m : Member) → p m ≡ true
+pub number-row : (m : Member) → getD members (memberNumber m) Add ≡ m
 unfolding memberAt
-each p t m =
-    let h = found-inside members (memberNumber m) m (number-found m) in
-    rw (h .1) at (passes-at (λ i k. p k) Add members t (memberNumber m) (h .0))
+number-row m = found-inside members (memberNumber m) m (number-found m) .1
+
+-- a test that passes in the table passes for every member
+pub each : (p : Member → Bool) → passes (λ i m. p m) 0 members ≡ true → (m : Member) → p m ≡ true
+each p t m = rw (number-row m) at (passes-at (λ i k. p k) Add members t (memberNumber m) (number-below m))
+
+-- no member takes more than one argument
+pub few-arguments : (m : Member) → row m .arguments ≤ 1
+unfolding row
+few-arguments m = leb-true (row m .arguments) 1 (each (λ k. leb (row k .arguments) 1) refl m)
 
 -- ---- names
 
@@ -152,54 +158,58 @@ name-own w m e = named-in members w m e
 
 -- ---- the search for a name, row by row
 
--- the name of the member, if there is one
-abbrev pub nameOf : Found → List ℕ
-nameOf (Is m) = row m .name
-nameOf Unknown = []
-
-rest-row : (ms : List Member) (n : ℕ) (w : List ℕ) → n < length ms → namedIn (drop n ms) w ≡ pickFound (sameBytes w (nameOf (foundIn ms n))) (foundIn ms n) (namedIn (drop (suc n) ms) w)
+rest-row : (ms : List Member) (n : ℕ) (w : List ℕ) → n < length ms
+    → namedIn (drop n ms) w ≡ pickFound (sameBytes w (row (getD ms n Add) .name)) (foundIn ms n) (namedIn (drop (suc n) ms) w)
 unfolding namedIn
 rest-row [] n w h = absurd (omega arith)
 rest-row (m ∷ ms) zero w h = refl
 rest-row (m ∷ ms) (suc n) w h = rest-row ms n w (omega arith)
 
-pub row-is : (n : ℕ) (w : List ℕ) → n < 16 → sameBytes w (nameOf (memberAt n)) ≡ true → memberAt n ≡ namedIn (drop n members) w
-unfolding memberAt
-row-is n w h e = rw (rest-row members n w h, e)
+module _ (n : ℕ) (w : List ℕ) (h : n < length members) where
+  pub row-is : sameBytes w (row (getD members n Add) .name) ≡ true → memberAt n ≡ namedIn (drop n members) w
+  unfolding memberAt
+  row-is e = rw (rest-row members n w h, e)
 
-pub row-not : (n : ℕ) (w : List ℕ) → n < 16 → sameBytes w (nameOf (memberAt n)) ≡ false → namedIn (drop (n + 1) members) w ≡ namedIn (drop n members) w
-unfolding memberAt
-row-not n w h e = rw (add-one, rest-row members n w h, e)
+  pub row-not : sameBytes w (row (getD members n Add) .name) ≡ false → namedIn (drop (n + 1) members) w ≡ namedIn (drop n members) w
+  row-not e = rw (add-one, rest-row members n w h, e)
 
-pub row-none : (n : ℕ) (w : List ℕ) → 16 ≤ n → namedIn (drop n members) w ≡ Unknown
+pub row-none : (n : ℕ) (w : List ℕ) → length members ≤ n → namedIn (drop n members) w ≡ Unknown
 unfolding namedIn
 row-none n w h = rw (drop-of-length-le members h)
 
--- ---- rows as the code has them
+-- ---- the names as the code has them: in the order of the members
 
-pub row-told : (m k : Member) (r : Row) → r ≡ rowOf k → m ≡ k → r ≡ rowOf m
-row-told m k r e h = e ∙ ap rowOf (sym h)
+column : {A : Type 0} (g : Member → A) (ms : List Member) (n : ℕ) (d : A) → n < length ms → getD (map g ms) n d ≡ g (getD ms n Add)
+column g [] n d h = absurd (omega arith)
+column g (m ∷ ms) zero d h = refl
+column g (m ∷ ms) (suc n) d h = column g ms n d (omega arith)
 
-pub row-short : (m : Member) → rowOf m .size ≤ 12
-unfolding rowOf row bytes
-row-short m = leb-true (length (row m .name)) 12 (each (λ k. leb (length (row k .name)) 12) refl m)
+name-short : (m : Member) → padded m .1 ≤ 12
+unfolding padded row bytes
+name-short m = leb-true (length (row m .name)) 12 (each (λ k. leb (length (row k .name)) 12) refl m)
 
-pub row-full : (m : Member) → length (rowOf m .name) ≡ 12
-unfolding rowOf
-row-full m =
-    let short = row-short m in
+name-full : (m : Member) → length (padded m .0) ≡ 12
+unfolding padded
+name-full m =
+    let short = name-short m in
     let a = length-append (row m .name) (replicate (12 - length (row m .name)) 0) in
     let r = length-replicate {A = ℕ} (12 - length (row m .name)) 0 in
     omega arith
 
-pub row-name : (m : Member) → take (rowOf m .size) (rowOf m .name) ≡ row m .name
-unfolding rowOf
-row-name m = take-at (row m .name) (replicate (12 - length (row m .name)) 0) (length (row m .name)) refl
+name-taken : (m : Member) → take (padded m .1) (padded m .0) ≡ row m .name
+unfolding padded
+name-taken m = take-at (row m .name) (replicate (12 - length (row m .name)) 0) (length (row m .name)) refl
 
-no-bytes : (w : List ℕ) → sameBytes w [] ≡ eqb (length w) 0
-unfolding sameBytes
-no-bytes [] = refl
-no-bytes (b ∷ w) = sym (ne-eqb (suc (length w)) 0 (λ e. omega arith))
+module _ (n : ℕ) (d : Name) (h : n < length members) where
+  named-at : getD (map padded members) n d ≡ padded (getD members n Add)
+  named-at = column padded members n d h
+
+  pub name-fits : (getD (map padded members) n d .1 ≤ 12) × (length (getD (map padded members) n d .0) ≡ 12)
+  name-fits = rw named-at (name-short _, name-full _)
+
+  pub name-test : (b : Bool) (w : List ℕ) → b ≡ sameBytes w (take (getD (map padded members) n d .1) (getD (map padded members) n d .0))
+      → b ≡ sameBytes w (row (getD members n Add) .name)
+  name-test b w e = e ∙ ap (λ (x : Name). sameBytes w (take (x .1) (x .0))) named-at ∙ ap (sameBytes w) (name-taken _)
 
 -- a word against the first s bytes of a row's name
 module _ (w name : List ℕ) (s : ℕ) (full : s ≤ length name) where
@@ -216,10 +226,3 @@ module _ (w name : List ℕ) (s : ℕ) (full : s ≤ length name) where
   all-bytes l h =
       let p = part-length in
       same-bytes w (take s name) .1 (ext-getD 0 w (take s name) (omega arith) (λ k q. h k (omega arith) ∙ sym (getD-take s name k 0 (omega arith))))
-
--- what the test of a number's name comes to
-pub named-row : (b : Bool) (w : List ℕ) (n : ℕ) (m : Member) (r : Row) → b ≡ sameBytes w (take (r .size) (r .name)) → r ≡ rowOf m → memberAt n ≡ Is m → b ≡ sameBytes w (nameOf (memberAt n))
-named-row b w n m r e h k = e ∙ ap (λ (x : Row). sameBytes w (take (x .size) (x .name))) h ∙ ap (sameBytes w) (row-name m) ∙ ap (λ (f : Found). sameBytes w (nameOf f)) (sym k)
-
-pub named-none : (w : List ℕ) (n : ℕ) → memberAt n ≡ Unknown → eqb (length w) 0 ≡ sameBytes w (nameOf (memberAt n))
-named-none w n k = sym (no-bytes w) ∙ ap (λ (f : Found). sameBytes w (nameOf f)) (sym k)

@@ -2,8 +2,7 @@
 ghost use mathlib.Core.Path.{_≡_};
 ghost use Prim.Native.Nat.{_≤_};
 ghost use lib.ListN.{length, take};
-ghost use Rattle.language.specs.Members.{row, memberNumber, memberAt, sameBytes, memberOf, rowWith, rowOf};
-ghost use Rattle.language.specs.MembersLaws.{nameOf};
+ghost use Rattle.language.specs.Members.{listed, argumentsOf, receiverOf, argumentOf, row, memberNumber, memberAt, sameBytes, memberOf};
 
 pub enum Member {
     Add,
@@ -37,75 +36,41 @@ pub enum Found {
     Unknown,
 }
 
-// A row of the member table: the name, with zeros up to 12 bytes, and its length; how many arguments the member takes; what it is used on,
-// and with.
-pub struct Row {
-    pub name: [u8; 12],
-    pub size: u8,
-    pub arguments: u8,
-    pub receiver: Kind,
-    pub argument: Kind,
+// What a member is used on and with: two numbers, a window alone, a window and a number, or a window and a function.
+pub enum Form {
+    Numbers,
+    Window,
+    WindowNumber,
+    WindowFunction,
 }
 
-fn on_number(name: [u8; 12], size: u8) -> Row
-    ensures { λ r. ⌜ r ≡ rowWith name size 1 Kind.Number Kind.Number ⌝ }
-{
-    Row {
-        name,
-        size,
-        arguments: 1,
-        receiver: Kind::Number,
-        argument: Kind::Number,
-    }
-}
+// A member's name, with zeros up to 12 bytes, and its length.
+struct Name(pub [u8; 12], pub u8);
 
-fn of_window(name: [u8; 12], size: u8) -> Row
-    ensures { λ r. ⌜ r ≡ rowWith name size 0 Kind.Window Kind.Nothing ⌝ }
-{
-    Row {
-        name,
-        size,
-        arguments: 0,
-        receiver: Kind::Window,
-        argument: Kind::Nothing,
-    }
-}
+// How many members there are.
+pub const MEMBERS: usize = 16;
 
-fn on_window(name: [u8; 12], size: u8, argument: Kind) -> Row
-    ensures { λ r. ⌜ r ≡ rowWith name size 1 Kind.Window argument ⌝ }
-{
-    Row {
-        name,
-        size,
-        arguments: 1,
-        receiver: Kind::Window,
-        argument,
-    }
-}
-
-// The member table: reader and evaluator look members up here alone.
-pub fn row_of(m: Member) -> Row
-    ensures { λ r. ⌜ r ≡ rowOf m ⌝ }
-{
-    match m {
-        Member::Add => on_number(*b"add\0\0\0\0\0\0\0\0\0", 3),
-        Member::Sub => on_number(*b"sub\0\0\0\0\0\0\0\0\0", 3),
-        Member::Mul => on_number(*b"mul\0\0\0\0\0\0\0\0\0", 3),
-        Member::Div => on_number(*b"div\0\0\0\0\0\0\0\0\0", 3),
-        Member::Gt => on_number(*b"gt\0\0\0\0\0\0\0\0\0\0", 2),
-        Member::Eq => on_number(*b"eq\0\0\0\0\0\0\0\0\0\0", 2),
-        Member::Skip => on_window(*b"skip\0\0\0\0\0\0\0\0", 4, Kind::Number),
-        Member::Take => on_window(*b"take\0\0\0\0\0\0\0\0", 4, Kind::Number),
-        Member::Count => of_window(*b"count\0\0\0\0\0\0\0", 5),
-        Member::Sum => of_window(*b"sum\0\0\0\0\0\0\0\0\0", 3),
-        Member::Min => of_window(*b"min\0\0\0\0\0\0\0\0\0", 3),
-        Member::Max => of_window(*b"max\0\0\0\0\0\0\0\0\0", 3),
-        Member::At => on_window(*b"at\0\0\0\0\0\0\0\0\0\0", 2, Kind::Number),
-        Member::CountWhere => on_window(*b"countWhere\0\0", 10, Kind::Function),
-        Member::LongestRun => on_window(*b"longestRun\0\0", 10, Kind::Function),
-        Member::SumBy => on_window(*b"sumBy\0\0\0\0\0\0\0", 5, Kind::Function),
-    }
-}
+// The member table has two columns: the names, in the order of the members' numbers, and the forms, which form_of gives. Reader and evaluator
+// look members up here alone. A constant array is laid out anew at each look-up: the reader searches the whole column, so that costs it
+// nothing, but an application of a member would take twice as long.
+const NAMES: [Name; MEMBERS] = [
+    Name(*b"add\0\0\0\0\0\0\0\0\0", 3),
+    Name(*b"sub\0\0\0\0\0\0\0\0\0", 3),
+    Name(*b"mul\0\0\0\0\0\0\0\0\0", 3),
+    Name(*b"div\0\0\0\0\0\0\0\0\0", 3),
+    Name(*b"gt\0\0\0\0\0\0\0\0\0\0", 2),
+    Name(*b"eq\0\0\0\0\0\0\0\0\0\0", 2),
+    Name(*b"skip\0\0\0\0\0\0\0\0", 4),
+    Name(*b"take\0\0\0\0\0\0\0\0", 4),
+    Name(*b"count\0\0\0\0\0\0\0", 5),
+    Name(*b"sum\0\0\0\0\0\0\0\0\0", 3),
+    Name(*b"min\0\0\0\0\0\0\0\0\0", 3),
+    Name(*b"max\0\0\0\0\0\0\0\0\0", 3),
+    Name(*b"at\0\0\0\0\0\0\0\0\0\0", 2),
+    Name(*b"countWhere\0\0", 10),
+    Name(*b"longestRun\0\0", 10),
+    Name(*b"sumBy\0\0\0\0\0\0\0", 5),
+];
 
 // The member of a number.
 pub fn member_at(n: u8) -> Found
@@ -156,40 +121,97 @@ pub fn number_of(m: Member) -> u8
     }
 }
 
+// What a member is used on and with.
+fn form_of(m: Member) -> Form
+    ensures { λ r. ⌜ r ≡ listed m .1 ⌝ }
+{
+    match m {
+        Member::Add => Form::Numbers,
+        Member::Sub => Form::Numbers,
+        Member::Mul => Form::Numbers,
+        Member::Div => Form::Numbers,
+        Member::Gt => Form::Numbers,
+        Member::Eq => Form::Numbers,
+        Member::Skip => Form::WindowNumber,
+        Member::Take => Form::WindowNumber,
+        Member::Count => Form::Window,
+        Member::Sum => Form::Window,
+        Member::Min => Form::Window,
+        Member::Max => Form::Window,
+        Member::At => Form::WindowNumber,
+        Member::CountWhere => Form::WindowFunction,
+        Member::LongestRun => Form::WindowFunction,
+        Member::SumBy => Form::WindowFunction,
+    }
+}
+
+fn form_arguments(f: Form) -> u8
+    ensures { λ r. ⌜ r ≡ argumentsOf f ⌝ }
+{
+    match f {
+        Form::Numbers => 1,
+        Form::Window => 0,
+        Form::WindowNumber => 1,
+        Form::WindowFunction => 1,
+    }
+}
+
+fn form_receiver(f: Form) -> Kind
+    ensures { λ r. ⌜ r ≡ receiverOf f ⌝ }
+{
+    match f {
+        Form::Numbers => Kind::Number,
+        Form::Window => Kind::Window,
+        Form::WindowNumber => Kind::Window,
+        Form::WindowFunction => Kind::Window,
+    }
+}
+
+fn form_argument(f: Form) -> Kind
+    ensures { λ r. ⌜ r ≡ argumentOf f ⌝ }
+{
+    match f {
+        Form::Numbers => Kind::Number,
+        Form::Window => Kind::Nothing,
+        Form::WindowNumber => Kind::Number,
+        Form::WindowFunction => Kind::Function,
+    }
+}
+
 // How many arguments a member takes.
 pub fn arguments(m: Member) -> u8
     ensures { λ r. ⌜ r ≡ row m .arguments ⌝ }
 {
-    row_of(m).arguments
+    form_arguments(form_of(m))
 }
 
 // What a member is used on.
 pub fn receiver(m: Member) -> Kind
     ensures { λ r. ⌜ r ≡ row m .receiver ⌝ }
 {
-    row_of(m).receiver
+    form_receiver(form_of(m))
 }
 
 // What a member is used with.
 pub fn argument(m: Member) -> Kind
     ensures { λ r. ⌜ r ≡ row m .argument ⌝ }
 {
-    row_of(m).argument
+    form_argument(form_of(m))
 }
 
-// Whether the word is the name in a row.
-fn has_name(row: Row, word: &[u8]) -> bool
-    requires { ⌜ (row .size ≤ 12) × (length (row .name) ≡ 12) ⌝ }
-    ensures { λ r. ⌜ r ≡ sameBytes (now (word .entry)) (take (row .size) (row .name)) ⌝ }
+// Whether the word is a name of the table.
+fn has_name(name: Name, word: &[u8]) -> bool
+    requires { ⌜ (name .1 ≤ 12) × (length (name .0) ≡ 12) ⌝ }
+    ensures { λ r. ⌜ r ≡ sameBytes (now (word .entry)) (take (name .1) (name .0)) ⌝ }
 {
-    let name = row.name;
-    let size = row.size as usize;
+    let bytes = name.0;
+    let size = name.1 as usize;
     if word.len() != size {
         return false;
     }
     let mut i = 0;
     while i < size {
-        if word[i] != name[i] {
+        if word[i] != bytes[i] {
             return false;
         }
         i += 1;
@@ -197,23 +219,14 @@ fn has_name(row: Row, word: &[u8]) -> bool
     true
 }
 
-// Whether the word is the name of member n.
-fn is_named(n: u8, word: &[u8]) -> bool
-    ensures { λ r. ⌜ r ≡ sameBytes (now (word .entry)) (nameOf (memberAt n)) ⌝ }
-{
-    match member_at(n) {
-        Found::Is(m) => has_name(row_of(m), word),
-        Found::Unknown => word.len() == 0,
-    }
-}
-
 // The member of a name.
 pub fn named(word: &[u8]) -> Found
     ensures { λ r. ⌜ r ≡ memberOf (now (word .entry)) ⌝ }
 {
+    let names = NAMES;
     let mut n: u8 = 0;
-    while n < 16 {
-        if is_named(n, word) {
+    while (n as usize) < MEMBERS {
+        if has_name(names[n as usize], word) {
             return member_at(n);
         }
         n += 1;

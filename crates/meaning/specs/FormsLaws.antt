@@ -1,5 +1,5 @@
 -- The test `same` is equality of forms, and what lies within a form is the form itself or lies within a dependency. Assumes nothing.
-use mathlib.Core.Path.{_≡_, refl, sym, ap, _∙_}
+use mathlib.Core.Path.{_≡_, refl, ap}
 use mathlib.Core.Logic.{_⊎_, inl, inr}
 use mathlib.Core.Bool.{Bool, true, _&&_, _||_, and-eq-true-iff}
 use Prim.Native.Nat.{ℕ, zero, suc}
@@ -7,10 +7,9 @@ use borrow.Author.Tests.{eqb-true, eq-eqb}
 use lib.IntN.{ℤ, pos, negsuc}
 use Rattle.language.specs.Cases.{impossible}
 pub use Rattle.language.specs.Cases.{impossible as no-way, either, or-right}
-use Rattle.language.specs.Members.{memberNumber, members, foundIn}
-use Rattle.language.specs.declared.members.Found.the-variants.{Is}
+use Rattle.language.specs.Members.{memberNumber}
+use Rattle.language.specs.MembersLaws.{number-injective}
 use Rattle.language.specs.declared.members.Member.{Member}
-use Rattle.language.specs.declared.members.Member.the-variants.{Add, Sub, Mul, Div, Gt, Eq, Skip, Take, Count, Sum, Min, Max, At, CountWhere, LongestRun, SumBy}
 use Rattle.values.specs.Values.{sameℤ}
 use Rattle.meaning.specs.Forms.{Form, number, variable, unbound, readings, ask, call, function, sameMember, shapeOf, integerOf, nameOf, memberOf, firstOf, secondOf, same, dependency, within}
 
@@ -32,28 +31,8 @@ sameℤ-self : (a : ℤ) → sameℤ a a ≡ true
 sameℤ-self (pos m) = eq-eqb m m refl
 sameℤ-self (negsuc m) = eq-eqb m m refl
 
-pub found : (m : Member) → foundIn members (memberNumber m) ≡ Is m
-found Add = refl
-found Sub = refl
-found Mul = refl
-found Div = refl
-found Gt = refl
-found Eq = refl
-found Skip = refl
-found Take = refl
-found Count = refl
-found Sum = refl
-found Min = refl
-found Max = refl
-found At = refl
-found CountWhere = refl
-found LongestRun = refl
-found SumBy = refl
-
 sameMember-eq : (m n : Member) → sameMember m n ≡ true → m ≡ n
-sameMember-eq m n h =
-    let e : Is m ≡ Is n = sym (found m) ∙ ap (foundIn members) (eqb-true (memberNumber m) (memberNumber n) h) ∙ found n in
-    cc
+sameMember-eq m n h = number-injective m n (eqb-true (memberNumber m) (memberNumber n) h)
 
 -- a form is made of its pieces
 remake : ℕ → ℤ → ℕ → Member → Form → Form → Form

@@ -12,9 +12,9 @@ use lib.Dec.{eqb, leb}
 use lib.IntN.{ℤ, pos, natAbs, _+ℤ_}
 use lib.ListN.{length, getD, take, drop}
 use lib.Signed.{mag}
-use Rattle.language.specs.Members.{row, memberAt}
+use Rattle.language.specs.Members.{row, memberNumber}
+use Rattle.language.specs.MembersLaws.{number-found}
 use Rattle.language.specs.declared.members.Member.{Member}
-use Rattle.language.specs.declared.members.Member.the-variants.{Add, Sub, Mul, Div, Gt, Eq, Skip, Take, Count, Sum, Min, Max, At, CountWhere, LongestRun, SumBy}
 use Rattle.language.specs.declared.members.Found.the-variants.{Is}
 use Rattle.values.specs.declared.Value.{Value}
 use Rattle.values.specs.declared.Value.the-variants.{Number, Window, Function, Delayed, Missing}
@@ -28,7 +28,7 @@ use Rattle.values.specs.Kept.{Kept}
 use Rattle.values.specs.Packing.{packOf, unpackOf, functionCell, delayedCell, missingCell}
 use Rattle.values.specs.PackingLaws.{round}
 use Rattle.values.specs.Ranges.{up-size}
-use Rattle.values.specs.Runs.{ofRuns}
+use Rattle.values.specs.Rules.{ofRuns}
 use Rattle.values.specs.Tallies.{begun}
 use Rattle.values.specs.Tallies as Tallies
 use Rattle.values.specs.TallyLaws.{finished-is}
@@ -48,23 +48,10 @@ use Rattle.refine.specs.Frames.{Right, GoRight, Small, turn, set-value, 
 
 -- ---- the member of a member's kind
 member-kind : (m : Member) → memberOfKind (memberKind m) ≡ Is m
-unfolding memberOfKind memberAt
-member-kind Add = refl
-member-kind Sub = refl
-member-kind Mul = refl
-member-kind Div = refl
-member-kind Gt = refl
-member-kind Eq = refl
-member-kind Skip = refl
-member-kind Take = refl
-member-kind Count = refl
-member-kind Sum = refl
-member-kind Min = refl
-member-kind Max = refl
-member-kind At = refl
-member-kind CountWhere = refl
-member-kind LongestRun = refl
-member-kind SumBy = refl
+unfolding memberOfKind
+member-kind m =
+    let e : memberKind m - 5 ≡ memberNumber m = omega arith in
+    rw (le-ltb (memberKind m) 5 (omega arith), e) (number-found m)
 
 -- ---- cells of values that can be kept
 module _ (n : ℕ) (few : n ≤ 1024) where

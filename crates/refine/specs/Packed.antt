@@ -20,7 +20,8 @@ use Rattle.values.specs.declared.apply.Applied.{Applied}
 use Rattle.values.specs.declared.apply.Applied.the-variants.{Done, Run}
 use Rattle.values.specs.declared.runs.Tally.{Tally}
 use Rattle.values.specs.Windows.{readingsIn}
-use Rattle.values.specs.Runs.{results, ofRuns}
+use Rattle.values.specs.Runs.{results}
+use Rattle.values.specs.Rules.{ofRuns}
 use Rattle.values.specs.Apply.{apply1}
 use Rattle.values.specs.Applied.{applied1, completed}
 use Rattle.values.specs.ApplyLaws.{completed-is}

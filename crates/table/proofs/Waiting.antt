@@ -9,7 +9,8 @@ use borrow.Author.Needs.{needs}
 use borrow.Author.Tests.{lt-ltb, le-ltb, le-leb, lt-leb, eq-eqb, ne-eqb, leb-true}
 use lib.Dec.{leb, eqb}
 use lib.ListN.{getD, set}
-use Rattle.table.specs.Links.{isBelow}
+use Rattle.table.specs.Links.{kindAt, firstAt, secondAt, keyAt, isBelow}
+use Rattle.table.specs.Nodes.{variableKind, functionKind}
 use Rattle.table.specs.Waits.{holds, awaits, joined, isNamed, without, waitsOf, waitsAt, waitsFrom, covers, fewAt, ownOf}
 
 pub awaits-is : (w v : ℕ) (r : Bool) → r ≡ holds w v → leb 1 v && r ≡ awaits w v
@@ -32,7 +33,7 @@ module _ (w u : ℕ) (h : w / 65536 ≡ 0 → ⊥) where
   unfolding joined
   join-both k e = rw (ne-eqb _ _ h, lt-leb _ _ k, ne-eqb _ _ e)
 
-pub named-is : (cells : List ℕ) (key p r : ℕ) → 1 ≤ p → r ≡ getD cells (4 * (p - 1)) 0 → eqb r key ≡ isNamed cells key p
+pub named-is : (cells : List ℕ) (key p r : ℕ) → 1 ≤ p → r ≡ keyAt cells (p - 1) → eqb r key ≡ isNamed cells key p
 named-is cells key p r h e = rw (le-leb _ _ h, e)
 
 pub named-none : (cells : List ℕ) (key p : ℕ) → p < 1 → false ≡ isNamed cells key p
@@ -69,22 +70,22 @@ waits-below waits link i r e t = rw (sym e ∙ t)
 pub waits-none : (waits : List ℕ) (link i : ℕ) (r : Bool) → r ≡ isBelow link i → r ≡ false → 0 ≡ waitsOf waits link i
 waits-none waits link i r e t = rw (sym e ∙ t)
 
-module _ (links cells waits : List ℕ) (i kind : ℕ) (e : kind ≡ getD links (3 * i) 0) where
-  pub at-variable : kind ≡ 1 → (i + 1) * 65536 ≡ waitsAt links cells waits i
+module _ (links cells waits : List ℕ) (i kind : ℕ) (e : kind ≡ kindAt links i) where
+  pub at-variable : kind ≡ variableKind → (i + 1) * 65536 ≡ waitsAt links cells waits i
   unfolding waitsAt
   at-variable h = rw (sym e ∙ h)
 
-  module _ (n : kind ≡ 1 → ⊥) where
-    pub at-leaf : kind < 4 → 0 ≡ waitsAt links cells waits i
+  module _ (n : kind ≡ variableKind → ⊥) where
+    pub at-leaf : kind < functionKind → 0 ≡ waitsAt links cells waits i
     unfolding waitsAt
     at-leaf h = rw (← e, ne-eqb _ _ n, lt-ltb _ _ h)
 
-    module _ (m : 4 ≤ kind) (f g first : ℕ) (p : f ≡ getD links (3 * i + 1) 0) (q : first ≡ waitsOf waits f i) where
-      pub at-function : kind ≡ 4 → (key r : ℕ) → key ≡ getD cells (4 * i) 0 → r ≡ without cells key first → r ≡ waitsAt links cells waits i
+    module _ (m : functionKind ≤ kind) (f g first : ℕ) (p : f ≡ firstAt links i) (q : first ≡ waitsOf waits f i) where
+      pub at-function : kind ≡ functionKind → (key r : ℕ) → key ≡ keyAt cells i → r ≡ without cells key first → r ≡ waitsAt links cells waits i
       unfolding waitsAt
       at-function h key r k d = rw (← e, ← p, ← k, ← q, ne-eqb _ _ n, le-ltb _ _ m, eq-eqb _ _ h) d
 
-      pub at-member : (kind ≡ 4 → ⊥) → g ≡ getD links (3 * i + 2) 0 → (second r : ℕ) → second ≡ waitsOf waits g i → r ≡ joined first second → r ≡ waitsAt links cells waits i
+      pub at-member : (kind ≡ functionKind → ⊥) → g ≡ secondAt links i → (second r : ℕ) → second ≡ waitsOf waits g i → r ≡ joined first second → r ≡ waitsAt links cells waits i
       unfolding waitsAt
       at-member h s second r u d = rw (← e, ← p, ← s, ← q, ← u, ne-eqb _ _ n, le-ltb _ _ m, ne-eqb _ _ h) d
 
@@ -102,7 +103,7 @@ pub covers-is : (w u : ℕ) (r s : Bool) → r ≡ holds w (u / 65536) → s ≡
 covers-is w u r s d e = rw (d, e)
 
 pub few-here : (links waits : List ℕ) (i g second : ℕ) (r : Bool) → r ≡ covers (getD waits i 0) second → second ≡ waitsOf waits g i
-    → g ≡ getD links (3 * i + 2) 0 → r ≡ fewAt links waits i
+    → g ≡ secondAt links i → r ≡ fewAt links waits i
 unfolding fewAt
 few-here links waits i g second r e q p = rw (← p, ← q) e
 

@@ -5,9 +5,7 @@ use Prim.Native.Nat.{ℕ, _≤_, _<_}
 use native.Mathlib.Omega.{arith}
 use borrow.Author.Tests.{eqb-true, eq-eqb, ne-eqb, lt-ltb}
 use lib.Dec.{leb, eqb}
-use Rattle.language.specs.Members.{row}
-use Rattle.language.specs.declared.members.Member.{Member}
-use Rattle.language.specs.declared.members.Member.the-variants.{Add, Sub, Mul, Div, Gt, Eq, Skip, Take, Count, Sum, Min, Max, At, CountWhere, LongestRun, SumBy}
+use Rattle.language.specs.MembersLaws.{few-arguments}
 use Rattle.language.specs.declared.members.Found.{Found}
 use Rattle.language.specs.declared.members.Found.the-variants.{Is, Unknown}
 use Rattle.meaning.specs.FormsLaws.{and-left, and-right}
@@ -17,26 +15,6 @@ use Rattle.table.specs.Nodes.{memberOfKind, memberArity, arity}
 use Rattle.table.specs.WellFormed.{arityRight}
 use Rattle.table.specs.Right.{nodeRight}
 use Rattle.table.specs.RightLaws.{right-arity, second-given}
-
--- no member takes more than one argument
-pub few-arguments : (m : Member) → row m .arguments ≤ 1
-unfolding row
-few-arguments Add = omega arith
-few-arguments Sub = omega arith
-few-arguments Mul = omega arith
-few-arguments Div = omega arith
-few-arguments Gt = omega arith
-few-arguments Eq = omega arith
-few-arguments Skip = omega arith
-few-arguments Take = omega arith
-few-arguments Count = omega arith
-few-arguments Sum = omega arith
-few-arguments Min = omega arith
-few-arguments Max = omega arith
-few-arguments At = omega arith
-few-arguments CountWhere = omega arith
-few-arguments LongestRun = omega arith
-few-arguments SumBy = omega arith
 
 pub arity-few : (k : ℕ) → arity k ≤ 2
 unfolding arity

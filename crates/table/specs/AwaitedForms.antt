@@ -8,6 +8,7 @@ use borrow.Author.Tests.{eqb-true, eqb-false, ne-eqb}
 use lib.Dec.{eqb}
 use lib.ListN.{getD}
 use Rattle.language.specs.Members.{row}
+use Rattle.language.specs.MembersLaws.{few-arguments}
 use Rattle.language.specs.declared.members.Found.{Found}
 use Rattle.language.specs.declared.members.Found.the-variants.{Is, Unknown}
 use Rattle.meaning.specs.Forms.{Form}
@@ -18,7 +19,7 @@ use Rattle.table.specs.Nodes.{memberOfKind, memberArity, memberForm, ari
 use Rattle.table.specs.WellFormed.{awaitedBy}
 use Rattle.table.specs.Right.{nodeRight}
 use Rattle.table.specs.RightLaws.{first-low, first-given, second-low, second-given}
-use Rattle.table.specs.ArityLaws.{few-arguments, function-arity, leaf-arity}
+use Rattle.table.specs.ArityLaws.{function-arity, leaf-arity}
 use Rattle.table.specs.AwaitsLaws.{after, namesOf, after-at}
 
 -- what a member awaits, by the number of its dependencies

@@ -8,18 +8,18 @@ use borrow.Author.Tests.{eqb-true, eqb-false, ne-eqb, ltb-true, le-ltb}
 use lib.Dec.{eqb}
 use lib.ListN.{length}
 use Rattle.language.specs.Members.{row, members, memberNumber, foundIn, memberAt}
-use Rattle.language.specs.MembersLaws.{none-of}
+use Rattle.language.specs.MembersLaws.{none-of, number-found, few-arguments}
 use Rattle.language.specs.declared.members.Member.{Member}
 use Rattle.language.specs.declared.members.Found.the-variants.{Is}
 use Rattle.meaning.specs.Forms.{Form, ask, call}
-use Rattle.meaning.specs.FormsLaws.{and-left, and-right, found}
+use Rattle.meaning.specs.FormsLaws.{and-left, and-right}
 use Rattle.meaning.specs.EvaluationLaws.{split}
 use Rattle.table.specs.Memory.{Node}
 use Rattle.table.specs.Nodes.{numberKind, variableKind, unboundKind, readingsKind, functionKind, memberKind, memberOfKind, memberForm, arity, build}
 use Rattle.table.specs.WellFormed.{keyRight}
 use Rattle.table.specs.Right.{node, nodeRight}
 use Rattle.table.specs.RightLaws.{right-kind, right-key, first-given}
-use Rattle.table.specs.ArityLaws.{few-arguments, function-arity, leaf-arity, no-links, no-second, a-second}
+use Rattle.table.specs.ArityLaws.{function-arity, leaf-arity, no-links, no-second, a-second}
 
 -- nodes as they stand in tables: what each kind has, and nothing else
 pub data Fine : Node → Type 0 where
@@ -39,7 +39,7 @@ member-found : (m : Member) → memberOfKind (memberKind m) ≡ Is m
 unfolding memberOfKind memberAt
 member-found m =
     let q : 5 + memberNumber m - 5 ≡ memberNumber m = omega arith in
-    rw (le-ltb (5 + memberNumber m) 5 (omega arith), q) (found m)
+    rw (le-ltb (5 + memberNumber m) 5 (omega arith), q) (number-found m)
 
 pub not-member : (m : Member) (k : ℕ) → k < 5 → eqb (memberKind m) k ≡ false
 not-member m k h = ne-eqb (memberKind m) k (λ e. omega arith)

@@ -4,16 +4,17 @@ use mathlib.Core.List.{List, [], _∷_}
 use Prim.Native.Nat.{ℕ, zero, suc, _+_, _-_, _/_, _%_}
 use lib.Dec.{ltb, leb, eqb}
 use lib.IntN.{ℤ, pos, _-ℤ_}
+use lib.ListN.{length}
 use Rattle.language.specs.Limits.{nameBytes}
 use Rattle.language.specs.Names.{isLetter, inWord, packed, letWord, inWord!, dataWord}
-use Rattle.language.specs.Members.{row, memberAt, memberNumber}
+use Rattle.language.specs.Members.{row, members, memberAt, memberNumber}
 use Rattle.language.specs.declared.members.Member.{Member}
 use Rattle.language.specs.declared.members.Found.{Found}
 use Rattle.language.specs.declared.members.Found.the-variants.{Is, Unknown}
 use Rattle.meaning.specs.Forms.{Form, number, variable, unbound, readings, ask, call, function}
 use Rattle.table.specs.Memory.{Node}
 
--- kinds: 0 number, 1 lambda variable, 2 unbound name, 3 the recording, 4 function, and from 5 on the 16 members by their numbers
+-- kinds: 0 number, 1 lambda variable, 2 unbound name, 3 the recording, 4 function, and from 5 on the members by their numbers
 abbrev pub numberKind : ℕ
 numberKind = 0
 
@@ -32,11 +33,12 @@ functionKind = 4
 abbrev pub firstMember : ℕ
 firstMember = 5
 
-abbrev pub kindCount : ℕ
-kindCount = 21
-
 abbrev pub memberKind : Member → ℕ
 memberKind m = firstMember + memberNumber m
+
+-- the first number that is no kind
+abbrev pub kindCount : ℕ
+kindCount = firstMember + length members
 
 abbrev pub pickFound : Bool → Found → Found → Found
 pickFound true a b = a

@@ -101,10 +101,10 @@ fn all_kept_right(links: &[u16], cells: &[u64], n: u16, readings: usize) -> bool
 fn few_names(links: &[u16], cells: &[u64], n: u16) -> bool
     requires { ⌜ allFrom (rightAt (now links) (now cells)) n 0 ≡ true ⌝ }
     requires { ⌜ distinct (numbered (nodeAt (now links) (now cells)) 0 n) ≡ true ⌝ }
-    requires { ⌜ n ≤ 512 ⌝ }
+    requires { ⌜ n ≤ tableEntries ⌝ }
     ensures { λ r. ⌜ r ≡ awaitsFew (numbered (nodeAt (now (links .entry)) (now (cells .entry))) 0 n) ⌝ }
 {
-    let mut waits = [0u32; 512];
+    let mut waits = [0u32; Table::ENTRIES];
     fill_waits(links, cells, n as usize, &mut waits);
     are_few(links, &waits, n as usize)
 }

@@ -3,6 +3,5 @@ pub mod cells;
 pub mod chain;
 pub mod check;
 pub mod entries;
-pub mod links;
 pub mod nodes;
 pub mod waits;

@@ -6,6 +6,7 @@ use crate::cells::key_of;
 use crate::cells::kind_of;
 use crate::cells::second_of;
 use language::limits::Text;
+use language::members::MEMBERS;
 ghost use mathlib.Core.Path.{_≡_};
 ghost use Prim.Native.Nat.{_-_, _<_};
 ghost use lib.ListN.{length};
@@ -38,7 +39,7 @@ impl Shape {
 
     pub const MEMBERS: u16 = 5;
 
-    pub const KINDS: u16 = 21;
+    pub const KINDS: u16 = Shape::MEMBERS + MEMBERS as u16;
 }
 
 // One node is the other: all pieces are equal.

@@ -1,9 +1,14 @@
 // The variables that entries await, by a rising pass over the table.
-use crate::links::cell;
-use crate::links::is_below;
-use crate::links::link;
+use crate::cells::first_of;
+use crate::cells::is_below;
+use crate::cells::key_of;
+use crate::cells::kind_of;
+use crate::cells::second_of;
+use crate::nodes::Shape;
+use language::limits::Table;
 ghost use mathlib.Core.Path.{_≡_};
 ghost use Prim.Native.Nat.{_<_, _≤_};
+ghost use Rattle.language.specs.Limits.{tableEntries};
 ghost use Rattle.table.specs.Right.{allFrom};
 ghost use Rattle.table.specs.Waits.{holds, awaits as awaitsOf, joined, isNamed, without as withoutOf, waitsOf, waitsAt, waitsFrom, covers as coversOf, fewAt, ownOf};
 
@@ -39,7 +44,7 @@ fn is_named(cells: &[u64], key: u64, p: u32) -> bool
     ensures { λ r. ⌜ r ≡ isNamed (now (cells .entry)) key p ⌝ }
 {
     if 1 <= p {
-        return cell(cells, 4 * (p as usize - 1)) == key;
+        return key_of(cells, p as usize - 1) == key;
     }
     false
 }
@@ -56,8 +61,8 @@ fn without(cells: &[u64], key: u64, w: u32) -> u32
     w
 }
 
-fn waits_of(waits: &[u32; 512], link: usize, i: usize) -> u32
-    requires { ⌜ i < 512 ⌝ }
+fn waits_of(waits: &[u32; Table::ENTRIES], link: usize, i: usize) -> u32
+    requires { ⌜ i < tableEntries ⌝ }
     ensures { λ r. ⌜ r ≡ waitsOf (now (waits .entry)) link i ⌝ }
 {
     if is_below(link, i) {
@@ -67,27 +72,27 @@ fn waits_of(waits: &[u32; 512], link: usize, i: usize) -> u32
 }
 
 // What entry i awaits, from what the entries before it await.
-fn waits_at(links: &[u16], cells: &[u64], waits: &[u32; 512], i: usize) -> u32
-    requires { ⌜ i < 512 ⌝ }
+fn waits_at(links: &[u16], cells: &[u64], waits: &[u32; Table::ENTRIES], i: usize) -> u32
+    requires { ⌜ i < tableEntries ⌝ }
     ensures { λ r. ⌜ r ≡ waitsAt (now (links .entry)) (now (cells .entry)) (now (waits .entry)) i ⌝ }
 {
-    let kind = link(links, 3 * i);
-    if kind == 1 {
+    let kind = kind_of(links, i);
+    if kind == Shape::VARIABLE {
         return (i + 1) as u32 * 65536;
     }
-    if kind < 4 {
+    if kind < Shape::FUNCTION {
         return 0;
     }
-    let first = waits_of(waits, link(links, 3 * i + 1) as usize, i);
-    if kind == 4 {
-        return without(cells, cell(cells, 4 * i), first);
+    let first = waits_of(waits, first_of(links, i) as usize, i);
+    if kind == Shape::FUNCTION {
+        return without(cells, key_of(cells, i), first);
     }
-    join(first, waits_of(waits, link(links, 3 * i + 2) as usize, i))
+    join(first, waits_of(waits, second_of(links, i) as usize, i))
 }
 
 // What the first n entries await.
-pub fn fill_waits(links: &[u16], cells: &[u64], n: usize, waits: &mut [u32; 512])
-    requires { ⌜ n ≤ 512 ⌝ }
+pub fn fill_waits(links: &[u16], cells: &[u64], n: usize, waits: &mut [u32; Table::ENTRIES])
+    requires { ⌜ n ≤ tableEntries ⌝ }
     ensures { λ _. ⌜ now (waits .exit) ≡ waitsFrom (now (links .entry)) (now (cells .entry)) n 0 (now (waits .entry)) ⌝ }
 {
     let mut i: usize = 0;
@@ -105,19 +110,19 @@ fn covers(w: u32, u: u32) -> bool
 }
 
 // Whether entry i awaits no more than two: what a join leaves out is a variable of the second dependency.
-fn is_few(links: &[u16], waits: &[u32; 512], i: usize) -> bool
-    requires { ⌜ i < 512 ⌝ }
+fn is_few(links: &[u16], waits: &[u32; Table::ENTRIES], i: usize) -> bool
+    requires { ⌜ i < tableEntries ⌝ }
     ensures { λ r. ⌜ r ≡ fewAt (now (links .entry)) (now (waits .entry)) i ⌝ }
 {
     covers(
         waits[i],
-        waits_of(waits, link(links, 3 * i + 2) as usize, i),
+        waits_of(waits, second_of(links, i) as usize, i),
     )
 }
 
 // Whether none of the first n entries awaits more than two.
-pub fn are_few(links: &[u16], waits: &[u32; 512], n: usize) -> bool
-    requires { ⌜ n ≤ 512 ⌝ }
+pub fn are_few(links: &[u16], waits: &[u32; Table::ENTRIES], n: usize) -> bool
+    requires { ⌜ n ≤ tableEntries ⌝ }
     ensures { λ r. ⌜ r ≡ allFrom (fewAt (now (links .entry)) (now (waits .entry))) n 0 ⌝ }
 {
     let mut i: usize = 0;

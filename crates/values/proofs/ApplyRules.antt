@@ -20,8 +20,7 @@ use Rattle.values.specs.declared.Value.the-variants.{Number, Window, Fun
 use Rattle.values.specs.declared.apply.Applied.{Applied}
 use Rattle.values.specs.declared.apply.Applied.the-variants.{Done, Run}
 use Rattle.values.specs.Values.{kindOf, wrongKind}
-use Rattle.values.specs.Numbers.{onNumbers}
-use Rattle.values.specs.Windows.{ofWindow, onWindow}
+use Rattle.values.specs.Rules.{onNumbers, ofWindow, onWindow}
 use Rattle.values.specs.Apply.{isKind, rule0, ruleNumber, isMissing, isDelayed, apply0}
 use Rattle.values.specs.Applied.{choose, ruledWindow, ruled1, applied1}
 use Rattle.values.specs.Kept.{Bounded}

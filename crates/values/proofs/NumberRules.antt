@@ -18,8 +18,9 @@ use Rattle.values.specs.declared.Value.{Value}
 use Rattle.values.specs.declared.Value.the-variants.{Number, Missing}
 use Rattle.values.specs.Values.{flag, ranged, beyondNumber, divisionByZero, wrongKind}
 use Rattle.values.specs.Ranges.{in-range}
-use Rattle.values.specs.Numbers.{quotient, divided, onNumbers}
-use Rattle.values.proofs.Tables.{tag, last-arm}
+use Rattle.values.specs.Numbers.{quotient, divided}
+use Rattle.values.specs.Rules.{rule, onNumbers}
+use Rattle.values.proofs.Tables.{tag, besides, last-arm}
 use Rattle.values.proofs.Signed.{cast-is, widens, wide, result-fits, result-is, sum-64, difference-64, product-64, quotient-64, read-lt, read-eq, same-yes, same-no, bits-above}
 
 -- ---- the range of a number
@@ -61,39 +62,39 @@ module _ (a b : ℤ) (fa : SFits w32 a) (fb : SFits w32 b) where
   quotient-fits = result-fits quotient fa fb (quotient-64 fa fb)
 
   pub add-is : {r : Value} → r ≡ ranged (toZ w64 (ofZ w64 (wide a +ℤ wide b))) → r ≡ onNumbers Add a b
-  unfolding onNumbers
+  unfolding onNumbers rule
   add-is h = h ∙ ap ranged (result-is _+ℤ_ fa fb (sum-64 fa fb))
 
   pub sub-is : {r : Value} → r ≡ ranged (toZ w64 (ofZ w64 (wide a -ℤ wide b))) → r ≡ onNumbers Sub a b
-  unfolding onNumbers
+  unfolding onNumbers rule
   sub-is h = h ∙ ap ranged (result-is _-ℤ_ fa fb (difference-64 fa fb))
 
   pub mul-is : {r : Value} → r ≡ ranged (toZ w64 (ofZ w64 (wide a *ℤ wide b))) → r ≡ onNumbers Mul a b
-  unfolding onNumbers
+  unfolding onNumbers rule
   mul-is h = h ∙ ap ranged (result-is _*ℤ_ fa fb (product-64 fa fb))
 
   pub div-none : ofZ w32 b ≡ 0 → Missing divisionByZero ≡ onNumbers Div a b
-  unfolding onNumbers divided
+  unfolding onNumbers rule divided
   div-none h = simp (same-yes b (pos 0) (read-eq w32 {b = pos 0} fb (sfits-lit tt) h))
 
   pub div-is : {r : Value} → (ofZ w32 b ≡ 0 → ⊥) → r ≡ ranged (toZ w64 (ofZ w64 (quotient (wide a) (wide b)))) → r ≡ onNumbers Div a b
-  unfolding onNumbers divided
+  unfolding onNumbers rule divided
   div-is h e = e ∙ ap ranged (result-is quotient fa fb (quotient-64 fa fb)) ∙ simp (same-no b (pos 0) (λ z. h (ap (ofZ w32) z)))
 
   pub gt-yes : ltZ (toZ w32 (ofZ w32 b)) (toZ w32 (ofZ w32 a)) ≡ true → Number (pos 1) ≡ onNumbers Gt a b
-  unfolding onNumbers
+  unfolding onNumbers rule
   gt-yes h = ap flag (sym (read-lt w32 fb fa h))
 
   pub gt-no : ltZ (toZ w32 (ofZ w32 b)) (toZ w32 (ofZ w32 a)) ≡ false → Number (pos 0) ≡ onNumbers Gt a b
-  unfolding onNumbers
+  unfolding onNumbers rule
   gt-no h = ap flag (sym (read-lt w32 fb fa h))
 
   pub eq-yes : ofZ w32 a ≡ ofZ w32 b → Number (pos 1) ≡ onNumbers Eq a b
-  unfolding onNumbers
+  unfolding onNumbers rule
   eq-yes h = ap flag (sym (same-yes a b (read-eq w32 fa fb h)))
 
   pub eq-no : (ofZ w32 a ≡ ofZ w32 b → ⊥) → Number (pos 0) ≡ onNumbers Eq a b
-  unfolding onNumbers
+  unfolding onNumbers rule
   eq-no h = ap flag (sym (same-no a b (λ e. h (ap (ofZ w32) e))))
 
   -- an arm of the table: the callee was handed the two numbers as their bits
@@ -105,10 +106,10 @@ divisor-bits b fb h = rw (toZ-ofZ fb) (bits-above w64 b (sfits-widen tt fb) (λ 
 
 -- the members that are used on no number
 abbrev rest : List ℕ
-rest = 6 ∷ 7 ∷ 8 ∷ 9 ∷ 10 ∷ 11 ∷ 12 ∷ 13 ∷ 14 ∷ 15 ∷ []
+rest = besides (Add ∷ Sub ∷ Mul ∷ Div ∷ Gt ∷ Eq ∷ [])
 
 pub others : (m : Member) (a b : ℤ) → OneOf rest (tag m) → Missing wrongKind ≡ onNumbers m a b
-unfolding onNumbers
+unfolding onNumbers rule
 others m a b k = last-arm (λ j. onNumbers j a b) rest refl m k
 
 pub ruleset number-rules = (needs, below-range, above-range, inside-fits, inside-is, widens, divisor-bits, sum-fits, difference-fits, product-fits, quotient-fits, add-is, sub-is, mul-is, div-none, div-is, gt-yes, gt-no, eq-yes, eq-no, arm, others)

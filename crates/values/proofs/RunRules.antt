@@ -19,10 +19,11 @@ use Rattle.values.specs.declared.runs.Tally.{Tally}
 use Rattle.values.specs.Values.{ranged, wrongKind}
 use Rattle.values.specs.Ranges.{mag-abs}
 use Rattle.values.specs.Runs.{holds}
-use Rattle.values.specs.Tallies.{noted, halted, entered, stepped, ofTally, finished, Within, Steps}
+use Rattle.values.specs.Rules.{rule, byRuns}
+use Rattle.values.specs.Tallies.{noted, halted, entered, stepped, summed, finished, Within, Steps}
 use Rattle.values.specs.TallyLaws.{stopped-steps, going-steps, Small, within-more, within-noted, within-stepped}
 use Rattle.values.proofs.Value as Variants
-use Rattle.values.proofs.Tables.{tag, last-arm}
+use Rattle.values.proofs.Tables.{tag, besides, last-arm}
 use Rattle.values.proofs.Signed.{widens, wide, wide-is, read-eq, same-yes, same-no}
 
 -- ---- one more number
@@ -105,28 +106,28 @@ module _ (m : Member) (t : Tally) where
   finish-stopped h = simp h
 
   module _ (h : t .stopped ≡ false) where
-    finish : {v : Value} → v ≡ ofTally m t → v ≡ finished m t
+    finish : {v : Value} → v ≡ byRuns (rule m) (summed t) → v ≡ finished m t
     unfolding finished
     finish e = simp h e
 
     pub finish-count : m ≡ CountWhere → Fits w16 (t .count) → Number (toZ w32 (t .count)) ≡ finished m t
-    unfolding ofTally
-    finish-count e f = finish (ap Number (toZ-pos w32 (omega (arith, f .fits))) ∙ ap (λ (j : Member). ofTally j t) (sym e))
+    unfolding rule
+    finish-count e f = finish (ap Number (toZ-pos w32 (omega (arith, f .fits))) ∙ ap (λ (j : Member). byRuns (rule j) (summed t)) (sym e))
 
     pub finish-longest : m ≡ LongestRun → Fits w16 (t .longest) → Number (toZ w32 (t .longest)) ≡ finished m t
-    unfolding ofTally
-    finish-longest e f = finish (ap Number (toZ-pos w32 (omega (arith, f .fits))) ∙ ap (λ (j : Member). ofTally j t) (sym e))
+    unfolding rule
+    finish-longest e f = finish (ap Number (toZ-pos w32 (omega (arith, f .fits))) ∙ ap (λ (j : Member). byRuns (rule j) (summed t)) (sym e))
 
     pub finish-sum : {r : Value} → m ≡ SumBy → SFits w64 (t .total) → r ≡ ranged (toZ w64 (ofZ w64 (t .total))) → r ≡ finished m t
-    unfolding ofTally
-    finish-sum e f q = finish (q ∙ ap ranged (toZ-ofZ f) ∙ ap (λ (j : Member). ofTally j t) (sym e))
+    unfolding rule
+    finish-sum e f q = finish (q ∙ ap ranged (toZ-ofZ f) ∙ ap (λ (j : Member). byRuns (rule j) (summed t)) (sym e))
 
 -- the members that run no function
 abbrev rest : List ℕ
-rest = 0 ∷ 1 ∷ 2 ∷ 3 ∷ 4 ∷ 5 ∷ 6 ∷ 7 ∷ 8 ∷ 9 ∷ 10 ∷ 11 ∷ 12 ∷ []
+rest = besides (CountWhere ∷ LongestRun ∷ SumBy ∷ [])
 
 pub finish-others : (m : Member) (t : Tally) → t .stopped ≡ false → OneOf rest (tag m) → Missing wrongKind ≡ finished m t
-unfolding ofTally
-finish-others m t h k = finish m t h (last-arm (λ j. ofTally j t) rest refl m k)
+unfolding rule
+finish-others m t h k = finish m t h (last-arm (λ j. byRuns (rule j) (summed t)) rest refl m k)
 
 pub ruleset run-rules = (needs, widens, note-fits, note-none, note-one, step-stopped, step-number, step-missing, step-other, finish-stopped, finish-count, finish-longest, finish-sum, finish-others)

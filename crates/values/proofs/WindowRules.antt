@@ -20,10 +20,11 @@ use Rattle.language.specs.declared.members.Member.the-variants.{Skip, Take, Cou
 use Rattle.values.specs.declared.Value.{Value}
 use Rattle.values.specs.declared.Value.the-variants.{Number, Window, Missing}
 use Rattle.values.specs.Values.{ranged, wrongKind, outsideWindow}
-use Rattle.values.specs.Windows.{readingsIn, clipped, skipped, taken, reading, unlessNegative, total, lesser, greater, extreme, ofWindow, onWindow}
+use Rattle.values.specs.Windows.{readingsIn, clipped, skipped, taken, reading, unlessNegative, total, lesser, greater, extreme}
+use Rattle.values.specs.Rules.{rule, ofWindow, onWindow}
 use Rattle.values.specs.Ranges.{mag-abs}
 use Rattle.values.specs.WindowLaws.{readings-none, readings-rest, readings-short, Summed, summed-none, summed-more, summed-all, Folded, folded-one, folded-more, folded-all, no-readings}
-use Rattle.values.proofs.Tables.{tag, last-arm}
+use Rattle.values.proofs.Tables.{tag, besides, last-arm}
 use Rattle.values.proofs.Signed.{widens, wide, wide-is, read-lt}
 
 -- ---- the part of the recording
@@ -47,7 +48,7 @@ module _ (xs ys : List ℤ) (s l : ℕ) (e : ys ≡ readingsIn xs s l) where
   sum-none f = summed-none ys (rw e (omega (arith, readings-short xs s l, f .fits)))
 
   pub sum-is : {r : Value} (t i : ℕ) → Summed ys (toZ w64 t) i → length ys ≤ i → r ≡ ranged (toZ w64 t) → r ≡ ofWindow Sum xs s l
-  unfolding ofWindow
+  unfolding ofWindow rule
   sum-is t i h k q = q ∙ ap ranged (summed-all ys (toZ w64 t) i h k ∙ ap total e)
 
 module _ (ys : List ℤ) (t : ℤ) (i : ℕ) (h : Summed ys t i) (k : i < length ys) (f : SFits w32 (getD ys i (pos 0))) where
@@ -92,20 +93,20 @@ module _ (xs ys : List ℤ) (s l : ℕ) (e : ys ≡ readingsIn xs s l) where
   none f h = ap (extreme f) (sym (no-readings ys h) ∙ e)
 
   pub least-none : length ys ≡ 0 → Missing outsideWindow ≡ ofWindow Min xs s l
-  unfolding ofWindow
+  unfolding ofWindow rule
   least-none h = none lesser h
 
   pub greatest-none : length ys ≡ 0 → Missing outsideWindow ≡ ofWindow Max xs s l
-  unfolding ofWindow
+  unfolding ofWindow rule
   greatest-none h = none greater h
 
   module _ (b i : ℕ) where
     pub least-is : Folded lesser ys (toZ w32 b) i → length ys ≤ i → Number (toZ w32 b) ≡ ofWindow Min xs s l
-    unfolding ofWindow
+    unfolding ofWindow rule
     least-is h k = folded-all lesser ys (toZ w32 b) i h k ∙ ap (extreme lesser) e
 
     pub greatest-is : Folded greater ys (toZ w32 b) i → length ys ≤ i → Number (toZ w32 b) ≡ ofWindow Max xs s l
-    unfolding ofWindow
+    unfolding ofWindow rule
     greatest-is h k = folded-all greater ys (toZ w32 b) i h k ∙ ap (extreme greater) e
 
 -- ---- a count or an index
@@ -142,7 +143,7 @@ module _ (n : ℤ) (g : SFits w32 n) where
 
     module _ (xs ys : List ℤ) (s l : ℕ) (e : ys ≡ readingsIn xs s l) where
       found : reading ys (natAbs (toZ w32 (ofZ w32 n))) ≡ onWindow At xs s l n
-      unfolding onWindow
+      unfolding onWindow rule
       found = counts (reading ys) ∙ ap (λ (zs : List ℤ). unlessNegative n (reading zs)) e
 
       pub at-is : natAbs (toZ w32 (ofZ w32 n)) < length ys → SFits w32 (getD ys (natAbs (toZ w32 (ofZ w32 n))) (pos 0))
@@ -153,7 +154,7 @@ module _ (n : ℤ) (g : SFits w32 n) where
       at-none k = sym (simp (le-ltb _ _ k)) ∙ found
 
 pub at-negative : (xs : List ℤ) (s l : ℕ) (n : ℤ) → SFits w32 n → ltZ (toZ w32 (ofZ w32 n)) (pos 0) ≡ true → Missing outsideWindow ≡ onWindow At xs s l n
-unfolding onWindow
+unfolding onWindow rule
 at-negative xs s l n g h = negative-count n g (reading (readingsIn xs s l)) h
 
 pub index-cast : (n : ℤ) → SFits w32 n → Fits w64 (natAbs (toZ w32 (ofZ w32 n)))
@@ -166,33 +167,33 @@ module _ (xs : List ℤ) (s l : ℕ) where
   of-arm e h = h ∙ ap (λ (j : Member). ofWindow j xs s l) (sym e)
 
   pub count-arm : (m : Member) → Fits w16 l → m ≡ Count → Number (toZ w32 l) ≡ ofWindow m xs s l
-  unfolding ofWindow
+  unfolding ofWindow rule
   count-arm m f e = ap Number (toZ-pos w32 (omega (arith, f .fits))) ∙ ap (λ (j : Member). ofWindow j xs s l) (sym e)
 
   module _ (n : ℤ) (g : SFits w32 n) {m : Member} {r : Value} where
     pub skip-arm : m ≡ Skip → r ≡ unlessNegative (toZ w32 (ofZ w32 n)) (skipped s l) → r ≡ onWindow m xs s l n
-    unfolding onWindow
+    unfolding onWindow rule
     skip-arm e h = h ∙ (λ i. onWindow (sym e i) xs s l (toZ-ofZ g i))
 
     pub take-arm : m ≡ Take → r ≡ unlessNegative (toZ w32 (ofZ w32 n)) (taken s l) → r ≡ onWindow m xs s l n
-    unfolding onWindow
+    unfolding onWindow rule
     take-arm e h = h ∙ (λ i. onWindow (sym e i) xs s l (toZ-ofZ g i))
 
     pub at-arm : m ≡ At → r ≡ onWindow At xs s l (toZ w32 (ofZ w32 n)) → r ≡ onWindow m xs s l n
     at-arm e h = h ∙ (λ i. onWindow (sym e i) xs s l (toZ-ofZ g i))
 
 abbrev of-rest : List ℕ
-of-rest = 0 ∷ 1 ∷ 2 ∷ 3 ∷ 4 ∷ 5 ∷ 6 ∷ 7 ∷ 12 ∷ 13 ∷ 14 ∷ 15 ∷ []
+of-rest = besides (Count ∷ Sum ∷ Min ∷ Max ∷ [])
 
 pub of-others : (m : Member) (xs : List ℤ) (s l : ℕ) → OneOf of-rest (tag m) → Missing wrongKind ≡ ofWindow m xs s l
-unfolding ofWindow
+unfolding ofWindow rule
 of-others m xs s l k = last-arm (λ j. ofWindow j xs s l) of-rest refl m k
 
 abbrev on-rest : List ℕ
-on-rest = 0 ∷ 1 ∷ 2 ∷ 3 ∷ 4 ∷ 5 ∷ 8 ∷ 9 ∷ 10 ∷ 11 ∷ 13 ∷ 14 ∷ 15 ∷ []
+on-rest = besides (Skip ∷ Take ∷ At ∷ [])
 
 pub on-others : (m : Member) (xs : List ℤ) (s l : ℕ) (n : ℤ) → OneOf on-rest (tag m) → Missing wrongKind ≡ onWindow m xs s l n
-unfolding onWindow
+unfolding onWindow rule
 on-others m xs s l n k = last-arm (λ j. onWindow j xs s l n) on-rest refl m k
 
 pub ruleset window-rules = (needs, widens, part-none, part-rest, part-whole, sum-none, sum-is, sum-fits, sum-more, lesser-second, lesser-first, greater-second, greater-first, fold-one, fold-more, least-none, greatest-none, least-is, greatest-is, negative-count, count-cast, index-cast, skip-is, take-is, at-is, at-none, at-negative, of-arm, count-arm, skip-arm, take-arm, at-arm, of-others, on-others)

@@ -11,8 +11,8 @@ use Rattle.values.specs.declared.Value.the-variants.{Number, Window, Fun
 use Rattle.values.specs.declared.apply.Applied.{Applied}
 use Rattle.values.specs.declared.apply.Applied.the-variants.{Done, Run}
 use Rattle.values.specs.Values.{wrongKind}
-use Rattle.values.specs.Windows.{readingsIn, onWindow}
-use Rattle.values.specs.Runs.{ofRuns}
+use Rattle.values.specs.Windows.{readingsIn}
+use Rattle.values.specs.Rules.{onWindow, ofRuns}
 use Rattle.values.specs.Apply.{isKind, ruleNumber, isMissing, isDelayed}
 
 abbrev pub choose : Bool → Applied → Applied → Applied

@@ -11,9 +11,8 @@ use Rattle.language.specs.declared.members.Member.{Member}
 use Rattle.values.specs.declared.Value.{Value}
 use Rattle.values.specs.declared.Value.the-variants.{Number, Window, Function, Delayed, Missing}
 use Rattle.values.specs.Values.{pick, kindOf, wrongKind}
-use Rattle.values.specs.Numbers.{onNumbers}
-use Rattle.values.specs.Windows.{readingsIn, ofWindow, onWindow}
-use Rattle.values.specs.Runs.{ofRuns}
+use Rattle.values.specs.Windows.{readingsIn}
+use Rattle.values.specs.Rules.{onNumbers, ofWindow, onWindow, ofRuns}
 
 abbrev pub isKind : Value → Kind → Bool
 isKind v k = eqb (kindNumber (kindOf v)) (kindNumber k)

@@ -39,7 +39,7 @@ module _ (m : Member) (xs : List ℤ) (run : ℤ → Value) where
   completed-window s l Delayed = refl
   completed-window s l (Missing r) = refl
 
-  completed-rule : (v w : Value) → completed m xs run (ruled1 m xs v w) ≡ rule1 m xs v w run
+  pub completed-rule : (v w : Value) → completed m xs run (ruled1 m xs v w) ≡ rule1 m xs v w run
   unfolding completed ruled1 rule1
   completed-rule (Number a) w = refl
   completed-rule (Window s l) w = completed-window s l w

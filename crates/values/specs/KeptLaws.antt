@@ -1,6 +1,6 @@
 -- What holds of the dependencies' values and of the readings holds of the member's value, for any property that the members' own results
 -- have: numbers in range, 01's reasons, windows and counts within a window that has it. So a window stays inside, and what may be kept stays
--- so. Each law goes by the member's definition, case by case. Assumes nothing.
+-- so. One law a member, by its rule. Assumes nothing.
 use mathlib.Core.Path.{_≡_, refl, ap, _∙_}
 use mathlib.Core.Bool.{Bool, true, false, cond}
 use mathlib.Core.List.{List, [], _∷_}
@@ -18,9 +18,10 @@ use Rattle.language.specs.declared.members.Member.the-variants.{Add, Sub, Mul, 
 use Rattle.values.specs.declared.Value.{Value}
 use Rattle.values.specs.declared.Value.the-variants.{Number, Window, Function, Delayed, Missing}
 use Rattle.values.specs.Values.{pick, ranged, flag, sameℤ}
-use Rattle.values.specs.Numbers.{quotient, divided, onNumbers}
-use Rattle.values.specs.Windows.{readingsIn, clipped, reading, unlessNegative, lesser, greater, foldFrom, extreme, ofWindow, onWindow}
-use Rattle.values.specs.Runs.{Results, numbers, because, with, results, holds, countOf, stretch, longest, ofNumbers, concluded, ofRuns}
+use Rattle.values.specs.Numbers.{quotient, divided}
+use Rattle.values.specs.Windows.{readingsIn, clipped, reading, unlessNegative, lesser, greater, foldFrom, extreme}
+use Rattle.values.specs.Runs.{Results, numbers, because, with, results, holds, countOf, stretch, longest, summary}
+use Rattle.values.specs.Rules.{Rule, twoNumbers, window, windowNumber, windowRuns, rule, byNumbers, byWindow, byWindowNumber, byRuns, onNumbers, ofWindow, onWindow, concluded, ofRuns}
 use Rattle.values.specs.Ranges.{in-range}
 use Rattle.values.specs.WindowLaws.{clipped-parts, clipped-within}
 use Rattle.values.specs.TallyLaws.{if-most}
@@ -29,7 +30,6 @@ use Rattle.values.specs.TallyLaws.{if-most}
 pub record Closed (P : Value → Type 0) : Type 0 where
   pub small : (z : ℤ) → mag z < 2147483648 → P (Number z)
   pub reason : (r : ℕ) → 1 ≤ r → r ≤ 5 → P (Missing r)
-  pub delay : P Delayed
   pub part : (s l s′ l′ : ℕ) → s′ + l′ ≤ s + l → P (Window s l) → P (Window s′ l′)
   pub count : (s l k : ℕ) → k ≤ l → P (Window s l) → P (Number (pos k))
 
@@ -37,7 +37,22 @@ pub record Closed (P : Value → Type 0) : Type 0 where
 abbrev pub Readings : (Value → Type 0) → List ℤ → Type 0
 Readings P xs = (i : ℕ) → i < length xs → P (Number (getD xs i (pos 0)))
 
--- results all of which have it
+-- a dependency or a result that has it as far as that matters: a window or a reason is taken over
+abbrev pub Given : (Value → Type 0) → Value → Type 0
+Given P (Window s l) = P (Window s l)
+Given P (Missing r) = P (Missing r)
+Given P (Number z) = Unit {0}
+Given P Function = Unit {0}
+Given P Delayed = Unit {0}
+
+pub given : (P : Value → Type 0) (v : Value) → P v → Given P v
+given P (Window s l) p = p
+given P (Missing r) p = p
+given P (Number z) p = tt
+given P Function p = tt
+given P Delayed p = tt
+
+-- values all of which have it
 abbrev pub Each : (Value → Type 0) → List Value → Type 0
 Each P [] = Unit {0}
 Each P (v ∷ vs) = P v × Each P vs
@@ -89,25 +104,6 @@ module _ (P : Value → Type 0) (C : Closed P) where
   closed-flag true = C .small (pos 1) (omega arith)
   closed-flag false = C .small (pos 0) (omega arith)
 
-  pub closed-numbers : (m : Member) (a b : ℤ) → P (onNumbers m a b)
-  unfolding onNumbers divided
-  closed-numbers Add a b = closed-ranged _
-  closed-numbers Sub a b = closed-ranged _
-  closed-numbers Mul a b = closed-ranged _
-  closed-numbers Div a b = picked (sameℤ b (pos 0)) _ _ (λ h. C .reason 3 (omega arith) (omega arith)) (λ h. closed-ranged (quotient a b))
-  closed-numbers Gt a b = closed-flag (ltZ b a)
-  closed-numbers Eq a b = closed-flag (sameℤ a b)
-  closed-numbers Skip a b = wrong
-  closed-numbers Take a b = wrong
-  closed-numbers Count a b = wrong
-  closed-numbers Sum a b = wrong
-  closed-numbers Min a b = wrong
-  closed-numbers Max a b = wrong
-  closed-numbers At a b = wrong
-  closed-numbers CountWhere a b = wrong
-  closed-numbers LongestRun a b = wrong
-  closed-numbers SumBy a b = wrong
-
   -- ---- the members on a window
 
   pub readings-of : (xs : List ℤ) (s l : ℕ) → Readings P xs → Readings P (readingsIn xs s l)
@@ -134,48 +130,67 @@ module _ (P : Value → Type 0) (C : Closed P) where
   closed-unless (pos k) f p = p k
   closed-unless (negsuc k) f p = outside
 
+  closed-reading : (xs : List ℤ) → Readings P xs → (k : ℕ) → P (reading xs k)
+  closed-reading xs R k = picked (ltb k (length xs)) _ _ (λ h. R k (ltb-true k _ h)) (λ h. outside)
+
+  -- ---- the members
+
+  -- a rule gives values that have it
+  abbrev Closes : Rule → Type 0
+  Closes (twoNumbers f) = (a b : ℤ) → P (f a b)
+  Closes (window f) = (xs : List ℤ) (s l : ℕ) → Readings P xs → P (Window s l) → P (f xs s l)
+  Closes (windowNumber f) = (xs : List ℤ) (s l : ℕ) (n : ℤ) → Readings P xs → P (Window s l) → P (f xs s l n)
+  Closes (windowRuns f) = (s l : ℕ) (zs : List ℤ) → P (Window s l) → length zs ≤ l → P (f (summary zs))
+
+  closed-rule : (m : Member) → Closes (rule m)
+  unfolding rule divided
+  closed-rule Add = λ a b. closed-ranged _
+  closed-rule Sub = λ a b. closed-ranged _
+  closed-rule Mul = λ a b. closed-ranged _
+  closed-rule Div = λ a b. picked (sameℤ b (pos 0)) _ _ (λ h. C .reason 3 (omega arith) (omega arith)) (λ h. closed-ranged (quotient a b))
+  closed-rule Gt = λ a b. closed-flag (ltZ b a)
+  closed-rule Eq = λ a b. closed-flag (sameℤ a b)
+  closed-rule Skip = λ xs s l n R W. closed-unless n _ (λ k. C .part s l (s + clipped k l) (l - clipped k l) (omega (arith, clipped-parts s k l)) W)
+  closed-rule Take = λ xs s l n R W. closed-unless n _ (λ k. C .part s l s (clipped k l) (omega (arith, clipped-within k l)) W)
+  closed-rule Count = λ xs s l R W. C .count s l l (omega arith) W
+  closed-rule Sum = λ xs s l R W. closed-ranged _
+  closed-rule Min = λ xs s l R W. closed-extreme lesser (λ a b p q. either (ltZ b a) b a q p) (readingsIn xs s l) (readings-of xs s l R)
+  closed-rule Max = λ xs s l R W. closed-extreme greater (λ a b p q. either (ltZ a b) b a q p) (readingsIn xs s l) (readings-of xs s l R)
+  closed-rule At = λ xs s l n R W. closed-unless n _ (closed-reading (readingsIn xs s l) (readings-of xs s l R))
+  closed-rule CountWhere = λ s l zs W h. C .count s l (countOf zs) (omega (arith, count-short zs)) W
+  closed-rule LongestRun = λ s l zs W h. C .count s l (longest zs) (omega (arith, longest-short zs)) W
+  closed-rule SumBy = λ s l zs W h. closed-ranged _
+
+  pub closed-numbers : (m : Member) (a b : ℤ) → P (onNumbers m a b)
+  unfolding onNumbers
+  closed-numbers m a b = by (rule m) (closed-rule m)
+    where
+      by : (r : Rule) → Closes r → P (byNumbers r a b)
+      by (twoNumbers f) h = h a b
+      by (window f) h = wrong
+      by (windowNumber f) h = wrong
+      by (windowRuns f) h = wrong
+
   module _ (xs : List ℤ) (s l : ℕ) (R : Readings P xs) (W : P (Window s l)) where
     pub closed-of : (m : Member) → P (ofWindow m xs s l)
     unfolding ofWindow
-    closed-of Count = C .count s l l (omega arith) W
-    closed-of Sum = closed-ranged _
-    closed-of Min = closed-extreme lesser (λ a b p q. either (ltZ b a) b a q p) (readingsIn xs s l) (readings-of xs s l R)
-    closed-of Max = closed-extreme greater (λ a b p q. either (ltZ a b) b a q p) (readingsIn xs s l) (readings-of xs s l R)
-    closed-of Add = wrong
-    closed-of Sub = wrong
-    closed-of Mul = wrong
-    closed-of Div = wrong
-    closed-of Gt = wrong
-    closed-of Eq = wrong
-    closed-of Skip = wrong
-    closed-of Take = wrong
-    closed-of At = wrong
-    closed-of CountWhere = wrong
-    closed-of LongestRun = wrong
-    closed-of SumBy = wrong
-
-    closed-reading : (k : ℕ) → P (reading (readingsIn xs s l) k)
-    closed-reading k =
-        picked (ltb k (length (readingsIn xs s l))) _ _ (λ h. readings-of xs s l R k (ltb-true k _ h)) (λ h. outside)
+    closed-of m = by (rule m) (closed-rule m)
+      where
+        by : (r : Rule) → Closes r → P (byWindow r xs s l)
+        by (twoNumbers f) h = wrong
+        by (window f) h = h xs s l R W
+        by (windowNumber f) h = wrong
+        by (windowRuns f) h = wrong
 
     pub closed-on : (m : Member) (n : ℤ) → P (onWindow m xs s l n)
     unfolding onWindow
-    closed-on Skip n = closed-unless n _ (λ k. C .part s l (s + clipped k l) (l - clipped k l) (omega (arith, clipped-parts s k l)) W)
-    closed-on Take n = closed-unless n _ (λ k. C .part s l s (clipped k l) (omega (arith, clipped-within k l)) W)
-    closed-on At n = closed-unless n _ closed-reading
-    closed-on Count n = wrong
-    closed-on Sum n = wrong
-    closed-on Min n = wrong
-    closed-on Max n = wrong
-    closed-on Add n = wrong
-    closed-on Sub n = wrong
-    closed-on Mul n = wrong
-    closed-on Div n = wrong
-    closed-on Gt n = wrong
-    closed-on Eq n = wrong
-    closed-on CountWhere n = wrong
-    closed-on LongestRun n = wrong
-    closed-on SumBy n = wrong
+    closed-on m n = by (rule m) (closed-rule m)
+      where
+        by : (r : Rule) → Closes r → P (byWindowNumber r xs s l n)
+        by (twoNumbers f) h = wrong
+        by (window f) h = wrong
+        by (windowNumber f) h = h xs s l n R W
+        by (windowRuns f) h = wrong
 
   -- ---- the members that run a function
 
@@ -188,7 +203,7 @@ module _ (P : Value → Type 0) (C : Closed P) where
   told-with z k (numbers zs) e = ap suc e
   told-with z k (because r) p = p
 
-  told : (vs : List Value) → Each P vs → Told (length vs) (results vs)
+  told : (vs : List Value) → Each (Given P) vs → Told (length vs) (results vs)
   unfolding results
   told [] e = refl
   told (Number z ∷ vs) e = told-with z (length vs) (results vs) (told vs (e .1))
@@ -198,26 +213,23 @@ module _ (P : Value → Type 0) (C : Closed P) where
   told (Missing r ∷ vs) e = e .0
 
   module _ (s l : ℕ) (W : P (Window s l)) where
-    closed-told : (m : Member) (rs : Results) (k : ℕ) → k ≤ l → Told k rs → P (concluded m rs)
-    unfolding ofNumbers
-    closed-told CountWhere (numbers zs) k h e = C .count s l (countOf zs) (omega (arith, count-short zs)) W
-    closed-told LongestRun (numbers zs) k h e = C .count s l (longest zs) (omega (arith, longest-short zs)) W
-    closed-told SumBy (numbers zs) k h e = closed-ranged _
-    closed-told Add (numbers zs) k h e = wrong
-    closed-told Sub (numbers zs) k h e = wrong
-    closed-told Mul (numbers zs) k h e = wrong
-    closed-told Div (numbers zs) k h e = wrong
-    closed-told Gt (numbers zs) k h e = wrong
-    closed-told Eq (numbers zs) k h e = wrong
-    closed-told Skip (numbers zs) k h e = wrong
-    closed-told Take (numbers zs) k h e = wrong
-    closed-told Count (numbers zs) k h e = wrong
-    closed-told Sum (numbers zs) k h e = wrong
-    closed-told Min (numbers zs) k h e = wrong
-    closed-told Max (numbers zs) k h e = wrong
-    closed-told At (numbers zs) k h e = wrong
+    pub closed-told : (m : Member) (rs : Results) (k : ℕ) → k ≤ l → Told k rs → P (concluded m rs)
+    closed-told m (numbers zs) k h e = by (rule m) (closed-rule m)
+      where
+        by : (r : Rule) → Closes r → P (byRuns r (summary zs))
+        by (twoNumbers f) q = wrong
+        by (window f) q = wrong
+        by (windowNumber f) q = wrong
+        by (windowRuns f) q = q s l zs W (omega arith)
     closed-told m (because r) k h p = p
 
-    pub closed-runs : (m : Member) (vs : List Value) → length vs ≤ l → Each P vs → P (ofRuns m vs)
+    pub closed-results : (m : Member) (vs : List Value) → length vs ≤ l → Each (Given P) vs → P (ofRuns m vs)
     unfolding ofRuns
-    closed-runs m vs h e = closed-told m (results vs) (length vs) h (told vs e)
+    closed-results m vs h e = closed-told m (results vs) (length vs) h (told vs e)
+
+    pub closed-runs : (m : Member) (vs : List Value) → length vs ≤ l → Each P vs → P (ofRuns m vs)
+    closed-runs m vs h e = closed-results m vs h (each-given vs e)
+      where
+        each-given : (us : List Value) → Each P us → Each (Given P) us
+        each-given [] e = tt
+        each-given (u ∷ us) e = (given P u (e .0), each-given us (e .1))

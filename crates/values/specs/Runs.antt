@@ -1,14 +1,12 @@
--- 01, "Members": the members that run a function, from the results of its runs, reading by reading: the first missing one decides, and
--- a result that is no number is reason 2. Assumes nothing: these are definitions.
+-- 01, "Members": the results of a function's runs, reading by reading: the first missing one decides, and a result that is no number is
+-- reason 2. Assumes nothing: these are definitions.
 use mathlib.Core.Bool.{Bool, not, cond}
 use mathlib.Core.List.{List, [], _∷_}
 use Prim.Native.Nat.{ℕ, suc, _+_, max}
 use lib.IntN.{ℤ, pos}
-use Rattle.language.specs.declared.members.Member.{Member}
-use Rattle.language.specs.declared.members.Member.the-variants.{Add, Sub, Mul, Div, Gt, Eq, Skip, Take, Count, Sum, Min, Max, At, CountWhere, LongestRun, SumBy}
 use Rattle.values.specs.declared.Value.{Value}
 use Rattle.values.specs.declared.Value.the-variants.{Number, Window, Function, Delayed, Missing}
-use Rattle.values.specs.Values.{ranged, sameℤ, wrongKind}
+use Rattle.values.specs.Values.{sameℤ, wrongKind}
 use Rattle.values.specs.Windows.{total}
 
 -- the numbers that runs gave, or the reason of the first that gave none
@@ -45,28 +43,11 @@ unfoldable pub longest : List ℤ → ℕ
 longest [] = 0
 longest (z ∷ zs) = max (stretch (z ∷ zs)) (longest zs)
 
-unfoldable pub ofNumbers : Member → List ℤ → Value
-ofNumbers CountWhere zs = Number (pos (countOf zs))
-ofNumbers LongestRun zs = Number (pos (longest zs))
-ofNumbers SumBy zs = ranged (total zs)
-ofNumbers Add zs = Missing wrongKind
-ofNumbers Sub zs = Missing wrongKind
-ofNumbers Mul zs = Missing wrongKind
-ofNumbers Div zs = Missing wrongKind
-ofNumbers Gt zs = Missing wrongKind
-ofNumbers Eq zs = Missing wrongKind
-ofNumbers Skip zs = Missing wrongKind
-ofNumbers Take zs = Missing wrongKind
-ofNumbers Count zs = Missing wrongKind
-ofNumbers Sum zs = Missing wrongKind
-ofNumbers Min zs = Missing wrongKind
-ofNumbers Max zs = Missing wrongKind
-ofNumbers At zs = Missing wrongKind
+-- what the members that run a function say of the numbers: how many hold, the longest stretch of those, and the exact total
+pub record Summary : Type 0 where
+  pub count : ℕ
+  pub longest : ℕ
+  pub total : ℤ
 
-abbrev pub concluded : Member → Results → Value
-concluded m (numbers zs) = ofNumbers m zs
-concluded m (because r) = Missing r
-
--- what a member comes to from the results of the runs
-unfoldable pub ofRuns : Member → List Value → Value
-ofRuns m vs = concluded m (results vs)
+abbrev pub summary : List ℤ → Summary
+summary zs = record { count = countOf zs; longest = longest zs; total = total zs }

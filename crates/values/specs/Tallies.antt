@@ -6,12 +6,12 @@ use mathlib.Core.List.{List, [], _∷_}
 use Prim.Native.Nat.{ℕ, _+_, _*_, max, _≤_}
 use lib.IntN.{ℤ, pos, natAbs, _+ℤ_}
 use Rattle.language.specs.declared.members.Member.{Member}
-use Rattle.language.specs.declared.members.Member.the-variants.{Add, Sub, Mul, Div, Gt, Eq, Skip, Take, Count, Sum, Min, Max, At, CountWhere, LongestRun, SumBy}
 use Rattle.values.specs.declared.Value.{Value}
 use Rattle.values.specs.declared.Value.the-variants.{Number, Window, Function, Delayed, Missing}
 use Rattle.values.specs.declared.runs.Tally.{Tally}
-use Rattle.values.specs.Values.{pick, ranged, wrongKind}
-use Rattle.values.specs.Runs.{holds}
+use Rattle.values.specs.Values.{pick, wrongKind}
+use Rattle.values.specs.Runs.{holds, Summary}
+use Rattle.values.specs.Rules.{rule, byRuns}
 
 abbrev pub begun : Tally
 begun = record { stopped = false; reason = 0; count = 0; stretch = 0; longest = 0; total = pos 0 }
@@ -52,26 +52,12 @@ unfoldable pub gathered : Tally → List Value → Tally
 gathered t [] = t
 gathered t (v ∷ vs) = gathered (stepped t v) vs
 
-unfoldable pub ofTally : Member → Tally → Value
-ofTally CountWhere t = Number (pos (t .count))
-ofTally LongestRun t = Number (pos (t .longest))
-ofTally SumBy t = ranged (t .total)
-ofTally Add t = Missing wrongKind
-ofTally Sub t = Missing wrongKind
-ofTally Mul t = Missing wrongKind
-ofTally Div t = Missing wrongKind
-ofTally Gt t = Missing wrongKind
-ofTally Eq t = Missing wrongKind
-ofTally Skip t = Missing wrongKind
-ofTally Take t = Missing wrongKind
-ofTally Count t = Missing wrongKind
-ofTally Sum t = Missing wrongKind
-ofTally Min t = Missing wrongKind
-ofTally Max t = Missing wrongKind
-ofTally At t = Missing wrongKind
+-- what it says of the numbers so far
+abbrev pub summed : Tally → Summary
+summed t = record { count = t .count; longest = t .longest; total = t .total }
 
 unfoldable pub finished : Member → Tally → Value
-finished m t = pick (t .stopped) (Missing (t .reason)) (ofTally m t)
+finished m t = pick (t .stopped) (Missing (t .reason)) (byRuns (rule m) (summed t))
 
 -- what k results of signed 32 bits can come to
 pub record Within (k : ℕ) (t : Tally) : Type 0 where

@@ -5,18 +5,18 @@ use mathlib.Core.Bool.{Bool, true, false, cond}
 use mathlib.Core.List.{List, [], _∷_}
 use Prim.Native.Nat.{ℕ, suc, _+_, max, _≤_, _<_}
 use native.Mathlib.Omega.{arith}
-use lib.IntN.{ℤ, pos, _+ℤ_, +ℤ-idl, +ℤ-idr, +ℤ-assoc}
+use lib.IntN.{ℤ, _+ℤ_, +ℤ-idl, +ℤ-idr, +ℤ-assoc}
 use lib.Signed.{mag}
 use Rattle.language.specs.declared.members.Member.{Member}
-use Rattle.language.specs.declared.members.Member.the-variants.{Add, Sub, Mul, Div, Gt, Eq, Skip, Take, Count, Sum, Min, Max, At, CountWhere, LongestRun, SumBy}
 use Rattle.values.specs.declared.Value.{Value}
 use Rattle.values.specs.declared.Value.the-variants.{Number, Window, Function, Delayed, Missing}
 use Rattle.values.specs.declared.runs.Tally.{Tally}
-use Rattle.values.specs.Values.{pick, ranged, wrongKind}
+use Rattle.values.specs.Values.{pick, wrongKind}
 use Rattle.values.specs.Windows.{total}
-use Rattle.values.specs.Runs.{Results, numbers, because, with, results, holds, countOf, stretch, longest, ofNumbers, concluded, ofRuns}
+use Rattle.values.specs.Runs.{Results, numbers, because, with, results, holds, countOf, stretch, longest, summary}
+use Rattle.values.specs.Rules.{rule, byRuns, concluded, ofRuns}
 use Rattle.values.specs.Ranges.{total-range}
-use Rattle.values.specs.Tallies.{begun, noted, halted, entered, choose, stepped, gathered, ofTally, finished, Within}
+use Rattle.values.specs.Tallies.{begun, noted, halted, entered, choose, stepped, gathered, summed, finished, Within}
 
 -- ---- a tally that has stopped stays, so the rest of the results need not be worked out
 
@@ -97,30 +97,18 @@ measured t (z ∷ zs) h = measured (noted t z) zs (omega arith) ∙ joined (hold
 
 -- ---- the law: a member is concluded from the tally as Runs concludes it from the results
 
-module _ (zs : List ℤ) where
-  concludes : (m : Member) → ofTally m (notedAll begun zs) ≡ ofNumbers m zs
-  unfolding ofTally ofNumbers
-  concludes CountWhere = ap (λ (n : ℕ). Number (pos n)) (omega (arith, counted begun zs))
-  concludes LongestRun = ap (λ (n : ℕ). Number (pos n)) (omega (arith, measured begun zs (omega arith), stretch-long zs))
-  concludes SumBy = ap ranged (added begun zs ∙ +ℤ-idl (total zs))
-  concludes Add = refl
-  concludes Sub = refl
-  concludes Mul = refl
-  concludes Div = refl
-  concludes Gt = refl
-  concludes Eq = refl
-  concludes Skip = refl
-  concludes Take = refl
-  concludes Count = refl
-  concludes Sum = refl
-  concludes Min = refl
-  concludes Max = refl
-  concludes At = refl
+summed-is : (zs : List ℤ) → summed (notedAll begun zs) ≡ summary zs
+summed-is zs =
+    let count : notedAll begun zs .count ≡ countOf zs = omega (arith, counted begun zs) in
+    let most : notedAll begun zs .longest ≡ longest zs = omega (arith, measured begun zs (omega arith), stretch-long zs) in
+    let sum : notedAll begun zs .total ≡ total zs = added begun zs ∙ +ℤ-idl (total zs) in
+    λ i. record { count = count i; longest = most i; total = sum i }
 
 finished-after : (m : Member) (rs : Results) → finished m (after begun rs) ≡ concluded m rs
 unfolding finished after
 finished-after m (numbers zs) =
-    ap (λ (b : Bool). pick b (Missing (notedAll begun zs .reason)) (ofTally m (notedAll begun zs))) (going begun zs refl) ∙ concludes zs m
+    ap (λ (b : Bool). pick b (Missing (notedAll begun zs .reason)) (byRuns (rule m) (summed (notedAll begun zs)))) (going begun zs refl)
+    ∙ ap (byRuns (rule m)) (summed-is zs)
 finished-after m (because r) = refl
 
 pub finished-is : (m : Member) (vs : List Value) → finished m (gathered begun vs) ≡ ofRuns m vs

@@ -4,7 +4,7 @@ use language::members::Member;
 ghost use mathlib.Core.Path.{_≡_};
 ghost use Rattle.language.specs.declared.members.Member.the-variants as Members;
 ghost use Rattle.values.specs.Values.{ranged};
-ghost use Rattle.values.specs.Numbers.{onNumbers};
+ghost use Rattle.values.specs.Rules.{onNumbers};
 
 // A whole number as a value: reason 4 beyond signed 32 bits.
 pub fn number(z: i64) -> Value

@@ -6,7 +6,8 @@ use language::members::Member;
 ghost use mathlib.Core.Path.{_≡_};
 ghost use Prim.Native.Nat.{_+_, _≤_};
 ghost use Rattle.language.specs.declared.members.Member.the-variants as Members;
-ghost use Rattle.values.specs.Windows.{readingsIn, clipped, skipped, taken, unlessNegative, lesser, greater, ofWindow, onWindow};
+ghost use Rattle.values.specs.Windows.{readingsIn, clipped, skipped, taken, unlessNegative, lesser, greater};
+ghost use Rattle.values.specs.Rules.{ofWindow, onWindow};
 
 // The readings of a window, as that very part of the recording.
 pub fn part(xs: &[i32], start: u16, length: u16) -> &[i32]

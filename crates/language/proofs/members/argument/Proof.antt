@@ -1,17 +1,19 @@
--- A field of the member's row. Assumes nothing.
-use mathlib.Core.Path.{ap}
+-- What the member's form says. Assumes nothing.
+use mathlib.Core.Path.{ap, _∙_}
 use borrow.Author.Needs.{needs}
-use Rattle.language.specs.Members.{rowOf}
-use Rattle.language.specs.declared.members.Row.{Row}
+use Rattle.language.specs.Members.{argumentOf, row}
 use Rattle.language.proofs.members.argument.Statement.{statement}
 use Rattle.language.proofs.members.argument.Tie as tie
 
-row-of-requires : tie.Need-row-of-requires
-row-of-requires c κs = search needs
+form-of-requires : tie.Need-form-of-requires
+form-of-requires c κs = search needs
+
+form-argument-requires : tie.Need-form-argument-requires
+form-argument-requires c κs = search needs
 
 returns : tie.Need-returns
-unfolding rowOf
-returns c = ap (λ (r : Row). r .argument) (c .row-of .ensures)
+unfolding row
+returns c = c .form-argument .ensures ∙ ap argumentOf (c .before .form-of .ensures)
 
 pub argument-spec : {M : Type 1} → statement M
-argument-spec = tie.close (tie.spec row-of-requires returns)
+argument-spec = tie.close (tie.spec form-of-requires form-argument-requires returns)

@@ -9,10 +9,10 @@ use Rattle.language.proofs.members.has_name.Statement.{statement}
 use Rattle.language.proofs.members.has_name.Tie as tie
 
 abbrev Inv-loop : tie.InvT-loop
-Inv-loop word name size i₀ i = (i ≤ size) × ((k : ℕ) → k < i → getD word k 0 ≡ getD name k 0)
+Inv-loop word bytes size i₀ i = (i ≤ size) × ((k : ℕ) → k < i → getD word k 0 ≡ getD bytes k 0)
 
 abbrev μ-loop : tie.MeasureT-loop
-μ-loop word name size i₀ i = size - i
+μ-loop word bytes size i₀ i = size - i
 
 cast-size : tie.Need-cast-size Inv-loop μ-loop
 cast-size c = omega (arith, c .before .before .pre)
@@ -32,7 +32,7 @@ array-read-if2 c = omega (arith, c .before .before .before .before .before .befo
 returns-2 : tie.Need-returns-2 Inv-loop μ-loop
 returns-2 c =
     let s = c .before .before .before .before .before .before .before in
-    sym (other-byte (s .args .word .now) (s .args .row .name) (s .args .row .size) (omega (arith, s .pre)) (c .before .before .before .loop .i) (omega arith) (c .if2 .taken))
+    sym (other-byte (s .args .word .now) (s .args .name .0) (s .args .name .1) (omega (arith, s .pre)) (c .before .before .before .loop .i) (omega arith) (c .if2 .taken))
 
 add-i : tie.Need-add-i Inv-loop μ-loop
 add-i c = omega arith
@@ -46,7 +46,7 @@ loop-again c = (omega arith, below-more _ _ (c .before .before .before .loop .in
 returns-3 : tie.Need-returns-3 Inv-loop μ-loop
 returns-3 c =
     let s = c .before .before .before .before .before in
-    sym (all-bytes (s .args .word .now) (s .args .row .name) (s .args .row .size) (omega (arith, s .pre)) (omega arith) (λ k h. c .before .loop .inv .1 k (omega arith)))
+    sym (all-bytes (s .args .word .now) (s .args .name .0) (s .args .name .1) (omega (arith, s .pre)) (omega arith) (λ k h. c .before .loop .inv .1 k (omega arith)))
 
 pub has-name-spec : {M : Type 1} → statement M
 has-name-spec =

@@ -9,14 +9,8 @@ mul-covers c = search waiting
 element-copy-out-covers : tie.Need-element-copy-out-covers
 element-copy-out-covers c = search waiting
 
-mul-link : tie.Need-mul-link
-mul-link c = search waiting
-
-add-link : tie.Need-add-link
-add-link c = search waiting
-
-link-requires : tie.Need-link-requires
-link-requires c κs = search waiting
+second-of-requires : tie.Need-second-of-requires
+second-of-requires c κs = search waiting
 
 cast-waits-of : tie.Need-cast-waits-of
 cast-waits-of c = search waiting
@@ -36,9 +30,7 @@ is-few-spec =
     (tie.spec
     mul-covers
     element-copy-out-covers
-    mul-link
-    add-link
-    link-requires
+    second-of-requires
     cast-waits-of
     waits-of-requires
     covers-requires

@@ -3,14 +3,11 @@ use Rattle.table.proofs.Waiting.{waiting}
 use Rattle.table.proofs.waits.is_named.Statement.{statement}
 use Rattle.table.proofs.waits.is_named.Tie as tie
 
-sub-cell : tie.Need-sub-cell
-sub-cell c = search waiting
+sub-key-of : tie.Need-sub-key-of
+sub-key-of c = search waiting
 
-mul-cell : tie.Need-mul-cell
-mul-cell c = search waiting
-
-cell-requires : tie.Need-cell-requires
-cell-requires c κs = search waiting
+key-of-requires : tie.Need-key-of-requires
+key-of-requires c κs = search waiting
 
 returns : tie.Need-returns
 returns c = search waiting
@@ -19,4 +16,4 @@ returns-2 : tie.Need-returns-2
 returns-2 c = search waiting
 
 pub is-named-spec : {M : Type 1} → statement M
-is-named-spec = tie.close (tie.spec sub-cell mul-cell cell-requires returns returns-2)
+is-named-spec = tie.close (tie.spec sub-key-of key-of-requires returns returns-2)

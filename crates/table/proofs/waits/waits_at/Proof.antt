@@ -3,11 +3,8 @@ use Rattle.table.proofs.Waiting.{waiting}
 use Rattle.table.proofs.waits.waits_at.Statement.{statement}
 use Rattle.table.proofs.waits.waits_at.Tie as tie
 
-mul-link : tie.Need-mul-link
-mul-link c = search waiting
-
-link-requires : tie.Need-link-requires
-link-requires c κs = search waiting
+kind-of-requires : tie.Need-kind-of-requires
+kind-of-requires c κs = search waiting
 
 add-result : tie.Need-add-result
 add-result c = search waiting
@@ -24,14 +21,8 @@ returns c = search waiting
 returns-2 : tie.Need-returns-2
 returns-2 c = search waiting
 
-mul-link-2 : tie.Need-mul-link-2
-mul-link-2 c = search waiting
-
-add-link : tie.Need-add-link
-add-link c = search waiting
-
-link-requires-2 : tie.Need-link-requires-2
-link-requires-2 c κs = search waiting
+first-of-requires : tie.Need-first-of-requires
+first-of-requires c κs = search waiting
 
 cast-waits-of : tie.Need-cast-waits-of
 cast-waits-of c = search waiting
@@ -39,11 +30,8 @@ cast-waits-of c = search waiting
 waits-of-requires : tie.Need-waits-of-requires
 waits-of-requires c κs = search waiting
 
-mul-cell : tie.Need-mul-cell
-mul-cell c = search waiting
-
-cell-requires : tie.Need-cell-requires
-cell-requires c κs = search waiting
+key-of-requires : tie.Need-key-of-requires
+key-of-requires c κs = search waiting
 
 without-requires : tie.Need-without-requires
 without-requires c κs = search waiting
@@ -51,14 +39,8 @@ without-requires c κs = search waiting
 returns-3 : tie.Need-returns-3
 returns-3 c = search waiting
 
-mul-link-3 : tie.Need-mul-link-3
-mul-link-3 c = search waiting
-
-add-link-2 : tie.Need-add-link-2
-add-link-2 c = search waiting
-
-link-requires-3 : tie.Need-link-requires-3
-link-requires-3 c κs = search waiting
+second-of-requires : tie.Need-second-of-requires
+second-of-requires c κs = search waiting
 
 cast-waits-of-2 : tie.Need-cast-waits-of-2
 cast-waits-of-2 c = search waiting
@@ -76,25 +58,19 @@ pub waits-at-spec : {M : Type 1} → statement M
 waits-at-spec =
     tie.close
     (tie.spec
-    mul-link
-    link-requires
+    kind-of-requires
     add-result
     cast-result
     mul-result
     returns
     returns-2
-    mul-link-2
-    add-link
-    link-requires-2
+    first-of-requires
     cast-waits-of
     waits-of-requires
-    mul-cell
-    cell-requires
+    key-of-requires
     without-requires
     returns-3
-    mul-link-3
-    add-link-2
-    link-requires-3
+    second-of-requires
     cast-waits-of-2
     waits-of-requires-2
     join-requires
