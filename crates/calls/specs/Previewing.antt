@@ -21,7 +21,7 @@ use Rattle.values.specs.declared.Value.{Value}
 use Rattle.values.specs.declared.Value.the-variants.{Number, Window, Function, Delayed, Missing}
 use Rattle.values.specs.Packing.{windowCell, delayedCell, missingCell, unpackOf, isPacked}
 use Rattle.values.specs.PackingLaws.{unpack-number, unpack-window, unpack-delayed, unpack-missing, passes-packs}
-use Rattle.values.specs.Kept.{Inside}
+use Rattle.values.specs.Keepable.{Inside}
 use Rattle.table.specs.Links.{kindAt, keyAt, valueAt}
 use Rattle.evaluator.specs.Frames.{leafOf, startAt}
 use Rattle.scheduler.specs.declared.works.View.{View}

@@ -40,7 +40,7 @@ use Rattle.bridge.specs.Graphs.{nodes, graph-laws, equality, kids-function, kid
 use Rattle.bridge.specs.Recorded.{formsOf}
 use Rattle.bridge.specs.Proper.{Shape, Proper}
 use Rattle.bridge.specs.FormulaLaws.{formula-laws}
-use Rattle.demand.specs.Holds.{joined, holds, markOf, keptFor, Ok, Written}
+use Rattle.demand.specs.Holds.{withMarks, holds, markOf, keptFor, Ok, Written}
 use Rattle.demand.specs.Bound.{among-by}
 use Rattle.demand.specs.Appended.{lengths, entries-length}
 use Rattle.demand.specs.Standing.{forms-joined, size-held}
@@ -172,8 +172,8 @@ awaited-after fs (n ∷ ns) p =
 
 -- entries and what they hold, number by number
 joined-nth : (fs : List Form) (es : List Entry) (p : ℕ) (e : Entry) → length fs ≡ length es → getElem? es p ≡ some e
-    → getElem? (joined fs es) p ≡ some (record { form = getD fs p readings; mark = markOf (e .kept) })
-unfolding joined
+    → getElem? (withMarks fs es) p ≡ some (record { form = getD fs p readings; mark = markOf (e .kept) })
+unfolding withMarks
 joined-nth [] [] p e l h = impossible (cc)
 joined-nth [] (x ∷ es) p e l h = absurd (omega arith)
 joined-nth (f ∷ fs) [] p e l h = absurd (omega arith)

@@ -16,7 +16,7 @@ use Rattle.values.specs.declared.Value.{Value}
 use Rattle.values.specs.declared.Value.the-variants.{Number, Window, Function, Delayed, Missing}
 use Rattle.values.specs.Values.{pick, wrongKind}
 use Rattle.values.specs.Apply.{isKind, isMissing, isDelayed, rule0, rule1, apply0, apply1}
-use Rattle.values.specs.Kept.{Held, Kept}
+use Rattle.values.specs.Keepable.{Storable, Keepable}
 use Rattle.values.specs.Packing.{packOf, unpackOf, isPacked, functionCell, delayedCell, isFunctionCell, isDelayedCell}
 use Rattle.values.specs.PackingLaws.{round, packed-above, kept-passes}
 use Rattle.meaning.specs.Forms.{Form, number, variable, unbound, readings, ask, call, function, nameOf}
@@ -38,7 +38,7 @@ pub record Keeps (n : ℕ) (v : Shown) : Type 0 where
   pub mark : markOf (keptFor v) ≡ some v
 
 -- a cell of one value is not another's
-cell-not : (v u : Value) (c : ℕ) → Held v → unpackOf c ≡ u → (v ≡ u → ⊥) → eqb (packOf v) c ≡ false
+cell-not : (v u : Value) (c : ℕ) → Storable v → unpackOf c ≡ u → (v ≡ u → ⊥) → eqb (packOf v) c ≡ false
 cell-not v u c h q out = ne-eqb (packOf v) c (λ e. out (sym (round v h) ∙ ap unpackOf e ∙ q))
 
 at-function : unpackOf functionCell ≡ Function
@@ -50,7 +50,7 @@ unfolding unpackOf
 at-delayed = refl
 
 -- a value that shows no names
-keeps-plain : (n : ℕ) (v : Value) (w : Shown) → Kept n v → (v ≡ Function → ⊥) → (v ≡ Delayed → ⊥) → keptFor w ≡ record { value = packOf v; name = 0; other = 0 }
+keeps-plain : (n : ℕ) (v : Value) (w : Shown) → Keepable n v → (v ≡ Function → ⊥) → (v ≡ Delayed → ⊥) → keptFor w ≡ record { value = packOf v; name = 0; other = 0 }
     → shownBy (record { value = packOf v; name = 0; other = 0 }) v ≡ w → Keeps n w
 unfolding namesRight
 keeps-plain n v w k nf nd e s =
@@ -129,7 +129,7 @@ unfolding isName wordNumber
 name-some y h = ne-eqb y 0 (λ e. no-way (rw e at h))
 
 -- one name or two
-keeps-delay : (n : ℕ) (xs : List ℕ) → length xs ≤ 2 → (y : ℕ) → Has y xs → ((z : ℕ) → Has z xs → isName z ≡ true) → Kept n Delayed → Keeps n (aDelay xs)
+keeps-delay : (n : ℕ) (xs : List ℕ) → length xs ≤ 2 → (y : ℕ) → Has y xs → ((z : ℕ) → Has z xs → isName z ≡ true) → Keepable n Delayed → Keeps n (aDelay xs)
 unfolding namesRight hasName
 keeps-delay n [] l y h g k = no-way h
 keeps-delay n (a ∷ []) l y h g k =
@@ -144,13 +144,13 @@ keeps-delay n (a ∷ b ∷ []) l y h g k =
     record { names = rw (p, q, y, z); packed = kept-passes n Delayed k; above = packed-above Delayed; mark = rw (round Delayed tt, y, z) }
 keeps-delay n (a ∷ b ∷ c ∷ xs) l y h g k = absurd (omega arith)
 
-keeps-function : (n x : ℕ) → isName x ≡ true → Kept n Function → Keeps n (aFunction x)
+keeps-function : (n x : ℕ) → isName x ≡ true → Keepable n Function → Keeps n (aFunction x)
 unfolding namesRight
 keeps-function n x p k = record { names = rw p; packed = kept-passes n Function k; above = packed-above Function; mark = rw (round Function tt) }
 
 -- what a proper form shows
 module _ (xs : List ℤ) (short : length xs ≤ 1024) (small : (i : ℕ) → i < length xs → mag (getD xs i (pos 0)) < 2147483648) (f : Form) (d : Deep f) where
-  by : (v : Value) → valueOf (evaluate xs nowhere f) ≡ v → Kept (length xs) v → Keeps (length xs) (shownAs f v)
+  by : (v : Value) → valueOf (evaluate xs nowhere f) ≡ v → Keepable (length xs) v → Keeps (length xs) (shownAs f v)
   by (Number z) e k = keeps-plain (length xs) (Number z) (aNumber z) k (λ q. never (cc)) (λ q. never (cc)) refl refl
   by (Window s l) e k = keeps-plain (length xs) (Window s l) (aWindow s l) k (λ q. never (cc)) (λ q. never (cc)) refl refl
   by (Missing r) e k = keeps-plain (length xs) (Missing r) (aReason r) k (λ q. never (cc)) (λ q. never (cc)) refl refl

@@ -9,8 +9,8 @@ use Rattle.values.specs.declared.Value.{Value}
 use Rattle.values.specs.declared.Value.the-variants.{Number, Window, Function, Delayed, Missing}
 use Rattle.values.specs.Values.{pick, wrongKind}
 use Rattle.values.specs.Apply.{isKind, isMissing, isDelayed, rule0, rule1, apply0, apply1}
-use Rattle.values.specs.KeptLaws.{Closed, Given}
-use Rattle.values.specs.KeptApply.{closed-rule0, closed-rule1}
+use Rattle.values.specs.KeepableLaws.{Closed, Given}
+use Rattle.values.specs.KeepableApply.{closed-rule0, closed-rule1}
 use Rattle.model.specs.Cases.{impossible, split}
 
 -- results of rules: neither delayed nor a function

@@ -36,7 +36,7 @@ use Rattle.bridge.specs.Graphs.{nodes, graph-laws}
 use Rattle.bridge.specs.Recorded.{formsOf, formIn, length-forms, decode-append, Unfolds, unfolds}
 use Rattle.bridge.specs.FormulaLaws.{formula-laws}
 use Rattle.interface.specs.Calls.{held, boundTo, editedAs, editedMemory, readAnswer, readMemory, editAnswer, editMemory}
-use Rattle.demand.specs.Holds.{joined, holds, Ok, Written}
+use Rattle.demand.specs.Holds.{withMarks, holds, Ok, Written}
 use Rattle.demand.specs.Bound.{relinkBy, relinks, asBound, all-same, forms-same, valid-same}
 use Rattle.binder.specs.AppendedLaws.{newEntry}
 use Rattle.demand.specs.Appended.{lengths, long-enough, entries-length, grown}
@@ -184,7 +184,7 @@ module _ (m : Memory) (placed : AllPlaced formulas nodes 0 (nodesOf (entriesOf m
               record {
                 recording = take (G .readings t) (G .same t);
                 entries =
-                    ((λ j. joined (gf j) (ge j))
+                    ((λ j. withMarks (gf j) (ge j))
                     ∙ joined-append fs added (entriesOf m) new (size-held m) added-length
                     ∙ sym entries-are) t;
               };

@@ -15,8 +15,8 @@ use Rattle.grammar.specs.KeptLimits.{InRange}
 use Rattle.values.specs.declared.Value.{Value}
 use Rattle.values.specs.declared.Value.the-variants.{Number, Window, Function, Delayed, Missing}
 use Rattle.values.specs.Apply.{isDelayed, apply0, apply1}
-use Rattle.values.specs.Kept.{Kept}
-use Rattle.values.specs.KeptApply.{kept-apply0, kept-apply1}
+use Rattle.values.specs.Keepable.{Keepable}
+use Rattle.values.specs.KeepableApply.{kept-apply0, kept-apply1}
 use Rattle.meaning.specs.Forms.{Form, number, variable, unbound, readings, ask, call, function, same, within}
 use Rattle.meaning.specs.FormsLaws.{no-way, either, or-right, same-self, within-self}
 use Rattle.meaning.specs.Evaluation.{Result, plain, runs, valueOf, runOf, Environment, nowhere, bind, lookup, settled, functionOf, evaluate, hasName, awaited}
@@ -133,7 +133,7 @@ name-of f d y h = d (variable y) (awaited-within y f h) .shape
 -- every value in an evaluation may be kept
 module _ (xs : List ℤ) (short : length xs ≤ 1024) (small : (i : ℕ) → i < length xs → mag (getD xs i (pos 0)) < 2147483648) where
   abbrev Fits : Value → Type 0
-  Fits = Kept (length xs)
+  Fits = Keepable (length xs)
 
   because : (r : ℕ) → 1 ≤ r → r ≤ 5 → Fits (Missing r)
   because r a b = record { held = omega arith; inside = tt; reasoned = (a, b) }

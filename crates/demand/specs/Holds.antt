@@ -39,13 +39,13 @@ abbrev pub markOf : Kept → Option Shown
 markOf k = cond (eqb (k .value) 0) none (some (shownIn k))
 
 -- forms and entries, number by number
-unfoldable pub joined : List Form → List Entry → List (Model.Entry formulas)
-joined [] es = []
-joined (f ∷ fs) [] = []
-joined (f ∷ fs) (e ∷ es) = record { form = f; mark = markOf (e .kept) } ∷ joined fs es
+unfoldable pub withMarks : List Form → List Entry → List (Model.Entry formulas)
+withMarks [] es = []
+withMarks (f ∷ fs) [] = []
+withMarks (f ∷ fs) (e ∷ es) = record { form = f; mark = markOf (e .kept) } ∷ withMarks fs es
 
 abbrev pub holds : Memory → Model.State formulas
-holds m = record { recording = recordingOf m; entries = joined (formsOf (nodesOf (entriesOf m))) (entriesOf m) }
+holds m = record { recording = recordingOf m; entries = withMarks (formsOf (nodesOf (entriesOf m))) (entriesOf m) }
 
 -- the cells of what is shown
 abbrev pub keptFor : Shown → Kept

@@ -10,9 +10,9 @@ pub mod Cells
 pub mod Accepted
 pub mod Needs
 pub mod Starts
-pub mod Working
+pub mod PreviewLoop
 pub mod Previewing
-pub mod WorkedOut
-pub mod Worked
+pub mod WorkedCount
+pub mod AnyCache
 pub mod Decoded
 pub mod Grown

@@ -15,7 +15,7 @@ use Rattle.model.specs.Model.{refused, opened}
 use Rattle.table.specs.Memory.{Memory, fits, entryCount, readingCount, recordingOf, entriesFrom, entriesOf}
 use Rattle.formulas.specs.Formulas.{formulas}
 use Rattle.interface.specs.Calls.{openedMemory, openAnswer, openMemory}
-use Rattle.demand.specs.Holds.{joined, holds}
+use Rattle.demand.specs.Holds.{withMarks, holds}
 use Rattle.demand.specs.Appended.{Lengths, lengths, long-enough}
 use Rattle.demand.specs.Editing.{Done}
 
@@ -51,7 +51,7 @@ module _ (m : Memory) (r : List ℤ) (l : Lengths m) (short : length r ≤ table
   recorded = take-at r (drop (length r) (m .readings)) (readingCount n) (sym count-readings)
 
   opened-done : Done n (Model.openedWith formulas r) opened
-  unfolding joined decode
+  unfolding withMarks decode
   opened-done =
       let e = no-entries in
       let c = count-readings in

@@ -34,7 +34,7 @@ use Rattle.table.specs.Links.{kindAt, firstAt, secondAt, keyAt}
 use Rattle.table.specs.Waits.{waitsFrom}
 use Rattle.table.specs.NodeKinds.{Fine, aNumber, aVariable, anUnbound, theReadings, aFunction, anAsk, aCall, build-ask, build-call}
 use Rattle.evaluator.specs.Frames.{startAt, startFrom}
-use Rattle.evaluator.specs.Working.{graph, applyAt}
+use Rattle.evaluator.specs.Applying.{graph, applyAt}
 use Rattle.scheduler.specs.Works.{Work, needOf, worked, showOf}
 use Rattle.refine.specs.Tables.{Link}
 use Rattle.refine.specs.Waiting.{waits-names, waits-full, good}
@@ -46,7 +46,7 @@ use Rattle.bridge.specs.Proper.{Proper}
 use Rattle.bridge.specs.FormulaLaws.{formula-laws}
 use Rattle.interface.specs.Answers.{shownOf, previewReply}
 use Rattle.interface.specs.Calls.{workOn, workedMemory, previewedAs, previewed, previewAnswer, previewMemory}
-use Rattle.demand.specs.Holds.{joined, holds, markOf, keptFor, Ok, Written}
+use Rattle.demand.specs.Holds.{withMarks, holds, markOf, keptFor, Ok, Written}
 use Rattle.demand.specs.Bound.{among-by}
 use Rattle.demand.specs.Appended.{lengths, long-enough, entries-length}
 use Rattle.demand.specs.Standing.{beyond, forms-joined, size-held}
@@ -55,7 +55,7 @@ use Rattle.demand.specs.Cells.{keeps}
 use Rattle.demand.specs.Editing.{Done}
 use Rattle.demand.specs.Needs.{entry-nth, node-nth, needs}
 use Rattle.demand.specs.Starts.{start-length, start-at, kept-view, leaf-value, leaf-view}
-use Rattle.demand.specs.Working.{formAt, shownAt, held-nth, Ready, Stored, Framed, Left, loop, counts}
+use Rattle.demand.specs.PreviewLoop.{formAt, shownAt, held-nth, Ready, Stored, Framed, Left, loop, counts}
 
 -- what a node says of its form: whether it is worked out, the name that a function shows, and its links
 record Says (n : Node) (φ : ℕ → Form) : Type 0 where
@@ -373,7 +373,7 @@ module _ (m : Memory) (o : Ok m) (i : Invariant formulas formula-laws (holds m))
         record {
           answer = answered;
           ok = ok;
-          holds = λ t. record { recording = xs; entries = ((λ u. joined (formsOf (nodes-stay u)) (entriesOf m′)) ∙ left .entries) t };
+          holds = λ t. record { recording = xs; entries = ((λ u. withMarks (formsOf (nodes-stay u)) (entriesOf m′)) ∙ left .entries) t };
         }
 
 pub previewing : (m : Memory) (n a : ℕ) → Ok m → Invariant formulas formula-laws (holds m) → wellFormed m ≡ true

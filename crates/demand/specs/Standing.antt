@@ -19,7 +19,7 @@ use Rattle.table.specs.Bind.{find, relink, Bound, bindOne, bindAll}
 use Rattle.formulas.specs.Formulas.{formulas}
 use Rattle.bridge.specs.Graphs.{nodes, graph-laws}
 use Rattle.bridge.specs.Recorded.{formsOf, length-forms}
-use Rattle.demand.specs.Holds.{joined, markOf}
+use Rattle.demand.specs.Holds.{withMarks, markOf}
 use Rattle.binder.specs.AppendedLaws.{newEntry}
 use Rattle.demand.specs.Appended.{entries-length}
 
@@ -92,15 +92,15 @@ more b (r ∷ rs) =
     record { new = u .new ++ v .new; is = v .is ∙ ap (λ (l : List Node). l ++ v .new) e ∙ append-assoc (b .nodes) (u .new) (v .new) }
 
 -- what is held
-pub forms-joined : (fs : List Form) (es : List Entry) → length fs ≡ length es → Model.forms formulas (joined fs es) ≡ fs
-unfolding joined
+pub forms-joined : (fs : List Form) (es : List Entry) → length fs ≡ length es → Model.forms formulas (withMarks fs es) ≡ fs
+unfolding withMarks
 forms-joined [] es h = refl
 forms-joined (f ∷ fs) [] h = absurd (omega arith)
 forms-joined (f ∷ fs) (e ∷ es) h = ap (λ (l : List Form). f ∷ l) (forms-joined fs es (omega arith))
 
 pub joined-append : (fs gs : List Form) (es : List Entry) (ns : List Node) → length fs ≡ length es → length gs ≡ length ns
-    → joined (fs ++ gs) (es ++ map newEntry ns) ≡ joined fs es ++ map (Model.unmarked formulas) gs
-unfolding joined
+    → withMarks (fs ++ gs) (es ++ map newEntry ns) ≡ withMarks fs es ++ map (Model.unmarked formulas) gs
+unfolding withMarks
 joined-append [] [] [] [] h k = refl
 joined-append [] [] [] (n ∷ ns) h k = refl
 joined-append [] (g ∷ gs) [] [] h k = absurd (omega arith)

@@ -15,7 +15,7 @@ use lib.Seq.{getD-set-same, getD-set-other}
 use Rattle.values.specs.declared.Value.{Value}
 use Rattle.values.specs.declared.Value.the-variants.{Number, Window, Function, Delayed, Missing}
 use Rattle.values.specs.Shown.{shownNumbers}
-use Rattle.values.specs.Kept as Values
+use Rattle.values.specs.Keepable as Values
 use Rattle.values.specs.Packing.{packOf, unpackOf}
 use Rattle.values.specs.PackingLaws.{round}
 use Rattle.values.specs.Ranges.{down-range}
@@ -104,7 +104,7 @@ names-kept (aReason r) = (refl, refl)
 
 -- where w holds the names that the form awaits, the cells kept with its value are those of what it shows
 pub kept-cells : (cells : List ℕ) (i w : ℕ) (xs : List ℤ) (f : Form) → (leb 1 (slotA w) ≡ false → leb 1 (slotB w) ≡ false) → slotNames cells w ≡ awaited f
-    → Values.Kept (length xs) (valueOf (evaluate xs nowhere f)) → length xs ≤ 1024 → (valueOf (evaluate xs nowhere f) ≡ Function → keyAt cells i ≡ nameOf f)
+    → Values.Keepable (length xs) (valueOf (evaluate xs nowhere f)) → length xs ≤ 1024 → (valueOf (evaluate xs nowhere f) ≡ Function → keyAt cells i ≡ nameOf f)
     → keptFor (shows xs f)
     ≡ record {
       value = packOf (valueOf (evaluate xs nowhere f));
@@ -147,7 +147,7 @@ kept-view size links cells n v h e m =
 -- a leaf by its node: its value, which can be held, and what it shows
 record Leaf (xs : List ℤ) (n : Node) (f : Form) : Type 0 where
   value : leafOf (length xs) (n .kind) (n .key) ≡ packOf (valueOf (evaluate xs nowhere f))
-  held : Values.Held (valueOf (evaluate xs nowhere f))
+  held : Values.Storable (valueOf (evaluate xs nowhere f))
   shown : (u : View) → (let s = shownNumbers (valueOf (evaluate xs nowhere f)) in
       shownOf (pickV (eqb (n .kind) 1) (view s (n .key) 0) (pickV (ltb (n .kind) 4) (view s 0 0) u)) ≡ shows xs f)
 

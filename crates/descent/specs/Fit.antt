@@ -18,7 +18,7 @@ use Rattle.descent.specs.Cursor.{Cursor, binderLink, lambdasIn, isAt, he
 use Rattle.descent.specs.Cursor.{atLet, atLambda, atBracket, atComma, atCallOpen, pass, passPart, passMember, refuse, judge, next, need, letHead, lambdaHead, callHead}
 use Rattle.descent.specs.Descent.{State, moved, Call, newCall, Mode, inExpression, inCalls, inArguments, inMore, enter}
 use Rattle.descent.specs.Moves.{not-refused, was-due, moved-judge, moved-pass, moved-let, moved-lambda, moved-call, moved-need, behind-some}
-use Rattle.descent.specs.Kept.{Kept, depthOf, owed, kept-moved}
+use Rattle.descent.specs.Preserved.{Preserved, depthOf, owed, kept-moved}
 
 -- a call being read
 pub record CallFit (k : Call) (s : State) : Type 0 where
@@ -128,7 +128,7 @@ links-entered depth x j c scope h l b m =
     ]
 
 -- a state that is kept is fit again
-pub fit-kept : (m m' : Mode) (p g o : ℕ) (s s' : State) → Fit m s → Kept (depthOf m') p g o s s' → s' .cursor .count + owed m' ≤ s' .cursor .parts
+pub fit-kept : (m m' : Mode) (p g o : ℕ) (s s' : State) → Fit m s → Preserved (depthOf m') p g o s s' → s' .cursor .count + owed m' ≤ s' .cursor .parts
     → marksOf m' + besides m' ≤ 16 → depthOf m' ≤ marksOf m' → depthOf m' ≤ depthOf m → OwnFit m' s' → Fit m' s'
 fit-kept m m' p g o s s' h k c l d e own =
     record {

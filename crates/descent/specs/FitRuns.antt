@@ -17,7 +17,7 @@ use Rattle.descent.specs.Descent.{State, moved, then, counted, rooted, p
 use Rattle.descent.specs.Descent.{Mode, Reader, inExpression, inCalls, inArguments, inMore, readName, readNumber, readShut, readLet, readLambda, readBracket}
 use Rattle.descent.specs.Descent.{readExpression, readCalls, readArguments, readMore, step, run}
 use Rattle.descent.specs.Moves.{Moved, moved-judge, moved-pass, moved-lambda, behind-some}
-use Rattle.descent.specs.Kept.{Kept, Keeps, depthOf, passes, owed, kept-atom, kept-number, kept-shut, run-keeps}
+use Rattle.descent.specs.Preserved.{Preserved, Keeps, depthOf, passes, owed, kept-atom, kept-number, kept-shut, run-keeps}
 use Rattle.descent.specs.Fit.{marksOf, Fit, fit-kept, fit-let-value, fit-bracketed, fit-call, fit-argument, fit-comma, fit-let-body, fit-bracket-calls}
 
 -- where the whole is not refused, the first is not, and the whole is the second
@@ -66,7 +66,7 @@ part-count end n c = by-test (λ x. x .count ≡ c .count) (eqb n 0) (λ _. pass
 abbrev pub RootsHeld : Reader → Type 0
 RootsHeld rd = (m : Mode) (s : State) → Fit m s → rd m s .cursor .number ≡ 0 → RootHeld (rd m s)
 
-fit-done : (m : Mode) (s s' : State) → Fit m s → Kept (depthOf m) (passes m) 0 (owed m) s s' → s' .cursor .number ≡ 0 → RootHeld s'
+fit-done : (m : Mode) (s s' : State) → Fit m s → Preserved (depthOf m) (passes m) 0 (owed m) s s' → s' .cursor .number ≡ 0 → RootHeld s'
     → Fit (inCalls (marksOf m) (depthOf m)) s'
 fit-done m s s' h k z r =
     let G = k .went z in
@@ -260,7 +260,7 @@ room-lambda end f w marks depth s h b c e z u g y =
     let m : Moved 3 1 (s .cursor) c = rw e (moved-lambda end w marks depth (s .scope) (s .cursor) (behind-some lambdaKind (s .cursor .rest) (lit< tt) b)) in
     let G = m .went z in
     let one = enter depth (c .name) 0 (moved s c) in
-    let K : Kept (suc depth) 1 0 0 one u = rw g (run-keeps end f (inExpression false (suc marks) (suc depth)) one) in
+    let K : Preserved (suc depth) 1 0 0 one u = rw g (run-keeps end f (inExpression false (suc marks) (suc depth)) one) in
     let J = K .went y in
     let few = h .parts in
     let n = h .count in

@@ -4,7 +4,7 @@ pub mod Cells
 pub mod Continued
 pub mod Fronts
 pub mod Moves
-pub mod Kept
+pub mod Preserved
 pub mod Scope
 pub mod Heads
 pub mod Wrote

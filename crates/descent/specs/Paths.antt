@@ -16,7 +16,7 @@ use Rattle.descent.specs.Cursor.{atBracket, atComma, pass, refuse, judge
 use Rattle.descent.specs.Descent.{State, moved, then, put, mark, enter, Call, firstGiven, nextGiven, Mode, inExpression, inCalls, inArguments, inMore}
 use Rattle.descent.specs.Descent.{readName, readNumber, readLet, readLambda, readBracket, readExpression, step, run, want, start, ended, readWith, readInto}
 use Rattle.descent.specs.Moves.{Moved, behind-some, moved-judge, moved-pass, moved-need, moved-let, moved-lambda}
-use Rattle.descent.specs.Kept.{Kept, depthOf, passes, owed, run-keeps, kept-atom, kept-number}
+use Rattle.descent.specs.Preserved.{Preserved, depthOf, passes, owed, run-keeps, kept-atom, kept-number}
 use Rattle.descent.specs.Fit.{Fit, marksOf}
 use Rattle.descent.specs.FitRuns.{Room, run-roots, run-fits, fit-first, fit-next, room-lambda}
 
@@ -45,8 +45,8 @@ module _ (end : ℕ) where
       go (suc f) l = h f (omega arith)
 
   -- what such a reading keeps, and that it ends fit
-  reads-kept : {m : Mode} {s s' : State} → Reads m s s' → Kept (depthOf m) (passes m) 0 (owed m) s s'
-  reads-kept {m} {s} {s'} x = subst (λ (a : State). Kept (depthOf m) (passes m) 0 (owed m) s a) (x .same (suc (want m s)) (omega arith)) (run-keeps end (suc (want m s)) m s)
+  reads-kept : {m : Mode} {s s' : State} → Reads m s s' → Preserved (depthOf m) (passes m) 0 (owed m) s s'
+  reads-kept {m} {s} {s'} x = subst (λ (a : State). Preserved (depthOf m) (passes m) 0 (owed m) s a) (x .same (suc (want m s)) (omega arith)) (run-keeps end (suc (want m s)) m s)
 
   pub reads-fit : {m : Mode} {s s' : State} → Reads m s s' → Fit m s → s' .cursor .number ≡ 0 → Fit (inCalls (marksOf m) (depthOf m)) s'
   reads-fit {m} {s} {s'} x h =
@@ -209,7 +209,7 @@ module _ (end : ℕ) where
 
     pub less-name : {a : State} → isAt wordKind (s .cursor .rest) ≡ true → a ≡ readName end w depth s → eqb (a .cursor .number) 0 ≡ true
         → length (a .cursor .rest) + 1 ≤ length (s .cursor .rest)
-    less-name {a} b e z = subst (λ (x : State). Kept depth 1 0 0 s x) (sym e) (kept-atom end depth s w b) .went (eqb-true (a .cursor .number) 0 z) .0
+    less-name {a} b e z = subst (λ (x : State). Preserved depth 1 0 0 s x) (sym e) (kept-atom end depth s w b) .went (eqb-true (a .cursor .number) 0 z) .0
 
     pub name-read : {a r : State} → isAt wordKind (s .cursor .rest) ≡ true → a ≡ readName end w depth s → eqb (a .cursor .number) 0 ≡ true
         → Reads (inCalls marks depth) a r → Reads E s r
@@ -224,7 +224,7 @@ module _ (end : ℕ) where
 
     pub less-number : {a : State} → isAt digitsKind (s .cursor .rest) ≡ true → a ≡ readNumber end w s → eqb (a .cursor .number) 0 ≡ true
         → length (a .cursor .rest) + 1 ≤ length (s .cursor .rest)
-    less-number {a} b e z = subst (λ (x : State). Kept depth 1 0 0 s x) (sym e) (kept-number end depth s w b) .went (eqb-true (a .cursor .number) 0 z) .0
+    less-number {a} b e z = subst (λ (x : State). Preserved depth 1 0 0 s x) (sym e) (kept-number end depth s w b) .went (eqb-true (a .cursor .number) 0 z) .0
 
     pub number-read : {a r : State} → isAt digitsKind (s .cursor .rest) ≡ true → a ≡ readNumber end w s → eqb (a .cursor .number) 0 ≡ true
         → Reads (inCalls marks depth) a r → Reads E s r

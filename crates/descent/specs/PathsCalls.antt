@@ -12,7 +12,7 @@ use Rattle.descent.specs.Cursor.{atComma, pass, refuse, judge, callHead}
 use Rattle.descent.specs.Descent.{State, moved, then, Call, newCall, firstGiven, nextGiven, Mode, inExpression, inCalls, inArguments, inMore}
 use Rattle.descent.specs.Descent.{readShut, readCalls, readArguments, readMore, step, run}
 use Rattle.descent.specs.Moves.{behind-some, moved-judge, moved-pass, moved-call}
-use Rattle.descent.specs.Kept.{Kept, kept-shut}
+use Rattle.descent.specs.Preserved.{Preserved, kept-shut}
 use Rattle.descent.specs.Paths.{then-stop, then-go, less-moved, Reads, reads-step, less-read}
 
 module _ (end : ℕ) where
@@ -41,7 +41,7 @@ module _ (end : ℕ) where
     -- a call that is over, behind its ( or behind an argument
     pub less-shut : {a : State} (k : Call) → isAt shutKind (s .cursor .rest) ≡ true → a ≡ readShut end k s → eqb (a .cursor .number) 0 ≡ true
         → length (a .cursor .rest) + 1 ≤ length (s .cursor .rest)
-    less-shut {a} k b e z = subst (λ (x : State). Kept depth 1 0 1 s x) (sym e) (kept-shut end depth s k b) .went (eqb-true (a .cursor .number) 0 z) .0
+    less-shut {a} k b e z = subst (λ (x : State). Preserved depth 1 0 1 s x) (sym e) (kept-shut end depth s k b) .went (eqb-true (a .cursor .number) 0 z) .0
 
     module _ (k : Call) where
       abbrev A : Mode

@@ -25,7 +25,7 @@ use Rattle.descent.specs.Cells.{sets-append}
 use Rattle.descent.specs.Continued.{readOn}
 use Rattle.descent.specs.Fronts.{front-calls, front-arguments, front-more, beyond}
 use Rattle.descent.specs.Moves.{behind-some, moved-judge, moved-pass, moved-call}
-use Rattle.descent.specs.Kept.{run-keeps}
+use Rattle.descent.specs.Preserved.{run-keeps}
 use Rattle.descent.specs.Scope.{around, call-number}
 use Rattle.descent.specs.Heads.{unless-by, fits-judge, fits-here, fits-call}
 use Rattle.descent.specs.Wrote.{Ready, ready-moved, ready-marks, ready-wrote, wrote-put, node-as}

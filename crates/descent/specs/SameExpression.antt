@@ -24,7 +24,7 @@ use Rattle.descent.specs.Descent.{readName, readNumber, readLet, readLam
 use Rattle.descent.specs.Continued.{readOn}
 use Rattle.descent.specs.Fronts.{front-expression, front-value, front-brackets, beyond}
 use Rattle.descent.specs.Moves.{behind-some, moved-judge, moved-pass, moved-need, moved-let, moved-lambda, moved-name-part, moved-number-part}
-use Rattle.descent.specs.Kept.{run-keeps}
+use Rattle.descent.specs.Preserved.{run-keeps}
 use Rattle.descent.specs.Scope.{bindersOf, around, bracket-number, name-number, literal-number}
 use Rattle.descent.specs.Heads.{unless-by, fits-judge, fits-here, fits-need, fits-let, fits-lambda}
 use Rattle.descent.specs.Wrote.{Ready, ready-moved, ready-marks, ready-wrote, ready-entered, wrote-put, wrote-name, wrote-let, stays-name, node-as, wrote-at, wrote-moved}

@@ -20,7 +20,7 @@ use Rattle.descent.specs.Cells.{sets-all, words, length-words}
 use Rattle.descent.specs.Continued.{judgeAt, endedAt, readOn, text-on}
 use Rattle.descent.specs.Fronts.{due}
 use Rattle.descent.specs.Moves.{was-due}
-use Rattle.descent.specs.Kept.{Kept, run-keeps, ended-keeps}
+use Rattle.descent.specs.Preserved.{Preserved, run-keeps, ended-keeps}
 use Rattle.descent.specs.Scope.{bindersOf}
 use Rattle.descent.specs.Heads.{fits-judge, fits-here, due-zero}
 use Rattle.descent.specs.Wrote.{Ready, Wrote}
@@ -145,7 +145,7 @@ module _ (text R P S : List ℕ) (f : ℕ) (room : length S ≡ 32) (enough : 2 
       (λ y. subst (λ (k : Cursor). Ended R P r (moved before k)) (sym (y .0)) (record { e = q .tree; is = y .1; wrote = q .wrote; rest = at-end (c .rest) (y .2) })))
 
   -- lengths and counts, whether or not the text is refused
-  pub after-keeps : Kept 0 1 0 0 (start (tokens text) R P S) after
+  pub after-keeps : Preserved 0 1 0 0 (start (tokens text) R P S) after
   unfolding readWith
   after-keeps = ended-keeps end 0 (start (tokens text) R P S) before (run-keeps end f (inExpression false 0 0) (start (tokens text) R P S))
 

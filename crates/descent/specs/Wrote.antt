@@ -18,7 +18,7 @@ use Rattle.descent.specs.Cursor.{Cursor, binderLink, binderOf}
 use Rattle.descent.specs.Descent.{State, moved, counted, rooted, put, link, mark, enter, putBound, putScoped, putName}
 use Rattle.descent.specs.Cells.{sets-append, put-before, words, put-word}
 use Rattle.descent.specs.Moves.{Moved}
-use Rattle.descent.specs.Kept.{Kept}
+use Rattle.descent.specs.Preserved.{Preserved}
 use Rattle.descent.specs.Scope.{Holds, holds-kept, holds-entered, foundAt, scoped-is}
 
 -- R: the records' array before reading
@@ -45,7 +45,7 @@ module _ (R : List ℕ) (Σ : List Named) (t : List Node) (marks depth : ℕ) (s
   pub ready-marks : (marks' : ℕ) → marks ≤ marks' → Ready R Σ t marks' depth s
   ready-marks marks' l = record { number = h .number; count = h .count; records = h .records; holds = h .holds; room = h .room; few = omega arith }
 
-  pub ready-wrote : (p g o q : ℕ) (B : List ℕ) (Z : Recorded) (s' : State) → Kept depth p g o s s' → s' .cursor .number ≡ 0 → Wrote R B q Z s'
+  pub ready-wrote : (p g o q : ℕ) (B : List ℕ) (Z : Recorded) (s' : State) → Preserved depth p g o s s' → s' .cursor .number ≡ 0 → Wrote R B q Z s'
       → Ready R Σ (Z .records) marks depth s'
   ready-wrote p g o q B Z s' k z w =
       record { number = z; count = w .count; records = w .records; holds = holds-kept Σ depth (s .scope) (s' .scope) (k .below) (h .holds); room = k .scope ∙ h .room; few = h .few }

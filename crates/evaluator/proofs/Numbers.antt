@@ -24,7 +24,7 @@ use Rattle.values.specs.Applied.{choose, ruled1, applied1}
 use Rattle.values.specs.Packing.{windowCell}
 use Rattle.values.specs.PackingLaws.{numberIn, unpack-number}
 use Rattle.meaning.specs.FormsLaws.{and-left, and-right}
-use Rattle.evaluator.specs.Working.{boundedOf, callOf}
+use Rattle.evaluator.specs.Applying.{boundedOf, callOf}
 
 pub both-numbers : (a b : ℕ) → (ltb a windowCell && ltb b windowCell) ≡ true → (a < windowCell) × (b < windowCell)
 both-numbers a b e = (ltb-true a windowCell (and-left _ (ltb b windowCell) e), ltb-true b windowCell (and-right (ltb a windowCell) _ e))

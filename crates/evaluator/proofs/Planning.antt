@@ -29,7 +29,7 @@ use Rattle.table.specs.Links.{kindAt, firstAt, secondAt, isBelow}
 use Rattle.table.specs.Waits.{ownOf}
 use Rattle.evaluator.specs.Frames.{functionOf}
 use Rattle.evaluator.proofs.Numbers.{both-numbers}
-use Rattle.evaluator.specs.Working.{graph, boundedOf, askOf, callOf, doneOf, taskOf, judgeOf, runOf, followOf, planOf, Planned, concludeOf, Bounds, Tallied}
+use Rattle.evaluator.specs.Applying.{graph, boundedOf, askOf, callOf, doneOf, taskOf, judgeOf, runOf, followOf, planOf, Planned, concludeOf, Bounds, Tallied}
 
 -- ---- receivers
 module _ (v : Value) where

@@ -21,7 +21,7 @@ use Rattle.table.specs.Nodes.{memberOfKind}
 use Rattle.evaluator.specs.declared.working.Task.{Task}
 use Rattle.evaluator.specs.Reach.{Gathers}
 use Rattle.evaluator.specs.Frames.{bound, functionOf}
-use Rattle.evaluator.specs.Working.{Graph, planOf, Planned, fillOf, setOf, overOf, concludeOf, finishOf, applyAt, Applies, Fills, Tallied}
+use Rattle.evaluator.specs.Applying.{Graph, planOf, Planned, fillOf, setOf, overOf, concludeOf, finishOf, applyAt, Applies, Fills, Tallied}
 
 pub same-applies : (g : Graph) (frame : List ℕ) (i v r : ℕ) → v ≡ r → Applies g frame i r → Applies g frame i v
 same-applies g frame i v r e a = rw e a

@@ -1,3 +1,3 @@
 pub mod Frames
 pub mod Reach
-pub mod Working
+pub mod Applying

@@ -37,7 +37,7 @@ ghost use Rattle.values.specs.declared.apply.Applied.the-variants.{Done};
 ghost use Rattle.values.specs.Packing.{packOf, windowCell};
 ghost use Rattle.values.specs.Tallies.{Within};
 ghost use Rattle.table.specs.Nodes.{memberOfKind};
-ghost use Rattle.evaluator.specs.Working.{graph, askOf, callOf, doneOf, taskOf, judgeOf, runOf, followOf, planOf, Planned, concludeOf, Applies, Fills, Bounds, Tallied, Reruns, Counts};
+ghost use Rattle.evaluator.specs.Applying.{graph, askOf, callOf, doneOf, taskOf, judgeOf, runOf, followOf, planOf, Planned, concludeOf, Applies, Fills, Bounds, Tallied, Reruns, Counts};
 
 // What an entry asks for: it is done, with a value; or a body is to be worked out with a variable set, to judge a function (whose kind it
 // has then) or to run it over a window.

@@ -20,11 +20,11 @@ use Rattle.binder.specs.Records.{BoundAll}
 use Rattle.table.specs.ChainLaws.{length-numbered}
 use Rattle.scheduler.specs.Works.{workOf, Lent, Works}
 use Rattle.reader.specs.declared.answer.Read.{Read}
-use Rattle.reader.specs.Reading.{Reading}
+use Rattle.reader.specs.Results.{ReadsInto}
 use Rattle.measured.specs.Measures.{readNumber, ReadInto, canBind, boundAll, boundNumber, bindNumber, packedWork, canWork, workMeasured, Worked}
 
 -- reading
-pub read-into : (text R P : List ℕ) (r : Read) (R′ P′ : List ℕ) → Reading text R P r R′ P′ → (n : ℕ) → n ≡ readNumber r → ReadInto text R P n R′ P′
+pub read-into : (text R P : List ℕ) (r : Read) (R′ P′ : List ℕ) → ReadsInto text R P r R′ P′ → (n : ℕ) → n ≡ readNumber r → ReadInto text R P n R′ P′
 read-into text R P r R′ P′ h n e = record { answer = e ∙ ap readNumber (h .answer); records = h .records; places = h .places }
 
 -- binding

@@ -14,7 +14,7 @@ use Rattle.table.specs.Bind.{Bound, bindAll}
 use Rattle.binder.specs.Records.{recordAt, bound}
 use Rattle.scheduler.specs.Works.{Work, workOf, worked}
 use Rattle.descent.specs.Descent.{readInto}
-use Rattle.reader.specs.Reading.{answerOf, noBinders}
+use Rattle.reader.specs.Results.{answerOf, noBinders}
 use Rattle.reader.specs.declared.answer.Read.{Read}
 use Rattle.reader.specs.declared.answer.Read.the-variants.{Done, Refused}
 

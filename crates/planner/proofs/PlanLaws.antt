@@ -32,7 +32,7 @@ use Rattle.descent.specs.Descent.{State, readInto}
 use Rattle.descent.specs.Decoding as D
 use Rattle.descent.specs.Linked.{Earlier}
 use Rattle.descent.specs.Theorems.{Held, Result, into}
-use Rattle.reader.specs.Reading.{Reading, answerOf, noBinders}
+use Rattle.reader.specs.Results.{ReadsInto, answerOf, noBinders}
 use Rattle.reader.specs.declared.answer.Read.{Read}
 use Rattle.reader.specs.declared.answer.Read.the-variants.{Done, Refused}
 use Rattle.interface.specs.Calls.{boundTo, tooMany, editedAs, editedMemory, readAnswer, readMemory}
@@ -77,7 +77,7 @@ held-read text R P x s n size root R′ P′ q h lp qn qs qr qR qP =
       room = rw (qP, h .places) (simp (length-append, length-drop) (omega (arith, h .parts, h .fewParts)));
     }
 
-module _ (text R P : List ℕ) (r : Read) (R′ P′ : List ℕ) (reading : Reading text R P r R′ P′) (lr : length R ≡ 256) (lp : length P ≡ 128) where
+module _ (text R P : List ℕ) (r : Read) (R′ P′ : List ℕ) (reading : ReadsInto text R P r R′ P′) (lr : length R ≡ 256) (lp : length P ≡ 128) where
   abbrev after : State
   after = readInto text R P noBinders
 
@@ -119,7 +119,7 @@ declined-only : (m : Memory) (text : List ℕ) (number place : ℕ) (P N F : Lis
     → Planned m text (plan number place 0 0 0) P N F
 declined-only m text number place P N F u a b = record { declined = λ _. record { answer = a; memory = b }; accepted = λ z. absurd (u z) }
 
-pub planned-refused : (m : Memory) (text R P : List ℕ) (r : Read) (R′ P′ : List ℕ) (number place : ℕ) (N F : List ℕ) → Reading text R P r R′ P′ → length R ≡ 256 → length P ≡ 128
+pub planned-refused : (m : Memory) (text R P : List ℕ) (r : Read) (R′ P′ : List ℕ) (number place : ℕ) (N F : List ℕ) → ReadsInto text R P r R′ P′ → length R ≡ 256 → length P ≡ 128
     → r ≡ Refused number place → Planned m text (plan number place 0 0 0) P′ N F
 unfolding readAnswer readMemory
 planned-refused m text R P r R′ P′ number place N F reading lr lp e =

@@ -25,8 +25,8 @@ use Rattle.interface.specs.Calls.{openAnswer, openMemory, openedMemory, editMem
 use Rattle.demand.specs.Appended.{lengths, long-enough}
 use Rattle.demand.specs.Opening.{count-zero, count-readings, longer}
 use Rattle.demand.specs.Grown.{read-well, read-fits}
-use Rattle.demand.specs.WorkedOut.{workedOut}
-use Rattle.demand.specs.Worked.{worked-well, worked-fits, worked-rise}
+use Rattle.demand.specs.WorkedCount.{workedOut}
+use Rattle.demand.specs.AnyCache.{worked-well, worked-fits, worked-rise}
 
 -- ---- open
 

@@ -51,7 +51,7 @@ use Rattle.interface.specs.Calls.{openAnswer, openMemory, editAnswer, editMemor
 use Rattle.interface.specs.Effects.{Opens, Edits, Previews, OpensForC, EditsForC, PreviewsForC}
 use Rattle.interface.specs.Acceptance.{OpenRefusal, EditRefusal, PreviewRefusal, IsEdited, CanEdit, InLanguage, TextDeclined}
 use Rattle.interface.specs.AcceptanceLaws as Acceptance
-use Rattle.demand.specs.WorkedOut.{workedOut}
+use Rattle.demand.specs.WorkedCount.{workedOut}
 use Rattle.promises.specs.Implementing as Implementing
 use Rattle.promises.specs.Implementing.{engine, implements}
 use Rattle.promises.specs.Awaiting as Awaiting

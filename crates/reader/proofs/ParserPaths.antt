@@ -17,7 +17,7 @@ use Rattle.descent.specs.Descent.{State, moved, Mode, inExpression, inCalls, in
 use Rattle.descent.specs.Fit as F
 use Rattle.descent.specs.Fit.{Fit}
 use Rattle.descent.specs.FitRuns as G
-use Rattle.descent.specs.Kept.{depthOf, passes}
+use Rattle.descent.specs.Preserved.{depthOf, passes}
 use Rattle.descent.specs.Moves.{Moved, behind-some, moved-need, moved-let}
 use Rattle.descent.specs.Paths as Paths
 use Rattle.descent.specs.Paths.{Reads}
@@ -32,7 +32,7 @@ use Rattle.steps.specs.Cursors.{cursorOf, stateOf, refusing, passing}
 use Rattle.steps.specs.CursorsLaws.{head-place, at-kind, not-kind}
 use Rattle.steps.specs.Scratch.{Wrote, WroteFor, NameAhead, NumberAhead, ShutAhead, Recorded, callOf}
 use Rattle.reader.specs.Parsing.{Ready, ReadyAt, Parses, Continues}
-use Rattle.reader.specs.Reading.{answerOf, noBinders, Reading}
+use Rattle.reader.specs.Results.{answerOf, noBinders, ReadsInto}
 
 -- ---- one mark more, one binder more
 more-marks : {w : Bool} {marks depth : ℕ} (Q : Mode → Type 0) → Q (inExpression w (marks + 1) depth) → Q (inExpression w (suc marks) depth)
@@ -545,22 +545,22 @@ module _ (text R P : List ℕ) (a : Cursor) (R′ P′ S′ : List ℕ) (h : Par
   abbrev whole : State
   whole = stateOf text a R′ P′ S′
 
-  reading : (r : Read) (u : C.Cursor) → D.ended (length text) whole ≡ moved whole u → r ≡ answerOf u → Reading text R P r R′ P′
+  reading : (r : Read) (u : C.Cursor) → D.ended (length text) whole ≡ moved whole u → r ≡ answerOf u → ReadsInto text R P r R′ P′
   reading r u e q =
       let w = Paths.whole-read text R P noBinders (h .reads) ∙ e in
       record { answer = q ∙ ap (λ (s : State). answerOf (s .cursor)) (sym w); records = ap (λ (s : State). s .records) (sym w); places = ap (λ (s : State). s .places) (sym w) }
 
-  pub read-refused : (a .number ≡ 0 → ⊥) → Reading text R P (Refused (a .number) (a .place)) R′ P′
+  pub read-refused : (a .number ≡ 0 → ⊥) → ReadsInto text R P (Refused (a .number) (a .place)) R′ P′
   unfolding D.ended answerOf when
   read-refused z = reading _ (cursorOf text a) (Paths.then-stop _ refl (ne-eqb (a .number) 0 z)) (rw (ne-eqb (a .number) 0 z))
 
   module _ (z : a .number ≡ 0) where
     module _ (x : Lexed) (e : x ≡ lexAt text (a .at)) where
-      pub read-done : x .kind ≡ 0 → Reading text R P (Done (a .parts) (a .count) (a .root)) R′ P′
+      pub read-done : x .kind ≡ 0 → ReadsInto text R P (Done (a .parts) (a .count) (a .root)) R′ P′
       unfolding D.ended C.judge C.atMark answerOf when
       read-done q = reading _ (cursorOf text a) (Paths.then-go _ refl (eq-eqb (a .number) 0 z) (rw (at-kind text (a .at) x e 0 q))) (rw (eq-eqb (a .number) 0 z))
 
-      pub read-more : (x .kind ≡ 0 → ⊥) → Reading text R P (Refused 5 (x .start)) R′ P′
+      pub read-more : (x .kind ≡ 0 → ⊥) → ReadsInto text R P (Refused 5 (x .start)) R′ P′
       unfolding D.ended C.judge C.atMark C.refuse answerOf when
       read-more q =
           reading _ (C.refuse (length text) 5 (cursorOf text a)) (Paths.then-go _ refl (eq-eqb (a .number) 0 z) (rw (not-kind text (a .at) x e 0 q)))

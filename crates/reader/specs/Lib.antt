@@ -1,2 +1,2 @@
 pub mod Parsing
-pub mod Reading
+pub mod Results

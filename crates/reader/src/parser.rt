@@ -22,7 +22,7 @@ ghost use Rattle.descent.specs.Descent.{firstGiven, nextGiven, inExpression, in
 ghost use Rattle.lexer.specs.Lexing.{tokensFrom};
 ghost use Rattle.steps.specs.Scratch.{callOf};
 ghost use Rattle.reader.specs.Parsing.{Ready, ReadyAt, ReadyAtom, Parses, Continues};
-ghost use Rattle.reader.specs.Reading.{Reading};
+ghost use Rattle.reader.specs.Results.{ReadsInto};
 
 // One less, down to 0.
 fn less(n: u8) -> u8
@@ -358,7 +358,7 @@ fn more(
 // Reads a whole text, over scratch arrays of any contents: an expression, and then the end. 01's refusals 5 to 12 are given by the lowest number
 // at the first place.
 pub fn read(text: &[u8], records: &mut [u64; 256], places: &mut [u16; 128]) -> Read
-    ensures { λ r. ⌜ Reading (now (text .entry)) (now (records .entry)) (now (places .entry)) r (now (records .exit)) (now (places .exit)) ⌝ }
+    ensures { λ r. ⌜ ReadsInto (now (text .entry)) (now (records .entry)) (now (places .entry)) r (now (records .exit)) (now (places .exit)) ⌝ }
 {
     let mut scope = [0u64; 32];
     let start = Cursor {

@@ -26,7 +26,7 @@ use Rattle.table.specs.Links.{kindAt, firstAt, secondAt, keyAt}
 use Rattle.table.specs.Waits.{awaits}
 use Rattle.evaluator.specs.Reach.{moves, gathered}
 use Rattle.evaluator.specs.Frames.{bound}
-use Rattle.evaluator.specs.Working.{Go, fillOf, setOf, overOf}
+use Rattle.evaluator.specs.Applying.{Go, fillOf, setOf, overOf}
 use Rattle.refine.specs.Free.{decEq, free, never, split, both, free-variable, unbound-same}
 use Rattle.refine.specs.Tables.{EntryAt, is-number, is-variable, is-unbound, is-readings, is-function, is-ask, is-call, Good, PlainValue, Plain, kept-entry, Sees, here, down, sees-free, sees-below, sees-trans}
 use Rattle.refine.specs.Sweeps.{In, Rising, rising-above, list-moves, list-rises, list-low, list-top, list-down}

@@ -11,8 +11,8 @@ use Rattle.values.specs.declared.Value.the-variants.{Number, Window, Function, 
 use Rattle.values.specs.Runs.{Results, numbers, because}
 use Rattle.values.specs.Rules.{concluded}
 use Rattle.values.specs.Apply.{apply0, apply1}
-use Rattle.values.specs.KeptLaws.{Closed, Given, closed-told}
-use Rattle.values.specs.KeptApply.{closed-apply0, closed-apply1}
+use Rattle.values.specs.KeepableLaws.{Closed, Given, closed-told}
+use Rattle.values.specs.KeepableApply.{closed-apply0, closed-apply1}
 
 abbrev pub isFunction : Value → Bool
 isFunction (Number z) = false

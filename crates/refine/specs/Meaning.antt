@@ -24,7 +24,7 @@ use Rattle.values.specs.declared.runs.Tally.{Tally}
 use Rattle.values.specs.Apply.{isKind, apply0, isMissing, isDelayed}
 use Rattle.values.specs.Applied.{choose, ruledWindow, ruled1, applied1, completed}
 use Rattle.values.specs.ApplyLaws.{completed-is}
-use Rattle.values.specs.Kept.{Kept}
+use Rattle.values.specs.Keepable.{Keepable}
 use Rattle.values.specs.Packing.{packOf, unpackOf, functionCell, delayedCell, missingCell}
 use Rattle.values.specs.PackingLaws.{round}
 use Rattle.values.specs.Ranges.{up-size}
@@ -37,10 +37,10 @@ use Rattle.meaning.specs.Forms.{Form, variable, ask, call, function}
 use Rattle.meaning.specs.Evaluation.{Result, plain, runs, valueOf, runOf, Environment, bind, lookup, settled, functionOf, evaluate, awaited, hasName}
 use Rattle.table.specs.Nodes.{memberKind, memberOfKind}
 use Rattle.table.specs.Links.{kindAt, firstAt, secondAt, keyAt}
-use Rattle.table.specs.Waits.{slotA, slotB, holds, awaits, ownOf}
+use Rattle.table.specs.Waits.{slotA, slotB, hasSlot, awaits, ownOf}
 use Rattle.evaluator.specs.Reach.{gathered}
 use Rattle.evaluator.specs.Frames as Code
-use Rattle.evaluator.specs.Working.{graph, Go, boundedOf, askOf, callOf, doneOf, taskOf, judgeOf, runOf as taskRun, followOf, planOf, fillOf, overOf, concludeOf, finishOf, applyAt}
+use Rattle.evaluator.specs.Applying.{graph, Go, boundedOf, askOf, callOf, doneOf, taskOf, judgeOf, runOf as taskRun, followOf, planOf, fillOf, overOf, concludeOf, finishOf, applyAt}
 use Rattle.refine.specs.Free.{free, never, split, both, either, or-left, or-right, decEq, free-variable, free-call, free-function, unbound-same, settled-no, settled-find}
 use Rattle.refine.specs.Tables.{EntryAt, is-number, is-variable, is-unbound, is-readings, is-function, is-ask, is-call, Good, PlainValue, Plain, plain-lookup, kept-entry, Link, Sees, here, down, sees-free, sees-below}
 use Rattle.refine.specs.Kinds.{isFunction, ask-none, call-none}
@@ -55,7 +55,7 @@ member-kind m =
 
 -- ---- cells of values that can be kept
 module _ (n : ℕ) (few : n ≤ 1024) where
-  missing-cell : (v : Value) → Kept n v → leb missingCell (packOf v) ≡ isMissing v
+  missing-cell : (v : Value) → Keepable n v → leb missingCell (packOf v) ≡ isMissing v
   missing-cell (Number z) k = lt-leb missingCell (packOf (Number z)) (omega (arith, up-size 2147483648 z (k .held)))
   missing-cell (Window s l) k = lt-leb missingCell (packOf (Window s l)) (omega (arith, k .held .0, k .held .1))
   missing-cell Function k = refl
@@ -69,7 +69,7 @@ module _ (n : ℕ) (few : n ≤ 1024) where
   delayed-cell Delayed h = refl
   delayed-cell (Missing r) h = absurd h
 
-  bounded-kept : (v : Value) → Kept n v → boundedOf v ≡ v
+  bounded-kept : (v : Value) → Keepable n v → boundedOf v ≡ v
   unfolding boundedOf
   bounded-kept (Number z) k = refl
   bounded-kept (Window s l) k = rw (le-leb (s + l) 65535 (omega (arith, k .inside)))
@@ -78,7 +78,7 @@ module _ (n : ℕ) (few : n ≤ 1024) where
   bounded-kept (Missing r) k = refl
 
   -- a function's cell, from its body's value and whether it awaits a variable that has none
-  function-cell : (frame : List ℕ) (w : ℕ) (v : Value) (s : Bool) (g : ℤ → Result) → Kept n v → Code.isOpen frame w ≡ not s → Code.functionOf frame w (packOf v) ≡ packOf (valueOf (functionOf v s g))
+  function-cell : (frame : List ℕ) (w : ℕ) (v : Value) (s : Bool) (g : ℤ → Result) → Keepable n v → Code.isOpen frame w ≡ not s → Code.functionOf frame w (packOf v) ≡ packOf (valueOf (functionOf v s g))
   unfolding Code.functionOf valueOf
   function-cell frame w v s g k o = rw (missing-cell v k, o) (by v s)
     where
@@ -257,21 +257,21 @@ module _ (links cells waits : List ℕ) (xs : List ℤ) (n : ℕ) (φ : ℕ → 
     free-outer y = ap (free y) form ∙ free-function y x (φ b)
 
     -- a variable that the body awaits and that has another name is awaited by the function
-    held : (v : ℕ) → 1 ≤ v → holds wb v ≡ true → ((j : ℕ) → v ≡ suc j → j < n → kindAt links j ≡ 1 → keyAt cells j ≡ x → ⊥) → holds wi v ≡ true
+    held : (v : ℕ) → 1 ≤ v → hasSlot wb v ≡ true → ((j : ℕ) → v ≡ suc j → j < n → kindAt links j ≡ 1 → keyAt cells j ≡ x → ⊥) → hasSlot wi v ≡ true
     held v p q other =
         let s = good .slots b v b-n p q in
         let j : ℕ = s .at in
         let jn : j < n = omega (arith, s .below) in
-        let q′ : holds wb (suc j) ≡ true = subst (λ (k : ℕ). holds wb k ≡ true) (s .is) q in
+        let q′ : hasSlot wb (suc j) ≡ true = subst (λ (k : ℕ). hasSlot wb k ≡ true) (s .is) q in
         let a : free (keyAt cells j) (φ b) ≡ true = sym (good .awaited b j b-n jn (s .kind)) ∙ rw (le-leb 1 (suc j) (omega arith), q′) in
         let d : eqb x (keyAt cells j) ≡ false = ne-eqb x (keyAt cells j) (λ z. other j (s .is) jn (s .kind) (sym z)) in
         let w : awaits wi (suc j) ≡ true = good .awaited i j i-n jn (s .kind) ∙ free-outer (keyAt cells j) ∙ rw (d, a) in
-        subst (λ (k : ℕ). holds wi k ≡ true) (sym (s .is)) (both (leb 1 (suc j)) (holds wi (suc j)) w .1)
+        subst (λ (k : ℕ). hasSlot wi k ≡ true) (sym (s .is)) (both (leb 1 (suc j)) (hasSlot wi (suc j)) w .1)
 
-    hold-a : holds wb (slotA wb) ≡ true
+    hold-a : hasSlot wb (slotA wb) ≡ true
     hold-a = or-left (eqb (slotA wb) (slotA wb)) (eqb (slotB wb) (slotA wb)) (eq-eqb (slotA wb) (slotA wb) refl)
 
-    hold-b : holds wb (slotB wb) ≡ true
+    hold-b : hasSlot wb (slotB wb) ≡ true
     hold-b = or-right (eqb (slotA wb) (slotB wb)) (eqb (slotB wb) (slotB wb)) (eq-eqb (slotB wb) (slotB wb) refl)
 
     own-none : free x (φ b) ≡ false → ownOf wb wi ≡ 0
@@ -282,17 +282,17 @@ module _ (links cells waits : List ℕ) (xs : List ℤ) (n : ℕ) (φ : ℕ → 
               rw (held (slotA wb) p hold-a (clash (slotA wb) hold-a))
               (elim (decLt 0 (slotB wb)) [
                 | yes q ↦ rw (held (slotB wb) q hold-b (clash (slotB wb) hold-b))
-                | no q ↦ let z : slotB wb ≡ 0 = omega arith in split (holds wi (slotB wb)) (λ r. rw r) (λ r. rw r z)
+                | no q ↦ let z : slotB wb ≡ 0 = omega arith in split (hasSlot wi (slotB wb)) (λ r. rw r) (λ r. rw r z)
               ])
           | no p ↦
               let z : slotA wb ≡ 0 = omega arith in
               let u : slotB wb ≡ 0 = good .filled b b-n z in
-              split (holds wi (slotA wb)) (λ r. rw r (split (holds wi (slotB wb)) (λ s. rw s) (λ s. rw s u))) (λ r. rw r z)
+              split (hasSlot wi (slotA wb)) (λ r. rw r (split (hasSlot wi (slotB wb)) (λ s. rw s) (λ s. rw s u))) (λ r. rw r z)
         ]
       where
-        clash : (v : ℕ) → holds wb v ≡ true → (j : ℕ) → v ≡ suc j → j < n → kindAt links j ≡ 1 → keyAt cells j ≡ x → ⊥
+        clash : (v : ℕ) → hasSlot wb v ≡ true → (j : ℕ) → v ≡ suc j → j < n → kindAt links j ≡ 1 → keyAt cells j ≡ x → ⊥
         clash v q j z jn k y =
-            let a : free (keyAt cells j) (φ b) ≡ true = sym (good .awaited b j b-n jn k) ∙ rw (le-leb 1 (suc j) (omega arith), subst (λ (m : ℕ). holds wb m ≡ true) z q) in
+            let a : free (keyAt cells j) (φ b) ≡ true = sym (good .awaited b j b-n jn k) ∙ rw (le-leb 1 (suc j) (omega arith), subst (λ (m : ℕ). hasSlot wb m ≡ true) z q) in
             never (subst (λ (m : ℕ). free m (φ b) ≡ true) y a) e
 
     own-some : free x (φ b) ≡ true → Own x b (ownOf wb wi)
@@ -302,23 +302,23 @@ module _ (links cells waits : List ℕ) (xs : List ℤ) (n : ℕ) (φ : ℕ → 
         let j : ℕ = s .at in
         let low = sees-below links φ b j (s .sees) in
         let jn : j < n = omega arith in
-        let hb : holds wb (suc j) ≡ true = both (leb 1 (suc j)) (holds wb (suc j)) (good .awaited b j b-n jn (s .kind) ∙ subst (λ (m : ℕ). free m (φ b) ≡ true) (sym (s .key)) e) .1 in
-        let off : (leb 1 (suc j) && holds wi (suc j)) ≡ false = good .awaited i j i-n jn (s .kind) ∙ free-outer (keyAt cells j) ∙ rw (eq-eqb x (keyAt cells j) (sym (s .key))) in
-        let hi : holds wi (suc j) ≡ false = split (holds wi (suc j)) (λ r. never (rw (le-leb 1 (suc j) (omega arith), r)) off) (λ r. r) in
+        let hb : hasSlot wb (suc j) ≡ true = both (leb 1 (suc j)) (hasSlot wb (suc j)) (good .awaited b j b-n jn (s .kind) ∙ subst (λ (m : ℕ). free m (φ b) ≡ true) (sym (s .key)) e) .1 in
+        let off : (leb 1 (suc j) && hasSlot wi (suc j)) ≡ false = good .awaited i j i-n jn (s .kind) ∙ free-outer (keyAt cells j) ∙ rw (eq-eqb x (keyAt cells j) (sym (s .key))) in
+        let hi : hasSlot wi (suc j) ≡ false = split (hasSlot wi (suc j)) (λ r. never (rw (le-leb 1 (suc j) (omega arith), r)) off) (λ r. r) in
         record {
           at = j;
           kind = s .kind;
           key = s .key;
           low = low;
           is = elim (decEq (slotA wb) (suc j)) [
-            | yes p ↦ rw (ap (holds wi) p ∙ hi) p
+            | yes p ↦ rw (ap (hasSlot wi) p ∙ hi) p
             | no p ↦
                 let q : slotB wb ≡ suc j = either (eqb (slotA wb) (suc j)) (eqb (slotB wb) (suc j)) hb (λ r. absurd (p (eqb-true _ _ r))) (λ r. eqb-true _ _ r) in
                 let one : 1 ≤ slotA wb = elim (decLt 0 (slotA wb)) [
                   | yes r ↦ r
                   | no r ↦ let z : slotB wb ≡ 0 = good .filled b b-n (omega arith) in absurd (omega arith)
                 ] in
-                rw (held (slotA wb) one hold-a (λ k z kn kk ky. p (z ∙ ap suc (good .one k j kn jn kk (s .kind) (ky ∙ sym (s .key))))), ap (holds wi) q ∙ hi) q
+                rw (held (slotA wb) one hold-a (λ k z kn kk ky. p (z ∙ ap suc (good .one k j kn jn kk (s .kind) (ky ∙ sym (s .key))))), ap (hasSlot wi) q ∙ hi) q
           ];
         }
 
@@ -347,13 +347,13 @@ module _ (links cells waits : List ℕ) (xs : List ℤ) (n : ℕ) (φ : ℕ → 
         w : ℕ
         w = getD waits i 0
 
-        a : holds (getD waits i 0) (slotA (getD waits i 0)) ≡ true
+        a : hasSlot (getD waits i 0) (slotA (getD waits i 0)) ≡ true
         a = or-left (eqb (slotA (getD waits i 0)) (slotA (getD waits i 0))) (eqb (slotB (getD waits i 0)) (slotA (getD waits i 0))) (eq-eqb (slotA (getD waits i 0)) (slotA (getD waits i 0)) refl)
 
-        b : holds (getD waits i 0) (slotB (getD waits i 0)) ≡ true
+        b : hasSlot (getD waits i 0) (slotB (getD waits i 0)) ≡ true
         b = or-right (eqb (slotA (getD waits i 0)) (slotB (getD waits i 0))) (eqb (slotB (getD waits i 0)) (slotB (getD waits i 0))) (eq-eqb (slotB (getD waits i 0)) (slotB (getD waits i 0)) refl)
 
-        shut : settled ρ (φ i) ≡ true → (v : ℕ) → holds (getD waits i 0) v ≡ true → Code.isUnset frame v ≡ false
+        shut : settled ρ (φ i) ≡ true → (v : ℕ) → hasSlot (getD waits i 0) v ≡ true → Code.isUnset frame v ≡ false
         shut e v h = elim (decLt 0 v) [
           | no p ↦ unset-none v (omega arith)
           | yes p ↦
@@ -364,7 +364,7 @@ module _ (links cells waits : List ℕ) (xs : List ℤ) (n : ℕ) (φ : ℕ → 
                 | yes r ↦ r
                 | no r ↦ let z : j ≡ i = omega (arith, s .below) in absurd (omega (arith, k, subst (λ (m : ℕ). kindAt links m ≡ 1) z (s .kind)))
               ] in
-              let fr : free (keyAt cells j) (φ i) ≡ true = sym (good .awaited i j i-n jn (s .kind)) ∙ rw (le-leb 1 (suc j) (omega arith), subst (λ (m : ℕ). holds (getD waits i 0) m ≡ true) (s .is) h) in
+              let fr : free (keyAt cells j) (φ i) ≡ true = sym (good .awaited i j i-n jn (s .kind)) ∙ rw (le-leb 1 (suc j) (omega arith), subst (λ (m : ℕ). hasSlot (getD waits i 0) m ≡ true) (s .is) h) in
               ap (Code.isUnset frame) (s .is) ∙ unset-is j ji (s .kind) fr ∙ split (isDelayed (lookup ρ (keyAt cells j))) (λ d. never e (settled-no ρ (φ i) (keyAt cells j) fr d)) (λ d. d)
         ]
 
@@ -379,7 +379,7 @@ module _ (links cells waits : List ℕ) (xs : List ℤ) (n : ℕ) (φ : ℕ → 
               | no r ↦ let z : j ≡ i = omega arith in absurd (omega (arith, k, subst (λ (m : ℕ). kindAt links m ≡ 1) z (s .kind)))
             ] in
             let fr : free (keyAt cells j) (φ i) ≡ true = subst (λ (m : ℕ). free m (φ i) ≡ true) (sym (s .key)) (u .isFree) in
-            let h : holds (getD waits i 0) (suc j) ≡ true = both (leb 1 (suc j)) (holds (getD waits i 0) (suc j)) (good .awaited i j i-n (omega arith) (s .kind) ∙ fr) .1 in
+            let h : hasSlot (getD waits i 0) (suc j) ≡ true = both (leb 1 (suc j)) (hasSlot (getD waits i 0) (suc j)) (good .awaited i j i-n (omega arith) (s .kind) ∙ fr) .1 in
             let d : Code.isUnset frame (suc j) ≡ true = unset-is j ji (s .kind) fr ∙ subst (λ (m : ℕ). isDelayed (lookup ρ m) ≡ true) (sym (s .key)) (u .unset) in
             either (eqb (slotA (getD waits i 0)) (suc j)) (eqb (slotB (getD waits i 0)) (suc j)) h
             (λ r. or-left _ _ (ap (Code.isUnset frame) (eqb-true _ _ r) ∙ d))
@@ -392,7 +392,7 @@ module _ (links cells waits : List ℕ) (xs : List ℤ) (n : ℕ) (φ : ℕ → 
       abbrev done : ℕ
       done = finishOf (graph links waits xs) go frame i (planOf (graph links waits xs) frame i)
 
-      kept : (m : ℕ) → m < n → (σ : Environment) → Plain σ → Kept (length xs) (valueOf (evaluate xs σ (φ m)))
+      kept : (m : ℕ) → m < n → (σ : Environment) → Plain σ → Keepable (length xs) (valueOf (evaluate xs σ (φ m)))
       kept = kept-entry links cells waits xs n φ good
 
       see : (d : ℕ) → Link links i d → ((y : ℕ) → free y (φ d) ≡ true → free y (φ i) ≡ true) → getD frame d 0 ≡ packOf (value d)

@@ -28,9 +28,9 @@ use Rattle.values.specs.ApplyLaws.{completed-is}
 use Rattle.values.specs.Tallies.{begun, stepped, gathered, finished}
 use Rattle.values.specs.TallyLaws.{finished-is}
 use Rattle.values.specs.WindowLaws.{readings-short}
-use Rattle.values.specs.Kept.{Kept}
-use Rattle.values.specs.KeptLaws.{Readings, Each, picked, wrong, readings-of, readings-small, closed-runs}
-use Rattle.values.specs.KeptApply.{Settled, kept-closed, kept-apply0, kept-applied1}
+use Rattle.values.specs.Keepable.{Keepable}
+use Rattle.values.specs.KeepableLaws.{Readings, Each, picked, wrong, readings-of, readings-small, closed-runs}
+use Rattle.values.specs.KeepableApply.{Settled, kept-closed, kept-apply0, kept-applied1}
 use Rattle.values.specs.Packing.{packOf, unpackOf, isPacked, windowCell, functionCell, delayedCell, missingCell, wrongCell}
 use Rattle.values.specs.PackingLaws.{unpack-number, round, test-number, kept-passes, passes-packs}
 use Rattle.values.specs.Ranges.{down-range}
@@ -40,7 +40,7 @@ use Rattle.table.specs.Links.{kindAt, firstAt, secondAt, isBelow}
 use Rattle.table.specs.Waits.{ownOf}
 use Rattle.evaluator.specs.Reach.{gathered as list}
 use Rattle.evaluator.specs.Frames.{leafOf, startAt, startFrom, bound, isOpen, functionOf}
-use Rattle.evaluator.specs.Working.{Graph, Go, boundedOf, askOf, callOf, doneOf, taskOf, pickT, judgeOf, runOf, followOf, planOf, fillOf, setOf, overOf, concludeOf, finishOf, applyAt}
+use Rattle.evaluator.specs.Applying.{Graph, Go, boundedOf, askOf, callOf, doneOf, taskOf, pickT, judgeOf, runOf, followOf, planOf, fillOf, setOf, overOf, concludeOf, finishOf, applyAt}
 use Rattle.refine.specs.Free.{split}
 use Rattle.refine.specs.Kinds.{isFunction, concluded-none, ask-none, call-none}
 
@@ -70,11 +70,11 @@ module _ (n : ℕ) where
   plain : (v : Value) → isFunction v ≡ false → v ≡ Function → ⊥
   plain v p e = never (ap isFunction (sym e) ∙ p)
 
-  right-value : (kind : ℕ) (v : Value) → Kept n v → isFunction v ≡ false → Right n kind (packOf v)
+  right-value : (kind : ℕ) (v : Value) → Keepable n v → isFunction v ≡ false → Right n kind (packOf v)
   right-value kind v k p = record { packed = kept-passes n v k; function = λ e. absurd (plain v p (sym (round v (k .held)) ∙ ap unpackOf e ∙ round Function tt)) }
 
   -- an empty cell reads as a number
-  value-kept : (c : ℕ) → Cell n c → Kept n (unpackOf c)
+  value-kept : (c : ℕ) → Cell n c → Keepable n (unpackOf c)
   value-kept c (inl e) = rw (e, unpack-number 0 (omega arith)) (record { held = down-range 2147483648 ((0 - 1) % 4294967296) (omega arith); inside = tt; reasoned = tt })
   value-kept c (inr e) = passes-packs n c e .kept
 
@@ -89,17 +89,17 @@ module _ (n : ℕ) where
 
 -- over a recording of signed 32-bit readings
 module _ (g : Graph) (n : ℕ) (short : n ≤ 65535) (small : (k : ℕ) → k < length (g .xs) → mag (getD (g .xs) k (pos 0)) < 2147483648) where
-  kept-wrong : Kept n (Missing 2)
-  kept-wrong = wrong (Kept n) (kept-closed n short)
+  kept-wrong : Keepable n (Missing 2)
+  kept-wrong = wrong (Keepable n) (kept-closed n short)
 
   right-wrong : (kind : ℕ) → Right n kind wrongCell
   right-wrong kind = right-value n kind (Missing 2) kept-wrong refl
 
   -- ---- members
 
-  bounded-kept : (v : Value) → Kept n v → Kept n (boundedOf v)
+  bounded-kept : (v : Value) → Keepable n v → Keepable n (boundedOf v)
   unfolding boundedOf
-  bounded-kept (Window s l) k = picked (Kept n) (kept-closed n short) (leb (s + l) 65535) _ _ (λ h. k) (λ h. kept-wrong)
+  bounded-kept (Window s l) k = picked (Keepable n) (kept-closed n short) (leb (s + l) 65535) _ _ (λ h. k) (λ h. kept-wrong)
   bounded-kept (Number z) k = k
   bounded-kept Function k = k
   bounded-kept Delayed k = k
@@ -112,17 +112,17 @@ module _ (g : Graph) (n : ℕ) (short : n ≤ 65535) (small : (k : ℕ) → k < 
 
   -- what a member is done with is no function, and its runs are over a window that may be kept
   abbrev Follows : Applied → Type 0
-  Follows (Done v) = Kept n v × (isFunction v ≡ false)
-  Follows (Run s l) = Kept n (Window s l)
+  Follows (Done v) = Keepable n v × (isFunction v ≡ false)
+  Follows (Run s l) = Keepable n (Window s l)
 
-  follows-applied : (m : Member) (v w : Value) → Kept n v → Kept n w → Follows (applied1 m (g .xs) v w)
+  follows-applied : (m : Member) (v w : Value) → Keepable n v → Keepable n w → Follows (applied1 m (g .xs) v w)
   unfolding completed
   follows-applied m v w p q = by (applied1 m (g .xs) v w) refl (kept-applied1 n short m (g .xs) small v w p q)
     where
       run : ℤ → Value
       run z = Delayed
 
-      by : (a : Applied) → applied1 m (g .xs) v w ≡ a → Settled (Kept n) a → Follows a
+      by : (a : Applied) → applied1 m (g .xs) v w ≡ a → Settled (Keepable n) a → Follows a
       by (Done u) e k =
           let s : u ≡ apply1 m (g .xs) v w run = sym (ap (completed m (g .xs) run) e) ∙ completed-is m (g .xs) run v w in
           (k, ap isFunction s ∙ call-none m (g .xs) v w run)
@@ -138,15 +138,15 @@ module _ (g : Graph) (n : ℕ) (short : n ≤ 65535) (small : (k : ℕ) → k < 
   record Planned (k : ℕ) (p : Task) : Type 0 where
     value : p .done ≡ true → Right n k (p .value)
     kind : p .done ≡ false → p .kind ≡ k
-    window : Kept n (Window (p .start) (p .length))
+    window : Keepable n (Window (p .start) (p .length))
 
-  no-window : Kept n (Window 0 0)
+  no-window : Keepable n (Window 0 0)
   no-window = record { held = (omega arith, omega arith); inside = omega arith; reasoned = tt }
 
   planned-done : (kind c : ℕ) → Right n kind c → Planned kind (doneOf c)
   planned-done kind c r = record { value = λ e. r; kind = λ e. never e; window = no-window }
 
-  planned-task : (kind s l body v : ℕ) → Kept n (Window s l) → Planned kind (taskOf kind s l body v)
+  planned-task : (kind s l body v : ℕ) → Keepable n (Window s l) → Planned kind (taskOf kind s l body v)
   planned-task kind s l body v w = record { value = λ e. never (sym e); kind = λ e. refl; window = w }
 
   planned-wrong : (kind : ℕ) → Planned kind (doneOf wrongCell)
@@ -212,14 +212,14 @@ module _ (g : Graph) (n : ℕ) (short : n ≤ 65535) (small : (k : ℕ) → k < 
     record Tallied (k : ℕ) (t r : Tally) : Type 0 where
       values : List Value
       same : r ≡ gathered t values
-      kept : Each (Kept n) values
+      kept : Each (Keepable n) values
       few : length values ≤ k
 
     tallied-if : (k : ℕ) (t : Tally) (b : Bool) (x y : Tally) → Tallied k t x → Tallied k t y → Tallied k t (cond b x y)
     tallied-if k t true x y p q = p
     tallied-if k t false x y p q = q
 
-    tallied : (body : ℕ) (js : List ℕ) (v : ℕ) (frame : List ℕ) (t : Tally) (zs : List ℤ) → Cells n frame → Readings (Kept n) zs → Tallied (length zs) t (overOf go body js v frame t zs)
+    tallied : (body : ℕ) (js : List ℕ) (v : ℕ) (frame : List ℕ) (t : Tally) (zs : List ℤ) → Cells n frame → Readings (Keepable n) zs → Tallied (length zs) t (overOf go body js v frame t zs)
     unfolding overOf gathered
     tallied body js v frame t [] c r = record { values = []; same = refl; kept = tt; few = omega arith }
     tallied body js v frame t (z ∷ zs) c r =
@@ -227,18 +227,18 @@ module _ (g : Graph) (n : ℕ) (short : n ≤ 65535) (small : (k : ℕ) → k < 
         let s : Cells n after = begins (body + 1) js v (packOf (Number z)) frame c (kept-passes n (Number z) (r 0 (omega arith))) in
         let x : Value = unpackOf (getD after body 0) in
         let u : Tally = stepped t x in
-        let k : Kept n x = value-kept n (getD after body 0) (s body) in
+        let k : Keepable n x = value-kept n (getD after body 0) (s body) in
         let w = tallied body js v after u zs s (λ i h. r (suc i) (omega arith)) in
         tallied-if (length (z ∷ zs)) t (u .stopped) u (overOf go body js v after u zs)
         (record { values = x ∷ []; same = refl; kept = (k, tt); few = omega arith })
         (record { values = x ∷ w .values; same = w .same; kept = (k, w .kept); few = omega (arith, w .few) })
 
-    right-conclude : (kind : ℕ) (f : Found) (s l : ℕ) (t : Tally) → Kept n (Window s l) → Tallied l begun t → Right n kind (concludeOf f t)
+    right-conclude : (kind : ℕ) (f : Found) (s l : ℕ) (t : Tally) → Keepable n (Window s l) → Tallied l begun t → Right n kind (concludeOf f t)
     unfolding concludeOf ofRuns
     right-conclude kind Unknown s l t w k = right-wrong kind
     right-conclude kind (Is m) s l t w k =
         let e : finished m t ≡ ofRuns m (k .values) = ap (finished m) (k .same) ∙ finished-is m (k .values) in
-        rw e (right-value n kind (ofRuns m (k .values)) (closed-runs (Kept n) (kept-closed n short) s l w m (k .values) (k .few) (k .kept)) (concluded-none m (results (k .values))))
+        rw e (right-value n kind (ofRuns m (k .values)) (closed-runs (Keepable n) (kept-closed n short) s l w m (k .values) (k .few) (k .kept)) (concluded-none m (results (k .values))))
 
     right-finish : (frame : List ℕ) (i kind : ℕ) (p : Task) → Cells n frame → Planned kind p → Right n kind (finishOf g go frame i p)
     unfolding finishOf
@@ -253,7 +253,7 @@ module _ (g : Graph) (n : ℕ) (short : n ≤ 65535) (small : (k : ℕ) → k < 
           function = λ z. sym (h .kind e) ∙ eqb-true (p .kind) 4 q;
         }))
         (λ q. rw q
-        (let t = tallied (p .body) js (p .variable) frame begun zs c (readings-of (Kept n) (kept-closed n short) (g .xs) (p .start) (p .length) (readings-small (Kept n) (kept-closed n short) (g .xs) small)) in
+        (let t = tallied (p .body) js (p .variable) frame begun zs c (readings-of (Keepable n) (kept-closed n short) (g .xs) (p .start) (p .length) (readings-small (Keepable n) (kept-closed n short) (g .xs) small)) in
         right-conclude kind (memberOfKind (p .kind)) (p .start) (p .length) _ (h .window)
         (record { values = t .values; same = t .same; kept = t .kept; few = omega (arith, t .few, readings-short (g .xs) (p .start) (p .length)) })))))
 

@@ -12,7 +12,7 @@ use lib.ListN.{getD}
 use Rattle.values.specs.declared.Value.{Value}
 use Rattle.values.specs.declared.Value.the-variants.{Number, Window, Function, Delayed, Missing}
 use Rattle.values.specs.Shown.{shownNumbers}
-use Rattle.values.specs.Kept.{Kept}
+use Rattle.values.specs.Keepable.{Keepable}
 use Rattle.values.specs.Packing.{packOf, unpackOf, functionCell, delayedCell}
 use Rattle.values.specs.PackingLaws.{round}
 use Rattle.values.specs.Ranges.{up-size}
@@ -48,7 +48,7 @@ second-name true false x y h = refl
 second-name false b x y h = rw (h refl)
 
 module _ (n : ℕ) (cells : List ℕ) (i w : ℕ) (f : Form) (full : leb 1 (slotA w) ≡ false → leb 1 (slotB w) ≡ false) (names : slotNames cells w ≡ awaited f) where
-  pub kept-shows : (v : Value) → Kept n v → n ≤ 1024 → (v ≡ Function → keyAt cells i ≡ nameOf f)
+  pub kept-shows : (v : Value) → Keepable n v → n ≤ 1024 → (v ≡ Function → keyAt cells i ≡ nameOf f)
       → view (shownNumbers (unpackOf (packOf v))) (nameFor cells i (packOf v) w) (otherFor cells (packOf v) w) ≡ viewOf (shownAs f v)
   unfolding viewOf nameFor otherFor
   kept-shows (Number z) k h g =

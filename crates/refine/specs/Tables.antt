@@ -13,14 +13,14 @@ use lib.Signed.{mag}
 use Rattle.language.specs.declared.members.Member.{Member}
 use Rattle.values.specs.declared.Value.{Value}
 use Rattle.values.specs.declared.Value.the-variants.{Number, Window, Function, Delayed, Missing}
-use Rattle.values.specs.Kept.{Kept}
+use Rattle.values.specs.Keepable.{Keepable}
 use Rattle.values.specs.Ranges.{down-range}
-use Rattle.values.specs.KeptApply.{kept-apply0, kept-apply1}
+use Rattle.values.specs.KeepableApply.{kept-apply0, kept-apply1}
 use Rattle.meaning.specs.Forms.{Form, number, variable, unbound, readings, ask, call, function}
 use Rattle.meaning.specs.Evaluation.{Result, plain, runs, valueOf, runOf, Environment, nowhere, bind, lookup, settled, functionOf, evaluate}
 use Rattle.table.specs.Nodes.{memberKind, numberOfKey}
 use Rattle.table.specs.Links.{kindAt, firstAt, secondAt, keyAt}
-use Rattle.table.specs.Waits.{slotA, slotB, holds, awaits}
+use Rattle.table.specs.Waits.{slotA, slotB, hasSlot, awaits}
 use Rattle.refine.specs.Free.{free, split}
 
 -- what entry i is, with the form that it stands for
@@ -47,7 +47,7 @@ pub record Good (links cells waits : List ℕ) (xs : List ℤ) (n : ℕ) (φ : �
   pub entries : (i : ℕ) → i < n → EntryAt links cells φ i
   -- what is awaited is what is free
   pub awaited : (i j : ℕ) → i < n → j < n → kindAt links j ≡ 1 → awaits (getD waits i 0) (suc j) ≡ free (keyAt cells j) (φ i)
-  pub slots : (i v : ℕ) → i < n → 1 ≤ v → holds (getD waits i 0) v ≡ true → Slot links i v
+  pub slots : (i v : ℕ) → i < n → 1 ≤ v → hasSlot (getD waits i 0) v ≡ true → Slot links i v
   -- a name has one variable
   pub one : (i j : ℕ) → i < n → j < n → kindAt links i ≡ 1 → kindAt links j ≡ 1 → keyAt cells i ≡ keyAt cells j → i ≡ j
   pub filled : (i : ℕ) → i < n → slotA (getD waits i 0) ≡ 0 → slotB (getD waits i 0) ≡ 0
@@ -69,40 +69,40 @@ unfolding lookup
 plain-lookup nowhere p y = tt
 plain-lookup (bind x v ρ) p y = split (eqb x y) (λ q. rw q (p .0)) (λ q. rw q (plain-lookup ρ (p .1) y))
 
-plain-kept : (n : ℕ) (v : Value) → PlainValue v → Kept n v
+plain-kept : (n : ℕ) (v : Value) → PlainValue v → Keepable n v
 plain-kept n (Number z) h = record { held = h; inside = tt; reasoned = tt }
 plain-kept n Delayed h = record { held = tt; inside = tt; reasoned = tt }
 plain-kept n (Window s l) h = absurd h
 plain-kept n Function h = absurd h
 plain-kept n (Missing r) h = absurd h
 
-reason-kept : (n r : ℕ) → 1 ≤ r → r ≤ 5 → Kept n (Missing r)
+reason-kept : (n r : ℕ) → 1 ≤ r → r ≤ 5 → Keepable n (Missing r)
 reason-kept n r h k = record { held = omega arith; inside = tt; reasoned = (h, k) }
 
-function-kept : (n : ℕ) (v : Value) (s : Bool) (g : ℤ → Result) → Kept n v → Kept n (valueOf (functionOf v s g))
+function-kept : (n : ℕ) (v : Value) (s : Bool) (g : ℤ → Result) → Keepable n v → Keepable n (valueOf (functionOf v s g))
 unfolding valueOf
 function-kept n v s g k = by v s k
   where
-    settles : (s : Bool) → Kept n (valueOf (cond s (runs g) (plain Delayed)))
+    settles : (s : Bool) → Keepable n (valueOf (cond s (runs g) (plain Delayed)))
     settles true = record { held = tt; inside = tt; reasoned = tt }
     settles false = record { held = tt; inside = tt; reasoned = tt }
 
-    by : (v : Value) (s : Bool) → Kept n v → Kept n (valueOf (functionOf v s g))
+    by : (v : Value) (s : Bool) → Keepable n v → Keepable n (valueOf (functionOf v s g))
     by (Missing r) s k = k
     by (Number z) s k = settles s
     by (Window a l) s k = settles s
     by Function s k = settles s
     by Delayed s k = settles s
 
-run-function : (n : ℕ) (v : Value) (s : Bool) (g : ℤ → Result) (z : ℤ) → Kept n (valueOf (g z)) → Kept n (runOf (functionOf v s g) z)
+run-function : (n : ℕ) (v : Value) (s : Bool) (g : ℤ → Result) (z : ℤ) → Keepable n (valueOf (g z)) → Keepable n (runOf (functionOf v s g) z)
 unfolding runOf
 run-function n v s g z k = by v s
   where
-    settles : (s : Bool) → Kept n (runOf (cond s (runs g) (plain Delayed)) z)
+    settles : (s : Bool) → Keepable n (runOf (cond s (runs g) (plain Delayed)) z)
     settles true = k
     settles false = reason-kept n 2 (omega arith) (omega arith)
 
-    by : (v : Value) (s : Bool) → Kept n (runOf (functionOf v s g) z)
+    by : (v : Value) (s : Bool) → Keepable n (runOf (functionOf v s g) z)
     by (Missing r) s = reason-kept n 2 (omega arith) (omega arith)
     by (Number y) s = settles s
     by (Window a l) s = settles s
@@ -111,16 +111,16 @@ run-function n v s g z k = by v s
 
 module _ (links cells waits : List ℕ) (xs : List ℤ) (n : ℕ) (φ : ℕ → Form) (good : Good links cells waits xs n φ) where
   -- what every entry comes to can be kept, and so can what a run of it gives
-  mutual-kept : (k i : ℕ) → i < k → i < n → (ρ : Environment) → Plain ρ → Kept (length xs) (valueOf (evaluate xs ρ (φ i))) × ((z : ℤ) → mag z < 2147483648 → Kept (length xs) (runOf (evaluate xs ρ (φ i)) z))
+  mutual-kept : (k i : ℕ) → i < k → i < n → (ρ : Environment) → Plain ρ → Keepable (length xs) (valueOf (evaluate xs ρ (φ i))) × ((z : ℤ) → mag z < 2147483648 → Keepable (length xs) (runOf (evaluate xs ρ (φ i)) z))
   unfolding evaluate valueOf runOf
   mutual-kept zero i h h′ ρ p = absurd (omega arith)
   mutual-kept (suc k) i h h′ ρ p = by (good .entries i h′) (λ j l σ q. mutual-kept k j (omega arith) (omega arith) σ q)
     where
-      wrong : Kept (length xs) (Missing 2)
+      wrong : Keepable (length xs) (Missing 2)
       wrong = reason-kept (length xs) 2 (omega arith) (omega arith)
 
-      by : EntryAt links cells φ i → ((j : ℕ) → j < i → (σ : Environment) → Plain σ → Kept (length xs) (valueOf (evaluate xs σ (φ j))) × ((z : ℤ) → mag z < 2147483648 → Kept (length xs) (runOf (evaluate xs σ (φ j)) z)))
-          → Kept (length xs) (valueOf (evaluate xs ρ (φ i))) × ((z : ℤ) → mag z < 2147483648 → Kept (length xs) (runOf (evaluate xs ρ (φ i)) z))
+      by : EntryAt links cells φ i → ((j : ℕ) → j < i → (σ : Environment) → Plain σ → Keepable (length xs) (valueOf (evaluate xs σ (φ j))) × ((z : ℤ) → mag z < 2147483648 → Keepable (length xs) (runOf (evaluate xs σ (φ j)) z)))
+          → Keepable (length xs) (valueOf (evaluate xs ρ (φ i))) × ((z : ℤ) → mag z < 2147483648 → Keepable (length xs) (runOf (evaluate xs ρ (φ i)) z))
       by (is-number _ l e) again = rw e (record { held = down-range 2147483648 (keyAt cells i) (omega arith); inside = tt; reasoned = tt }, λ z m. wrong)
       by (is-variable _ _ _ e) again = rw e (plain-kept (length xs) (lookup ρ (keyAt cells i)) (plain-lookup ρ p (keyAt cells i)), λ z m. wrong)
       by (is-unbound _ e) again = rw e (reason-kept (length xs) 1 (omega arith) (omega arith), λ z m. wrong)
@@ -134,7 +134,7 @@ module _ (links cells waits : List ℕ) (xs : List ℤ) (n : ℕ) (φ : ℕ → 
       by (is-call m d a _ _ _ l l′ e) again =
           rw e (kept-apply1 (length xs) (omega (arith, good .few)) m xs (good .small) (runOf (evaluate xs ρ (φ a))) (λ z q. again a l′ ρ p .1 z (q .held)) (valueOf (evaluate xs ρ (φ d))) (valueOf (evaluate xs ρ (φ a))) (again d l ρ p .0) (again a l′ ρ p .0), λ z m. wrong)
 
-  pub kept-entry : (i : ℕ) → i < n → (ρ : Environment) → Plain ρ → Kept (length xs) (valueOf (evaluate xs ρ (φ i)))
+  pub kept-entry : (i : ℕ) → i < n → (ρ : Environment) → Plain ρ → Keepable (length xs) (valueOf (evaluate xs ρ (φ i)))
   kept-entry i h ρ p = mutual-kept (suc i) i (omega arith) h ρ p .0
 
 -- ---- dependencies, and what is seen

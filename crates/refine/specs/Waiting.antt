@@ -18,7 +18,7 @@ use Rattle.table.specs.WellFormed.{keyRight}
 use Rattle.table.specs.Right.{nodeRight}
 use Rattle.table.specs.RightLaws.{right-key, first-low, second-low}
 use Rattle.table.specs.Links.{kindAt, firstAt, secondAt, keyAt}
-use Rattle.table.specs.Waits.{slotA, slotB, holds, waitsFrom}
+use Rattle.table.specs.Waits.{slotA, slotB, hasSlot, waitsFrom}
 use Rattle.table.specs.NodeKinds.{Fine, aNumber, aVariable, anUnbound, theReadings, aFunction, anAsk, aCall, less-one, build-ask, build-call, right-fine}
 use Rattle.table.specs.AwaitsLaws.{namesOf}
 use Rattle.table.specs.AwaitedForms.{awaited-forms}
@@ -77,7 +77,7 @@ module _ {links cells : List ℕ} {i w : ℕ} {xs : List ℕ} where
   filled-of (one a va p q e) h = q
   filled-of (two a b va vb d p q e) h = absurd (omega arith)
 
-  slot-of : Holds links cells i w xs → (v : ℕ) → 1 ≤ v → holds w v ≡ true → Slot links i v
+  slot-of : Holds links cells i w xs → (v : ℕ) → 1 ≤ v → hasSlot w v ≡ true → Slot links i v
   slot-of o v h t = either (eqb (slotA w) v) (eqb (slotB w) v) t (λ p. first o (eqb-true (slotA w) v p)) (λ p. second o (eqb-true (slotB w) v p))
     where
       slot : (a : ℕ) → Variable links i a → v ≡ suc a → Slot links i v

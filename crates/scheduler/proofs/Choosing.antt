@@ -21,7 +21,7 @@ use Rattle.table.specs.LinksLaws.{kept-length}
 use Rattle.table.specs.Nodes.{variableKind, functionKind}
 use Rattle.table.specs.Waits.{waitsFrom}
 use Rattle.evaluator.specs.Frames.{startAt, startFrom}
-use Rattle.evaluator.specs.Working.{graph, applyAt, Applies}
+use Rattle.evaluator.specs.Applying.{graph, applyAt, Applies}
 use Rattle.scheduler.specs.Works.{raised, needFrom, needOf, chosen, slotName, nameFor, otherFor, kept, workOf, workFrom, worked, Works, view, showOf}
 
 module _ (j link : ℕ) (flags : List ℕ) (r : Bool) (e : r ≡ isBelow link j) where

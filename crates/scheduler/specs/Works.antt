@@ -16,7 +16,7 @@ use Rattle.table.specs.Links.{tableCells, kindAt, firstAt, secondAt, keyAt, nam
 use Rattle.table.specs.Nodes.{variableKind, functionKind, worksKind}
 use Rattle.table.specs.Waits.{slotA, slotB, waitsFrom}
 use Rattle.evaluator.specs.Frames.{startAt, startFrom}
-use Rattle.evaluator.specs.Working.{graph, applyAt}
+use Rattle.evaluator.specs.Applying.{graph, applyAt}
 
 -- a flagged entry's dependencies are flagged too, from entry j - 1 down
 unfoldable pub raised : ℕ → ℕ → List ℕ → List ℕ

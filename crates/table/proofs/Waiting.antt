@@ -11,26 +11,26 @@ use lib.Dec.{leb, eqb}
 use lib.ListN.{getD, set}
 use Rattle.table.specs.Links.{kindAt, firstAt, secondAt, keyAt, isBelow}
 use Rattle.table.specs.Nodes.{variableKind, functionKind}
-use Rattle.table.specs.Waits.{holds, awaits, joined, isNamed, without, waitsOf, waitsAt, waitsFrom, covers, fewAt, ownOf}
+use Rattle.table.specs.Waits.{hasSlot, awaits, joinedSlots, isNamed, withoutSlot, waitsOf, waitsAt, waitsFrom, covers, fewAt, ownOf}
 
-pub awaits-is : (w v : ℕ) (r : Bool) → r ≡ holds w v → leb 1 v && r ≡ awaits w v
+pub awaits-is : (w v : ℕ) (r : Bool) → r ≡ hasSlot w v → leb 1 v && r ≡ awaits w v
 awaits-is w v r e = rw e
 
-pub join-first : (w u : ℕ) → w / 65536 ≡ 0 → u ≡ joined w u
-unfolding joined
+pub join-first : (w u : ℕ) → w / 65536 ≡ 0 → u ≡ joinedSlots w u
+unfolding joinedSlots
 join-first w u h = rw h
 
 module _ (w u : ℕ) (h : w / 65536 ≡ 0 → ⊥) where
-  pub join-full : 1 ≤ w % 65536 → w ≡ joined w u
-  unfolding joined
+  pub join-full : 1 ≤ w % 65536 → w ≡ joinedSlots w u
+  unfolding joinedSlots
   join-full k = rw (ne-eqb _ _ h, le-leb _ _ k)
 
-  pub join-same : w % 65536 < 1 → w / 65536 ≡ u / 65536 → w / 65536 * 65536 + u % 65536 ≡ joined w u
-  unfolding joined
+  pub join-same : w % 65536 < 1 → w / 65536 ≡ u / 65536 → w / 65536 * 65536 + u % 65536 ≡ joinedSlots w u
+  unfolding joinedSlots
   join-same k e = rw (ne-eqb _ _ h, lt-leb _ _ k, eq-eqb _ _ e)
 
-  pub join-both : w % 65536 < 1 → (w / 65536 ≡ u / 65536 → ⊥) → w / 65536 * 65536 + u / 65536 ≡ joined w u
-  unfolding joined
+  pub join-both : w % 65536 < 1 → (w / 65536 ≡ u / 65536 → ⊥) → w / 65536 * 65536 + u / 65536 ≡ joinedSlots w u
+  unfolding joinedSlots
   join-both k e = rw (ne-eqb _ _ h, lt-leb _ _ k, ne-eqb _ _ e)
 
 pub named-is : (cells : List ℕ) (key p r : ℕ) → 1 ≤ p → r ≡ keyAt cells (p - 1) → eqb r key ≡ isNamed cells key p
@@ -40,17 +40,17 @@ pub named-none : (cells : List ℕ) (key p : ℕ) → p < 1 → false ≡ isName
 named-none cells key p h = rw (lt-leb _ _ h)
 
 module _ (cells : List ℕ) (key w : ℕ) (r : Bool) (e : r ≡ isNamed cells key (w / 65536)) where
-  pub without-first : r ≡ true → w % 65536 * 65536 ≡ without cells key w
-  unfolding without
+  pub without-first : r ≡ true → w % 65536 * 65536 ≡ withoutSlot cells key w
+  unfolding withoutSlot
   without-first t = rw (sym e ∙ t)
 
   module _ (t : r ≡ false) (s : Bool) (d : s ≡ isNamed cells key (w % 65536)) where
-    pub without-second : s ≡ true → w / 65536 * 65536 ≡ without cells key w
-    unfolding without
+    pub without-second : s ≡ true → w / 65536 * 65536 ≡ withoutSlot cells key w
+    unfolding withoutSlot
     without-second u = rw (sym e ∙ t, sym d ∙ u)
 
-    pub without-none : s ≡ false → w ≡ without cells key w
-    unfolding without
+    pub without-none : s ≡ false → w ≡ withoutSlot cells key w
+    unfolding withoutSlot
     without-none u = rw (sym e ∙ t, sym d ∙ u)
 
 -- a link that was tested
@@ -81,11 +81,11 @@ module _ (links cells waits : List ℕ) (i kind : ℕ) (e : kind ≡ kindAt link
     at-leaf h = rw (← e, ne-eqb _ _ n, lt-ltb _ _ h)
 
     module _ (m : functionKind ≤ kind) (f g first : ℕ) (p : f ≡ firstAt links i) (q : first ≡ waitsOf waits f i) where
-      pub at-function : kind ≡ functionKind → (key r : ℕ) → key ≡ keyAt cells i → r ≡ without cells key first → r ≡ waitsAt links cells waits i
+      pub at-function : kind ≡ functionKind → (key r : ℕ) → key ≡ keyAt cells i → r ≡ withoutSlot cells key first → r ≡ waitsAt links cells waits i
       unfolding waitsAt
       at-function h key r k d = rw (← e, ← p, ← k, ← q, ne-eqb _ _ n, le-ltb _ _ m, eq-eqb _ _ h) d
 
-      pub at-member : (kind ≡ functionKind → ⊥) → g ≡ secondAt links i → (second r : ℕ) → second ≡ waitsOf waits g i → r ≡ joined first second → r ≡ waitsAt links cells waits i
+      pub at-member : (kind ≡ functionKind → ⊥) → g ≡ secondAt links i → (second r : ℕ) → second ≡ waitsOf waits g i → r ≡ joinedSlots first second → r ≡ waitsAt links cells waits i
       unfolding waitsAt
       at-member h s second r u d = rw (← e, ← p, ← s, ← q, ← u, ne-eqb _ _ n, le-ltb _ _ m, ne-eqb _ _ h) d
 
@@ -98,7 +98,7 @@ pub waits-end : (links cells waits : List ℕ) (n i : ℕ) {all : List ℕ} → 
 unfolding waitsFrom
 waits-end links cells waits n i h v = let q : n - i ≡ 0 = omega arith in rw q at v
 
-pub covers-is : (w u : ℕ) (r s : Bool) → r ≡ holds w (u / 65536) → s ≡ holds w (u % 65536)
+pub covers-is : (w u : ℕ) (r s : Bool) → r ≡ hasSlot w (u / 65536) → s ≡ hasSlot w (u % 65536)
     → ((eqb (u / 65536) 0 || r) && (eqb (u % 65536) 0 || s)) ≡ covers w u
 covers-is w u r s d e = rw (d, e)
 
@@ -107,12 +107,12 @@ pub few-here : (links waits : List ℕ) (i g second : ℕ) (r : Bool) → r ≡ 
 unfolding fewAt
 few-here links waits i g second r e q p = rw (← p, ← q) e
 
-module _ (b f : ℕ) (r : Bool) (e : r ≡ holds f (b / 65536)) where
+module _ (b f : ℕ) (r : Bool) (e : r ≡ hasSlot f (b / 65536)) where
   pub own-first : r ≡ false → b / 65536 ≡ ownOf b f
   unfolding ownOf
   own-first t = rw (sym e ∙ t)
 
-  module _ (t : r ≡ true) (s : Bool) (d : s ≡ holds f (b % 65536)) where
+  module _ (t : r ≡ true) (s : Bool) (d : s ≡ hasSlot f (b % 65536)) where
     pub own-none : s ≡ true → 0 ≡ ownOf b f
     unfolding ownOf
     own-none u = rw (sym e ∙ t, sym d ∙ u)

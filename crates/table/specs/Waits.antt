@@ -14,15 +14,15 @@ abbrev pub slotB : ℕ → ℕ
 slotB w = w % 65536
 
 -- one of the two is v
-abbrev pub holds : ℕ → ℕ → Bool
-holds w v = eqb (slotA w) v || eqb (slotB w) v
+abbrev pub hasSlot : ℕ → ℕ → Bool
+hasSlot w v = eqb (slotA w) v || eqb (slotB w) v
 
 abbrev pub awaits : ℕ → ℕ → Bool
-awaits w v = leb 1 v && holds w v
+awaits w v = leb 1 v && hasSlot w v
 
 -- those of w, then those of u, each once; no more than two
-unfoldable pub joined : ℕ → ℕ → ℕ
-joined w u =
+unfoldable pub joinedSlots : ℕ → ℕ → ℕ
+joinedSlots w u =
     cond (eqb (slotA w) 0) u
     (cond (leb 1 (slotB w)) w
     (cond (eqb (slotA w) (slotA u)) (slotA w * 65536 + slotB u)
@@ -33,8 +33,8 @@ abbrev pub isNamed : List ℕ → ℕ → ℕ → Bool
 isNamed cells key p = leb 1 p && eqb (keyAt cells (p - 1)) key
 
 -- those of w that have another name
-unfoldable pub without : List ℕ → ℕ → ℕ → ℕ
-without cells key w =
+unfoldable pub withoutSlot : List ℕ → ℕ → ℕ → ℕ
+withoutSlot cells key w =
     cond (isNamed cells key (slotA w)) (slotB w * 65536)
     (cond (isNamed cells key (slotB w)) (slotA w * 65536)
     w)
@@ -47,8 +47,8 @@ unfoldable pub waitsAt : List ℕ → List ℕ → List ℕ → ℕ → ℕ
 waitsAt links cells waits i =
     cond (eqb (kindAt links i) 1) ((i + 1) * 65536)
     (cond (ltb (kindAt links i) 4) 0
-    (cond (eqb (kindAt links i) 4) (without cells (keyAt cells i) (waitsOf waits (firstAt links i) i))
-    (joined (waitsOf waits (firstAt links i) i) (waitsOf waits (secondAt links i) i))))
+    (cond (eqb (kindAt links i) 4) (withoutSlot cells (keyAt cells i) (waitsOf waits (firstAt links i) i))
+    (joinedSlots (waitsOf waits (firstAt links i) i) (waitsOf waits (secondAt links i) i))))
 
 -- k entries from i on, in rising order
 unfoldable pub waitsFrom : List ℕ → List ℕ → ℕ → ℕ → List ℕ → List ℕ
@@ -57,7 +57,7 @@ waitsFrom links cells (suc k) i waits = waitsFrom links cells k (suc i) (set wai
 
 -- each variable of u is one of w's
 abbrev pub covers : ℕ → ℕ → Bool
-covers w u = (eqb (slotA u) 0 || holds w (slotA u)) && (eqb (slotB u) 0 || holds w (slotB u))
+covers w u = (eqb (slotA u) 0 || hasSlot w (slotA u)) && (eqb (slotB u) 0 || hasSlot w (slotB u))
 
 -- entry i awaits no more than two: what a join leaves out is a variable of the second dependency
 unfoldable pub fewAt : List ℕ → List ℕ → ℕ → Bool
@@ -66,5 +66,5 @@ fewAt links waits i = covers (getD waits i 0) (waitsOf waits (secondAt links i) 
 -- a function's own variable: what its body awaits and it does not
 unfoldable pub ownOf : ℕ → ℕ → ℕ
 ownOf body function =
-    cond (holds function (slotA body)) (cond (holds function (slotB body)) 0 (slotB body))
+    cond (hasSlot function (slotA body)) (cond (hasSlot function (slotB body)) 0 (slotB body))
     (slotA body)

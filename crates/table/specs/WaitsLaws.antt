@@ -20,7 +20,7 @@ use Rattle.table.specs.WellFormed.{distinct, awaitedBy, awaitsFew}
 use Rattle.table.specs.Right.{allFrom, numbered, nodeRight, rightAt}
 use Rattle.table.specs.RightLaws.{first-low, second-low, first-given, second-given, all-at, right-at}
 use Rattle.table.specs.Links.{kindAt, firstAt, secondAt, keyAt, isBelow}
-use Rattle.table.specs.Waits.{slotA, slotB, holds, joined, isNamed, without, waitsOf, waitsAt, waitsFrom, covers, fewAt}
+use Rattle.table.specs.Waits.{slotA, slotB, hasSlot, joinedSlots, isNamed, withoutSlot, waitsOf, waitsAt, waitsFrom, covers, fewAt}
 use Rattle.table.specs.Chain.{newAt, lastSame}
 use Rattle.table.specs.ChainLaws.{same-self, distinct-all, all-last, all-zero}
 use Rattle.table.specs.ArityLaws.{arity-few, function-arity, leaf-arity, no-links, no-second}
@@ -103,21 +103,21 @@ pub positive : (a : ℕ) → leb 1 (suc a) ≡ true
 positive a = le-leb 1 (suc a) (omega arith)
 
 module _ (w u : ℕ) where
-  second-alone : slotA w ≡ 0 → joined w u ≡ u
-  unfolding joined
+  second-alone : slotA w ≡ 0 → joinedSlots w u ≡ u
+  unfolding joinedSlots
   second-alone p = rw p
 
   module _ (a : ℕ) (p : slotA w ≡ suc a) where
-    already-two : (b : ℕ) → slotB w ≡ suc b → joined w u ≡ w
-    unfolding joined
+    already-two : (b : ℕ) → slotB w ≡ suc b → joinedSlots w u ≡ w
+    unfolding joinedSlots
     already-two b q = rw (p, q, eqb·suc-zero, positive)
 
-    same-first : slotB w ≡ 0 → slotA u ≡ suc a → joined w u ≡ suc a * 65536 + slotB u
-    unfolding joined
+    same-first : slotB w ≡ 0 → slotA u ≡ suc a → joinedSlots w u ≡ suc a * 65536 + slotB u
+    unfolding joinedSlots
     same-first q e = rw (p, q, e, eqb·suc-zero, eq-eqb (suc a) (suc a) refl)
 
-    then-first : slotB w ≡ 0 → (slotA u ≡ suc a → ⊥) → joined w u ≡ suc a * 65536 + slotA u
-    unfolding joined
+    then-first : slotB w ≡ 0 → (slotA u ≡ suc a → ⊥) → joinedSlots w u ≡ suc a * 65536 + slotA u
+    unfolding joinedSlots
     then-first q e = rw (p, q, eqb·suc-zero, ne-eqb (suc a) (slotA u) (λ z. e (sym z)))
 
 module _ (cells : List ℕ) (key : ℕ) where
@@ -133,8 +133,8 @@ module _ (cells : List ℕ) (key : ℕ) where
   unnamed v e = rw e
 
   module _ {links : List ℕ} {i : ℕ} (inside : i < 512) where
-    less : {w : ℕ} {xs : List ℕ} → Holds links cells i w xs → Holds links cells i (without cells key w) (meaning.without key xs)
-    unfolding without meaning.without
+    less : {w : ℕ} {xs : List ℕ} → Holds links cells i w xs → Holds links cells i (withoutSlot cells key w) (meaning.without key xs)
+    unfolding withoutSlot meaning.without
     less {w} (none p q e) = rw (unnamed (slotA w) p, unnamed (slotB w) q) (none p q (rw e))
     less {w} (one a va p q e) =
         rw (named (slotA w) a p, unnamed (slotB w) q, e)
@@ -225,7 +225,7 @@ module _ (links cells : List ℕ) (n : ℕ) (most : n ≤ 512)
     differ : {a b : ℕ} → Variable links i a → Variable links i b → (b ≡ a → ⊥) → keyAt cells b ≡ keyAt cells a → ⊥
     differ {a} {b} va vb s z = s (single b a (omega (arith, vb .below)) (omega (arith, va .below)) (vb .kind) (va .kind) z)
 
-    pub holds-of : {w : ℕ} {xs : List ℕ} → At w xs → (j : ℕ) → j < n → kindAt links j ≡ 1 → holds w (suc j) ≡ hasName (keyAt cells j) xs
+    pub holds-of : {w : ℕ} {xs : List ℕ} → At w xs → (j : ℕ) → j < n → kindAt links j ≡ 1 → hasSlot w (suc j) ≡ hasName (keyAt cells j) xs
     unfolding hasName
     holds-of (none p q e) j h k = rw (p, q, e, eqb·zero-suc j)
     holds-of (one a va p q e) j h k = rw (p, q, e, eqb·zero-suc j, key-test va j h k)
@@ -237,7 +237,7 @@ module _ (links cells : List ℕ) (n : ℕ) (most : n ≤ 512)
         by false true = refl
         by false false = refl
 
-    holds-variable : {w a : ℕ} {xs : List ℕ} → At w xs → Variable links i a → holds w (suc a) ≡ hasName (keyAt cells a) xs
+    holds-variable : {w a : ℕ} {xs : List ℕ} → At w xs → Variable links i a → hasSlot w (suc a) ≡ hasName (keyAt cells a) xs
     holds-variable {a = a} o va = holds-of o a (omega (arith, va .below)) (va .kind)
 
     covers-of : {w u : ℕ} {xs ys : List ℕ} → At w xs → At u ys → covers w u ≡ contains xs ys
@@ -262,7 +262,7 @@ module _ (links cells : List ℕ) (n : ℕ) (most : n ≤ 512)
         (λ p. few (covers-of o v ∙ p) (rw (joined-held xs ys p) o))
         (λ p. over (covers-of o v ∙ p) (omega (arith, joined-more xs ys p))))
 
-    join : {w u : ℕ} {xs ys : List ℕ} → At w xs → At u ys → Outcome (covers (joined w u) u) links cells i (joined w u) (meaning.joined xs ys)
+    join : {w u : ℕ} {xs ys : List ℕ} → At w xs → At u ys → Outcome (covers (joinedSlots w u) u) links cells i (joinedSlots w u) (meaning.joined xs ys)
     unfolding meaning.joined hasName
     join {w} {u} {xs} {ys} (none p q e) v = whole v (rw (second-alone w u p, e) (by v)) (joined-all xs ys)
       where

@@ -10,10 +10,10 @@ ghost use mathlib.Core.Path.{_≡_};
 ghost use Prim.Native.Nat.{_<_, _≤_};
 ghost use Rattle.language.specs.Limits.{tableEntries};
 ghost use Rattle.table.specs.Right.{allFrom};
-ghost use Rattle.table.specs.Waits.{holds, awaits as awaitsOf, joined, isNamed, without as withoutOf, waitsOf, waitsAt, waitsFrom, covers as coversOf, fewAt, ownOf};
+ghost use Rattle.table.specs.Waits.{hasSlot, awaits as awaitsOf, joinedSlots, isNamed, withoutSlot as withoutOf, waitsOf, waitsAt, waitsFrom, covers as coversOf, fewAt, ownOf};
 
 pub fn has(w: u32, v: u32) -> bool
-    ensures { λ r. ⌜ r ≡ holds w v ⌝ }
+    ensures { λ r. ⌜ r ≡ hasSlot w v ⌝ }
 {
     (w / 65536 == v) | (w % 65536 == v)
 }
@@ -25,7 +25,7 @@ pub fn awaits(w: u32, v: u32) -> bool
 }
 
 fn join(w: u32, u: u32) -> u32
-    ensures { λ r. ⌜ r ≡ joined w u ⌝ }
+    ensures { λ r. ⌜ r ≡ joinedSlots w u ⌝ }
 {
     if w / 65536 == 0 {
         return u;

@@ -23,7 +23,7 @@ use Rattle.values.specs.Values.{kindOf, wrongKind}
 use Rattle.values.specs.Rules.{onNumbers, ofWindow, onWindow}
 use Rattle.values.specs.Apply.{isKind, rule0, ruleNumber, isMissing, isDelayed, apply0}
 use Rattle.values.specs.Applied.{choose, ruledWindow, ruled1, applied1}
-use Rattle.values.specs.Kept.{Bounded}
+use Rattle.values.specs.Keepable.{Bounded}
 use Rattle.values.proofs.Value as Variants
 
 pub kind-test : (v : Value) (k : Kind) (a b : ℕ) → a ≡ kindNumber (kindOf v) → b ≡ kindNumber k → eqb a b ≡ isKind v k

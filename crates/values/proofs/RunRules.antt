@@ -18,7 +18,7 @@ use Rattle.values.specs.declared.Value.the-variants.{Number, Window, Fun
 use Rattle.values.specs.declared.runs.Tally.{Tally}
 use Rattle.values.specs.Values.{ranged, wrongKind}
 use Rattle.values.specs.Ranges.{mag-abs}
-use Rattle.values.specs.Runs.{holds}
+use Rattle.values.specs.Runs.{isNonzero}
 use Rattle.values.specs.Rules.{rule, byRuns}
 use Rattle.values.specs.Tallies.{noted, halted, entered, stepped, summed, finished, Within, Steps}
 use Rattle.values.specs.TallyLaws.{stopped-steps, going-steps, Small, within-more, within-noted, within-stepped}
@@ -45,13 +45,13 @@ module _ (t : Tally) (z : ℤ) (w : Within 65534 t) (ft : SFits w64 (t .total)) 
   total-is : newTotal ≡ t .total +ℤ z
   total-is = ap (λ (y : ℤ). toZ w64 (ofZ w64 y)) operands ∙ toZ-ofZ moved
 
-  note-by : (b : Bool) (c s l : ℕ) → holds z ≡ b → c ≡ t .count + cond b 1 0 → s ≡ cond b (t .stretch + 1) 0 → l ≡ max (t .longest) s
+  note-by : (b : Bool) (c s l : ℕ) → isNonzero z ≡ b → c ≡ t .count + cond b 1 0 → s ≡ cond b (t .stretch + 1) 0 → l ≡ max (t .longest) s
       → record { stopped = false; reason = 0; count = c; stretch = s; longest = l; total = newTotal } ≡ noted t z
   unfolding noted
   note-by b c s l h p q e =
-      let count : c ≡ t .count + cond (holds z) 1 0 = rw h p in
-      let stretch : s ≡ cond (holds z) (t .stretch + 1) 0 = rw h q in
-      let longest : l ≡ max (t .longest) (cond (holds z) (t .stretch + 1) 0) = e ∙ ap (max (t .longest)) stretch in
+      let count : c ≡ t .count + cond (isNonzero z) 1 0 = rw h p in
+      let stretch : s ≡ cond (isNonzero z) (t .stretch + 1) 0 = rw h q in
+      let longest : l ≡ max (t .longest) (cond (isNonzero z) (t .stretch + 1) 0) = e ∙ ap (max (t .longest)) stretch in
       λ i. record { stopped = false; reason = 0; count = count i; stretch = stretch i; longest = longest i; total = total-is i }
 
   pub note-none : ofZ w32 z ≡ 0 → record { stopped = false; reason = 0; count = t .count; stretch = 0; longest = t .longest; total = newTotal } ≡ noted t z

@@ -10,10 +10,10 @@ pub mod Ranges
 pub mod WindowLaws
 pub mod Tallies
 pub mod TallyLaws
-pub mod Kept
+pub mod Keepable
 pub mod PackingLaws
 pub mod Shown
 pub mod Applied
 pub mod ApplyLaws
-pub mod KeptLaws
-pub mod KeptApply
+pub mod KeepableLaws
+pub mod KeepableApply

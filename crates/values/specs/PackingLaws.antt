@@ -14,7 +14,7 @@ use Rattle.values.specs.declared.Value.the-variants.{Number, Window, Fun
 use Rattle.values.specs.Values.{pick}
 use Rattle.values.specs.Packing.{windowCell, functionCell, delayedCell, missingCell, packOf, unpackOf, inside, isPacked}
 use Rattle.values.specs.Ranges.{up-nonNeg, up-size, down-range}
-use Rattle.values.specs.Kept.{Held, Kept}
+use Rattle.values.specs.Keepable.{Storable, Keepable}
 
 -- ---- the ranges of cells
 
@@ -45,7 +45,7 @@ module _ (c : ℕ) where
 
 -- ---- what was packed is unpacked
 
-pub round : (v : Value) → Held v → unpackOf (packOf v) ≡ v
+pub round : (v : Value) → Storable v → unpackOf (packOf v) ≡ v
 round (Number z) h =
     let n = natAbs (z +ℤ pos 2147483648) in
     let e : (suc n - 1) % 4294967296 ≡ n = omega (arith, up-size 2147483648 z h) in
@@ -97,7 +97,7 @@ module _ (c n : ℕ) where
 
 -- ---- a packed value that may be kept passes
 
-pub kept-passes : (n : ℕ) (v : Value) → Kept n v → isPacked (packOf v) n ≡ true
+pub kept-passes : (n : ℕ) (v : Value) → Keepable n v → isPacked (packOf v) n ≡ true
 kept-passes n (Number z) k =
     let c = packOf (Number z) in
     sym (test-number c n (omega (arith, up-size 2147483648 z (k .held))))
@@ -138,12 +138,12 @@ length-of : (c : ℕ) → windowCell ≤ c → c % 65536 ≡ (c - windowCell) % 
 length-of c h = omega arith
 
 pub record Packs (n c : ℕ) : Type 0 where
-  pub kept : Kept n (unpackOf c)
+  pub kept : Keepable n (unpackOf c)
   pub again : packOf (unpackOf c) ≡ c
 
 module _ (n c : ℕ) where
-  packs : (v : Value) → unpackOf c ≡ v → Kept n v → packOf v ≡ c → Packs n c
-  packs v e k q = record { kept = subst (Kept n) (sym e) k; again = ap packOf e ∙ q }
+  packs : (v : Value) → unpackOf c ≡ v → Keepable n v → packOf v ≡ c → Packs n c
+  packs v e k q = record { kept = subst (Keepable n) (sym e) k; again = ap packOf e ∙ q }
 
   packs-number : (leb 1 c && leb c 4294967296) ≡ true → Packs n c
   packs-number e =
@@ -182,7 +182,7 @@ module _ (n c : ℕ) where
       (λ b. ⊎-elim (λ d. packs-between (test-between c n b d ∙ e)) (λ d. packs-missing (test-missing c n d ∙ e)) (split c missingCell)) (split c functionCell)) (split c windowCell)
 
   -- exactly the packed values that may be kept
-  pub packed-exactly : (isPacked c n ≡ true) ↔ ((v : Value) × Kept n v × (c ≡ packOf v))
+  pub packed-exactly : (isPacked c n ≡ true) ↔ ((v : Value) × Keepable n v × (c ≡ packOf v))
   packed-exactly = (
     λ e. (unpackOf c, passes-packs e .kept, sym (passes-packs e .again)),
     λ p. ap (λ (k : ℕ). isPacked k n) (p .2) ∙ kept-passes n (p .0) (p .1),

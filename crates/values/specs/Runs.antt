@@ -27,17 +27,17 @@ results (Delayed ∷ vs) = because wrongKind
 results (Missing r ∷ vs) = because r
 
 -- other than 0
-abbrev pub holds : ℤ → Bool
-holds z = not (sameℤ z (pos 0))
+abbrev pub isNonzero : ℤ → Bool
+isNonzero z = not (sameℤ z (pos 0))
 
 unfoldable pub countOf : List ℤ → ℕ
 countOf [] = 0
-countOf (z ∷ zs) = cond (holds z) 1 0 + countOf zs
+countOf (z ∷ zs) = cond (isNonzero z) 1 0 + countOf zs
 
 -- the stretch at the front, and the longest stretch anywhere
 unfoldable pub stretch : List ℤ → ℕ
 stretch [] = 0
-stretch (z ∷ zs) = cond (holds z) (suc (stretch zs)) 0
+stretch (z ∷ zs) = cond (isNonzero z) (suc (stretch zs)) 0
 
 unfoldable pub longest : List ℤ → ℕ
 longest [] = 0

@@ -10,7 +10,7 @@ use Rattle.values.specs.declared.Value.{Value}
 use Rattle.values.specs.declared.Value.the-variants.{Number, Window, Function, Delayed, Missing}
 use Rattle.values.specs.declared.runs.Tally.{Tally}
 use Rattle.values.specs.Values.{pick, wrongKind}
-use Rattle.values.specs.Runs.{holds, Summary}
+use Rattle.values.specs.Runs.{isNonzero, Summary}
 use Rattle.values.specs.Rules.{rule, byRuns}
 
 abbrev pub begun : Tally
@@ -18,13 +18,13 @@ begun = record { stopped = false; reason = 0; count = 0; stretch = 0; longest = 
 
 -- the stretch that ends with z
 abbrev pub stretched : Tally → ℤ → ℕ
-stretched t z = cond (holds z) (t .stretch + 1) 0
+stretched t z = cond (isNonzero z) (t .stretch + 1) 0
 
 unfoldable pub noted : Tally → ℤ → Tally
 noted t z = record {
   stopped = false;
   reason = 0;
-  count = t .count + cond (holds z) 1 0;
+  count = t .count + cond (isNonzero z) 1 0;
   stretch = stretched t z;
   longest = max (t .longest) (stretched t z);
   total = t .total +ℤ z;

@@ -13,7 +13,7 @@ use Rattle.values.specs.declared.Value.the-variants.{Number, Window, Fun
 use Rattle.values.specs.declared.runs.Tally.{Tally}
 use Rattle.values.specs.Values.{pick, wrongKind}
 use Rattle.values.specs.Windows.{total}
-use Rattle.values.specs.Runs.{Results, numbers, because, with, results, holds, countOf, stretch, longest, summary}
+use Rattle.values.specs.Runs.{Results, numbers, because, with, results, isNonzero, countOf, stretch, longest, summary}
 use Rattle.values.specs.Rules.{rule, byRuns, concluded, ofRuns}
 use Rattle.values.specs.Ranges.{total-range}
 use Rattle.values.specs.Tallies.{begun, noted, halted, entered, choose, stepped, gathered, summed, finished, Within}
@@ -93,7 +93,7 @@ joined false l n s g h k = omega arith
 measured : (t : Tally) (zs : List ℤ) → t .stretch ≤ t .longest → notedAll t zs .longest ≡ max (t .longest) (max (t .stretch + stretch zs) (longest zs))
 unfolding notedAll noted stretch longest
 measured t [] h = omega arith
-measured t (z ∷ zs) h = measured (noted t z) zs (omega arith) ∙ joined (holds z) (t .longest) (t .stretch) (stretch zs) (longest zs) h (stretch-long zs)
+measured t (z ∷ zs) h = measured (noted t z) zs (omega arith) ∙ joined (isNonzero z) (t .longest) (t .stretch) (stretch zs) (longest zs) h (stretch-long zs)
 
 -- ---- the law: a member is concluded from the tally as Runs concludes it from the results
 
@@ -127,9 +127,9 @@ if-most false n = omega arith
 pub within-noted : (k : ℕ) (t : Tally) (z : ℤ) → mag z < 2147483648 → Within k t → Within (k + 1) (noted t z)
 unfolding noted
 within-noted k t z h w = record {
-  count = omega (arith, if-most (holds z) 1);
-  stretch = omega (arith, if-most (holds z) (t .stretch + 1));
-  longest = omega (arith, if-most (holds z) (t .stretch + 1));
+  count = omega (arith, if-most (isNonzero z) 1);
+  stretch = omega (arith, if-most (isNonzero z) (t .stretch + 1));
+  longest = omega (arith, if-most (isNonzero z) (t .stretch + 1));
   total = omega (arith, total-range 2147483648 k (t .total) z (w .total) h);
 }
 

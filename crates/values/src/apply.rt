@@ -14,7 +14,7 @@ ghost use Rattle.language.specs.Members.{kindNumber};
 ghost use Rattle.values.specs.Values.{kindOf};
 ghost use Rattle.values.specs.Apply as Rules;
 ghost use Rattle.values.specs.Applied.{ruledWindow, ruled1, applied1};
-ghost use Rattle.values.specs.Kept.{Bounded};
+ghost use Rattle.values.specs.Keepable.{Bounded};
 
 // What a member with one argument comes to, or the window to run its function over.
 pub enum Applied {

@@ -7,7 +7,7 @@ use mathlib.Core.Path.{_≡_, refl}
 use mathlib.Core.Logic.{⊎-elim}
 use lib.ListN.{drop}
 use Rattle.values.specs.Windows.{readingsIn}
-use Rattle.evaluator.specs.Working.{graph}
+use Rattle.evaluator.specs.Applying.{graph}
 use Rattle.evaluator.proofs.Running.{done-applies, value-applies, same-applies, judge-applies, run-applies, Runs, runs-begin, runs-within, runs-end, runs-stop, runs-again, Works, works-stop, works-end, works-again}
 use borrow.Fn.Kinds.{In}
 use borrow.Fn.PlainCycle.{Measures, is, falls, and}

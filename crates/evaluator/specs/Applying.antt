@@ -21,7 +21,7 @@ use Rattle.values.specs.Windows.{readingsIn}
 use Rattle.values.specs.Apply.{apply0}
 use Rattle.values.specs.Applied.{applied1}
 use Rattle.values.specs.Tallies.{begun, stepped, finished, Within}
-use Rattle.values.specs.Kept.{Bounded}
+use Rattle.values.specs.Keepable.{Bounded}
 use Rattle.values.specs.Packing.{packOf, unpackOf, delayedCell, wrongCell}
 use Rattle.table.specs.Nodes.{numberKind, functionKind, memberOfKind}
 use Rattle.evaluator.specs.declared.working.Task.{Task}

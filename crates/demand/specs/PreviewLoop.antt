@@ -25,14 +25,14 @@ use Rattle.table.specs.Memory.{Kept, keptAt, entriesFrom, nothingKept}
 use Rattle.table.specs.Links.{entryCells, kindAt, keyAt, valueAt}
 use Rattle.table.specs.LinksLaws.{kept-length as keep-length, kept-key as keep-key, kept-apart as keep-apart, kept-here as keep-here}
 use Rattle.table.specs.Waits.{slotA, slotB}
-use Rattle.evaluator.specs.Working.{graph, applyAt}
+use Rattle.evaluator.specs.Applying.{graph, applyAt}
 use Rattle.scheduler.specs.Works.{chosen, nameFor, otherFor, kept, workFrom}
 use Rattle.refine.specs.Shows.{slotNames}
 use Rattle.refine.specs.Tables.{Good, Link, Sees, here, down, kept-entry}
 use Rattle.refine.specs.Meaning.{apply-right}
 use Rattle.refine.specs.Counts.{chosenIn}
 use Rattle.formulas.specs.Formulas.{formulas}
-use Rattle.demand.specs.Holds.{joined, markOf, keptFor}
+use Rattle.demand.specs.Holds.{withMarks, markOf, keptFor}
 use Rattle.demand.specs.Starts.{shown-value, kept-cells}
 
 -- form i, what it shows, and the cell of its value
@@ -47,7 +47,7 @@ cellAt xs fs i = packOf (valueOf (evaluate xs nowhere (formAt fs i)))
 
 -- what c entries hold
 abbrev pub held : List ℕ → List Form → ℕ → List ℕ → List (Model.Entry formulas)
-held links fs c cells = joined fs (entriesFrom links cells 0 c)
+held links fs c cells = withMarks fs (entriesFrom links cells 0 c)
 
 -- the model's loop, one number on
 module _ (L : Language) (flag : ℕ → Bool) (value : List (Model.Entry L) → ℕ → L .Shown) where
@@ -67,8 +67,8 @@ module _ (L : Language) (flag : ℕ → Bool) (value : List (Model.Entry L) → 
 
 -- entries held, number by number
 joined-nth : (fs : List Form) (links cells : List ℕ) (p k i : ℕ) → length fs ≡ k → i < k
-    → getElem? (joined fs (entriesFrom links cells p k)) i ≡ some (record { form = formAt fs i; mark = markOf (keptAt cells (p + i)) })
-unfolding joined entriesFrom
+    → getElem? (withMarks fs (entriesFrom links cells p k)) i ≡ some (record { form = formAt fs i; mark = markOf (keptAt cells (p + i)) })
+unfolding withMarks entriesFrom
 joined-nth [] links cells p k i l h = absurd (omega arith)
 joined-nth (f ∷ fs) links cells p zero i l h = absurd (omega arith)
 joined-nth (f ∷ fs) links cells p (suc k) zero l h = let z : p + 0 ≡ p = omega arith in rw z
@@ -78,16 +78,16 @@ pub held-nth : (links : List ℕ) (fs : List Form) (c : ℕ) (cells : List ℕ) 
     → getElem? (held links fs c cells) i ≡ some (record { form = formAt fs i; mark = markOf (keptAt cells i) })
 held-nth links fs c cells i l h = let z : 0 + i ≡ i = omega arith in rw z at (joined-nth fs links cells 0 c i l h)
 
-joined-same : (fs : List Form) (links cells now : List ℕ) (p k : ℕ) → ((j : ℕ) → p ≤ j → keptAt now j ≡ keptAt cells j) → joined fs (entriesFrom links now p k) ≡ joined fs (entriesFrom links cells p k)
-unfolding joined entriesFrom
+joined-same : (fs : List Form) (links cells now : List ℕ) (p k : ℕ) → ((j : ℕ) → p ≤ j → keptAt now j ≡ keptAt cells j) → withMarks fs (entriesFrom links now p k) ≡ withMarks fs (entriesFrom links cells p k)
+unfolding withMarks entriesFrom
 joined-same [] links cells now p k h = refl
 joined-same (f ∷ fs) links cells now p zero h = refl
 joined-same (f ∷ fs) links cells now p (suc k) h = λ t. record { form = f; mark = markOf (h p (omega arith) t) } ∷ joined-same fs links cells now (suc p) k (λ j l. h j (omega arith)) t
 
 -- one of them is marked
 joined-mark : (fs : List Form) (links cells now : List ℕ) (p k i : ℕ) (v : Shown) → length fs ≡ k → i < k → markOf (keptAt now (p + i)) ≡ some v → ((j : ℕ) → (j ≡ p + i → ⊥) → keptAt now j ≡ keptAt cells j)
-    → joined fs (entriesFrom links now p k) ≡ markAt formulas i v (joined fs (entriesFrom links cells p k))
-unfolding joined entriesFrom markAt
+    → withMarks fs (entriesFrom links now p k) ≡ markAt formulas i v (withMarks fs (entriesFrom links cells p k))
+unfolding withMarks entriesFrom markAt
 joined-mark [] links cells now p k i v l h e o = absurd (omega arith)
 joined-mark (f ∷ fs) links cells now p zero i v l h e o = absurd (omega arith)
 joined-mark (f ∷ fs) links cells now p (suc k) zero v l h e o =

@@ -30,7 +30,7 @@ use Rattle.table.specs.Waits.{waitsFrom}
 use Rattle.table.specs.AwaitsLaws.{few-at}
 use Rattle.table.specs.WaitsLaws.{apart, found}
 use Rattle.evaluator.specs.Frames.{startAt, startFrom}
-use Rattle.evaluator.specs.Working.{graph, applyAt}
+use Rattle.evaluator.specs.Applying.{graph, applyAt}
 use Rattle.scheduler.specs.Works.{needOf, chosen, nameFor, otherFor, kept, Work, workFrom, worked}
 use Rattle.refine.specs.Packed.{Cell, Cells, set-cells, Right, apply-packed, leaf-packed, zeros, start-cells}
 use Rattle.refine.specs.Named.{names-right}
@@ -39,7 +39,7 @@ use Rattle.formulas.specs.Formulas.{IsReading}
 use Rattle.interface.specs.Calls.{workOn, workedMemory}
 use Rattle.demand.specs.Appended.{lengths}
 use Rattle.demand.specs.Accepted.{reading-small}
-use Rattle.demand.specs.WorkedOut.{isKept, workedOut, count-more}
+use Rattle.demand.specs.WorkedCount.{isKept, workedOut, count-more}
 use Rattle.demand.specs.Starts.{start-length, start-at}
 
 -- ---- as many cells as before

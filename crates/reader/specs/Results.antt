@@ -19,7 +19,7 @@ abbrev pub noBinders : List ℕ
 noBinders = replicate 32 0
 
 -- the answer, and each cell of the two arrays
-pub record Reading (text R P : List ℕ) (r : Read) (R′ P′ : List ℕ) : Type 0 where
+pub record ReadsInto (text R P : List ℕ) (r : Read) (R′ P′ : List ℕ) : Type 0 where
   pub answer : r ≡ answerOf (readInto text R P noBinders .cursor)
   pub records : R′ ≡ readInto text R P noBinders .records
   pub places : P′ ≡ readInto text R P noBinders .places

@@ -19,8 +19,8 @@ use Rattle.values.specs.Apply.{isKind, rule0, rule1, isMissing, isDelaye
 use Rattle.values.specs.Applied.{choose, ruledWindow, ruled1, applied1, completed}
 use Rattle.values.specs.ApplyLaws.{completed-rule}
 use Rattle.values.specs.WindowLaws.{readings-short}
-use Rattle.values.specs.Kept.{Kept}
-use Rattle.values.specs.KeptLaws.{Closed, Readings, Given, given, Each, picked, wrong, readings-of, readings-small, closed-numbers, closed-of, closed-on, closed-results}
+use Rattle.values.specs.Keepable.{Keepable}
+use Rattle.values.specs.KeepableLaws.{Closed, Readings, Given, given, Each, picked, wrong, readings-of, readings-small, closed-numbers, closed-of, closed-on, closed-results}
 
 -- the property of what a member comes to, or of the window that it runs over
 abbrev pub Settled : (Value → Type 0) → Applied → Type 0
@@ -114,7 +114,7 @@ module _ (P : Value → Type 0) (C : Closed P) (m : Member) (xs : List ℤ) (R :
 
 -- ---- what may be kept
 
-pub kept-closed : (n : ℕ) → n ≤ 65535 → Closed (Kept n)
+pub kept-closed : (n : ℕ) → n ≤ 65535 → Closed (Keepable n)
 kept-closed n b = record {
   small = λ z h. record { held = h; inside = tt; reasoned = tt };
   reason = λ r h q. record { held = omega arith; inside = tt; reasoned = (h, q) };
@@ -123,18 +123,18 @@ kept-closed n b = record {
 }
 
 module _ (n : ℕ) (b : n ≤ 65535) (m : Member) (xs : List ℤ) (small : (i : ℕ) → i < length xs → mag (getD xs i (pos 0)) < 2147483648) where
-  readings : Readings (Kept n) xs
-  readings = readings-small (Kept n) (kept-closed n b) xs small
+  readings : Readings (Keepable n) xs
+  readings = readings-small (Keepable n) (kept-closed n b) xs small
 
-  delay : Kept n Delayed
+  delay : Keepable n Delayed
   delay = record { held = tt; inside = tt; reasoned = tt }
 
-  pub kept-apply0 : (v : Value) → Kept n v → Kept n (apply0 m xs v)
-  kept-apply0 v k = closed-apply0 (Kept n) (kept-closed n b) m xs readings delay v (given (Kept n) v k)
+  pub kept-apply0 : (v : Value) → Keepable n v → Keepable n (apply0 m xs v)
+  kept-apply0 v k = closed-apply0 (Keepable n) (kept-closed n b) m xs readings delay v (given (Keepable n) v k)
 
-  pub kept-applied1 : (v w : Value) → Kept n v → Kept n w → Settled (Kept n) (applied1 m xs v w)
-  kept-applied1 = closed-applied1 (Kept n) (kept-closed n b) m xs readings delay
+  pub kept-applied1 : (v w : Value) → Keepable n v → Keepable n w → Settled (Keepable n) (applied1 m xs v w)
+  kept-applied1 = closed-applied1 (Keepable n) (kept-closed n b) m xs readings delay
 
-  pub kept-apply1 : (run : ℤ → Value) → ((x : ℤ) → Kept n (Number x) → Kept n (run x)) → (v w : Value) → Kept n v → Kept n w → Kept n (apply1 m xs v w run)
+  pub kept-apply1 : (run : ℤ → Value) → ((x : ℤ) → Keepable n (Number x) → Keepable n (run x)) → (v w : Value) → Keepable n v → Keepable n w → Keepable n (apply1 m xs v w run)
   kept-apply1 run F v w k j =
-      closed-apply1 (Kept n) (kept-closed n b) m xs readings delay run (λ x h. given (Kept n) (run x) (F x h)) v w (given (Kept n) v k) (given (Kept n) w j)
+      closed-apply1 (Keepable n) (kept-closed n b) m xs readings delay run (λ x h. given (Keepable n) (run x) (F x h)) v w (given (Keepable n) v k) (given (Keepable n) w j)

@@ -5,12 +5,12 @@ use Rattle.values.specs.declared.Value.{Value}
 use Rattle.values.specs.declared.Value.the-variants.{Number, Window, Function, Delayed, Missing}
 
 -- the fields are of their types: signed 32 bits, 16 bits, 8 bits
-abbrev pub Held : Value → Type 0
-Held (Number z) = mag z < 2147483648
-Held (Window s l) = (s < 65536) × (l < 65536)
-Held Function = Unit {0}
-Held Delayed = Unit {0}
-Held (Missing r) = r < 256
+abbrev pub Storable : Value → Type 0
+Storable (Number z) = mag z < 2147483648
+Storable (Window s l) = (s < 65536) × (l < 65536)
+Storable Function = Unit {0}
+Storable Delayed = Unit {0}
+Storable (Missing r) = r < 256
 
 -- a window lies within n readings
 abbrev pub Inside : ℕ → Value → Type 0
@@ -33,7 +33,7 @@ Reasoned Function = Unit {0}
 Reasoned Delayed = Unit {0}
 
 -- 01, refusal 4: a kept number, window or reason within signed 32 bits, the recording, or 1 to 5
-pub record Kept (n : ℕ) (v : Value) : Type 0 where
-  pub held : Held v
+pub record Keepable (n : ℕ) (v : Value) : Type 0 where
+  pub held : Storable v
   pub inside : Inside n v
   pub reasoned : Reasoned v

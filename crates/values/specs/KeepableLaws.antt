@@ -20,7 +20,7 @@ use Rattle.values.specs.declared.Value.the-variants.{Number, Window, Fun
 use Rattle.values.specs.Values.{pick, ranged, flag, sameℤ}
 use Rattle.values.specs.Numbers.{quotient, divided}
 use Rattle.values.specs.Windows.{readingsIn, clipped, reading, unlessNegative, lesser, greater, foldFrom, extreme}
-use Rattle.values.specs.Runs.{Results, numbers, because, with, results, holds, countOf, stretch, longest, summary}
+use Rattle.values.specs.Runs.{Results, numbers, because, with, results, isNonzero, countOf, stretch, longest, summary}
 use Rattle.values.specs.Rules.{Rule, twoNumbers, window, windowNumber, windowRuns, rule, byNumbers, byWindow, byWindowNumber, byRuns, onNumbers, ofWindow, onWindow, concluded, ofRuns}
 use Rattle.values.specs.Ranges.{in-range}
 use Rattle.values.specs.WindowLaws.{clipped-parts, clipped-within}
@@ -62,12 +62,12 @@ Each P (v ∷ vs) = P v × Each P vs
 count-short : (zs : List ℤ) → countOf zs ≤ length zs
 unfolding countOf
 count-short [] = omega arith
-count-short (z ∷ zs) = omega (arith, if-most (holds z) 1, count-short zs)
+count-short (z ∷ zs) = omega (arith, if-most (isNonzero z) 1, count-short zs)
 
 stretch-short : (zs : List ℤ) → stretch zs ≤ length zs
 unfolding stretch
 stretch-short [] = omega arith
-stretch-short (z ∷ zs) = omega (arith, if-most (holds z) (suc (stretch zs)), stretch-short zs)
+stretch-short (z ∷ zs) = omega (arith, if-most (isNonzero z) (suc (stretch zs)), stretch-short zs)
 
 longest-short : (zs : List ℤ) → longest zs ≤ length zs
 unfolding longest
