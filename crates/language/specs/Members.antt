@@ -10,14 +10,14 @@ use Rattle.language.specs.declared.members.Member.{Member}
 use Rattle.language.specs.declared.members.Member.the-variants.{Add, Sub, Mul, Div, Gt, Eq, Skip, Take, Count, Sum, Min, Max, At, CountWhere, LongestRun, SumBy}
 use Rattle.language.specs.declared.members.Kind.{Kind}
 use Rattle.language.specs.declared.members.Kind.the-variants as Kinds
-use Rattle.language.specs.declared.members.Form.{Form}
-use Rattle.language.specs.declared.members.Form.the-variants.{Numbers, Window, WindowNumber, WindowFunction}
+use Rattle.language.specs.declared.members.Signature.{Signature}
+use Rattle.language.specs.declared.members.Signature.the-variants.{Numbers, Window, WindowNumber, WindowFunction}
 use Rattle.language.specs.declared.members.Name.{Name}
 use Rattle.language.specs.declared.members.Found.{Found}
 use Rattle.language.specs.declared.members.Found.the-variants.{Is, Unknown}
 
 -- a member's name, and what it is used on and with
-abbrev pub listed : Member → String × Form
+abbrev pub listed : Member → String × Signature
 listed Add = ("add", Numbers)
 listed Sub = ("sub", Numbers)
 listed Mul = ("mul", Numbers)
@@ -35,20 +35,20 @@ listed CountWhere = ("countWhere", WindowFunction)
 listed LongestRun = ("longestRun", WindowFunction)
 listed SumBy = ("sumBy", WindowFunction)
 
-abbrev pub argumentsOf : Form → ℕ
+abbrev pub argumentsOf : Signature → ℕ
 argumentsOf Numbers = 1
 argumentsOf Window = 0
 argumentsOf WindowNumber = 1
 argumentsOf WindowFunction = 1
 
-abbrev pub receiverOf : Form → Kind
+abbrev pub receiverOf : Signature → Kind
 receiverOf Numbers = Kinds.Number
 receiverOf Window = Kinds.Window
 receiverOf WindowNumber = Kinds.Window
 receiverOf WindowFunction = Kinds.Window
 
 -- Nothing where the member takes no argument
-abbrev pub argumentOf : Form → Kind
+abbrev pub argumentOf : Signature → Kind
 argumentOf Numbers = Kinds.Number
 argumentOf Window = Kinds.Nothing
 argumentOf WindowNumber = Kinds.Number

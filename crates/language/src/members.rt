@@ -37,7 +37,7 @@ pub enum Found {
 }
 
 // What a member is used on and with: two numbers, a window alone, a window and a number, or a window and a function.
-pub enum Form {
+pub enum Signature {
     Numbers,
     Window,
     WindowNumber,
@@ -50,7 +50,7 @@ struct Name(pub [u8; 12], pub u8);
 // How many members there are.
 pub const MEMBERS: usize = 16;
 
-// The member table has two columns: the names, in the order of the members' numbers, and the forms, which form_of gives. Reader and evaluator
+// The member table has two columns: the names, in the order of the members' numbers, and the signatures, which signature_of gives. Reader and evaluator
 // look members up here alone. A constant array is laid out anew at each look-up: the reader searches the whole column, so that costs it
 // nothing, but an application of a member would take twice as long.
 const NAMES: [Name; MEMBERS] = [
@@ -122,59 +122,59 @@ pub fn number_of(m: Member) -> u8
 }
 
 // What a member is used on and with.
-fn form_of(m: Member) -> Form
+fn signature_of(m: Member) -> Signature
     ensures { λ r. ⌜ r ≡ listed m .1 ⌝ }
 {
     match m {
-        Member::Add => Form::Numbers,
-        Member::Sub => Form::Numbers,
-        Member::Mul => Form::Numbers,
-        Member::Div => Form::Numbers,
-        Member::Gt => Form::Numbers,
-        Member::Eq => Form::Numbers,
-        Member::Skip => Form::WindowNumber,
-        Member::Take => Form::WindowNumber,
-        Member::Count => Form::Window,
-        Member::Sum => Form::Window,
-        Member::Min => Form::Window,
-        Member::Max => Form::Window,
-        Member::At => Form::WindowNumber,
-        Member::CountWhere => Form::WindowFunction,
-        Member::LongestRun => Form::WindowFunction,
-        Member::SumBy => Form::WindowFunction,
+        Member::Add => Signature::Numbers,
+        Member::Sub => Signature::Numbers,
+        Member::Mul => Signature::Numbers,
+        Member::Div => Signature::Numbers,
+        Member::Gt => Signature::Numbers,
+        Member::Eq => Signature::Numbers,
+        Member::Skip => Signature::WindowNumber,
+        Member::Take => Signature::WindowNumber,
+        Member::Count => Signature::Window,
+        Member::Sum => Signature::Window,
+        Member::Min => Signature::Window,
+        Member::Max => Signature::Window,
+        Member::At => Signature::WindowNumber,
+        Member::CountWhere => Signature::WindowFunction,
+        Member::LongestRun => Signature::WindowFunction,
+        Member::SumBy => Signature::WindowFunction,
     }
 }
 
-fn form_arguments(f: Form) -> u8
+fn signature_arguments(f: Signature) -> u8
     ensures { λ r. ⌜ r ≡ argumentsOf f ⌝ }
 {
     match f {
-        Form::Numbers => 1,
-        Form::Window => 0,
-        Form::WindowNumber => 1,
-        Form::WindowFunction => 1,
+        Signature::Numbers => 1,
+        Signature::Window => 0,
+        Signature::WindowNumber => 1,
+        Signature::WindowFunction => 1,
     }
 }
 
-fn form_receiver(f: Form) -> Kind
+fn signature_receiver(f: Signature) -> Kind
     ensures { λ r. ⌜ r ≡ receiverOf f ⌝ }
 {
     match f {
-        Form::Numbers => Kind::Number,
-        Form::Window => Kind::Window,
-        Form::WindowNumber => Kind::Window,
-        Form::WindowFunction => Kind::Window,
+        Signature::Numbers => Kind::Number,
+        Signature::Window => Kind::Window,
+        Signature::WindowNumber => Kind::Window,
+        Signature::WindowFunction => Kind::Window,
     }
 }
 
-fn form_argument(f: Form) -> Kind
+fn signature_argument(f: Signature) -> Kind
     ensures { λ r. ⌜ r ≡ argumentOf f ⌝ }
 {
     match f {
-        Form::Numbers => Kind::Number,
-        Form::Window => Kind::Nothing,
-        Form::WindowNumber => Kind::Number,
-        Form::WindowFunction => Kind::Function,
+        Signature::Numbers => Kind::Number,
+        Signature::Window => Kind::Nothing,
+        Signature::WindowNumber => Kind::Number,
+        Signature::WindowFunction => Kind::Function,
     }
 }
 
@@ -182,21 +182,21 @@ fn form_argument(f: Form) -> Kind
 pub fn arguments(m: Member) -> u8
     ensures { λ r. ⌜ r ≡ row m .arguments ⌝ }
 {
-    form_arguments(form_of(m))
+    signature_arguments(signature_of(m))
 }
 
 // What a member is used on.
 pub fn receiver(m: Member) -> Kind
     ensures { λ r. ⌜ r ≡ row m .receiver ⌝ }
 {
-    form_receiver(form_of(m))
+    signature_receiver(signature_of(m))
 }
 
 // What a member is used with.
 pub fn argument(m: Member) -> Kind
     ensures { λ r. ⌜ r ≡ row m .argument ⌝ }
 {
-    form_argument(form_of(m))
+    signature_argument(signature_of(m))
 }
 
 // Whether the word is a name of the table.

@@ -5,15 +5,15 @@ use Rattle.language.specs.Members.{receiverOf, row}
 use Rattle.language.proofs.members.receiver.Statement.{statement}
 use Rattle.language.proofs.members.receiver.Tie as tie
 
-form-of-requires : tie.Need-form-of-requires
-form-of-requires c κs = search needs
+signature-of-requires : tie.Need-signature-of-requires
+signature-of-requires c κs = search needs
 
-form-receiver-requires : tie.Need-form-receiver-requires
-form-receiver-requires c κs = search needs
+signature-receiver-requires : tie.Need-signature-receiver-requires
+signature-receiver-requires c κs = search needs
 
 returns : tie.Need-returns
 unfolding row
-returns c = c .form-receiver .ensures ∙ ap receiverOf (c .before .form-of .ensures)
+returns c = c .signature-receiver .ensures ∙ ap receiverOf (c .before .signature-of .ensures)
 
 pub receiver-spec : {M : Type 1} → statement M
-receiver-spec = tie.close (tie.spec form-of-requires form-receiver-requires returns)
+receiver-spec = tie.close (tie.spec signature-of-requires signature-receiver-requires returns)
