@@ -21,8 +21,9 @@
  *   - it is passed as a pointer to its first cell and its length in cells, not in bytes;
  *   - the pointer is aligned for its type and never null, even where the length is 0;
  *   - the slices of one call do not overlap.
- * This is all that a caller must see to. Any contents and any lengths are allowed otherwise: the call is
- * then answered, or refused with a number. A refused call has written nothing.
+ * And for every call: the task has the stack that docs/INTEGRATION.md names for it. This is all that a caller
+ * must see to. Any contents and any lengths are allowed otherwise: the call is then answered, or refused with
+ * a number. A refused call has written nothing.
  */
 #ifndef FORMULA_H
 #define FORMULA_H
@@ -65,7 +66,7 @@ enum formula_refusal {
     FORMULA_REFUSAL_CACHE_ILL_FORMED = 4,   /* edit, preview: ill-formed contents; open it again */
     FORMULA_REFUSAL_UNGRAMMATICAL = 5,      /* edit: no grammatical text goes on with this token or end */
     FORMULA_REFUSAL_NUMBER_OUTSIDE = 6,     /* edit: number outside -2147483648 to 2147483647 */
-    FORMULA_REFUSAL_NAME_TOO_LONG = 7,      /* edit: name over 8 bytes */
+    FORMULA_REFUSAL_NAME_TOO_LONG = 7,      /* edit: name over 8 bytes, not after a dot */
     FORMULA_REFUSAL_DATA_BOUND = 8,         /* edit: `data` as the name of a let or \ */
     FORMULA_REFUSAL_WRONG_CALL = 9,         /* edit: unknown member, or too few or too many arguments */
     FORMULA_REFUSAL_THIRD_LAMBDA = 10,      /* edit: third open \ */
