@@ -12,13 +12,14 @@ use lib.ListN.{length, length-set}
 use lib.Seq.{getD-set-same, getD-set-other}
 use Rattle.meaning.specs.FormsLaws.{no-way, and-left, and-right}
 use Rattle.meaning.specs.EvaluationLaws.{split}
-use Rattle.table.specs.Links.{secondIndex, otherIndex, linksWith, cellsWith}
-use Rattle.table.specs.LinksLaws.{links-length, links-apart, links-here, cells-length, cells-apart, cells-kept, cells-key, cells-nothing}
-use Rattle.table.specs.Memory.{Memory, Node, Entry, nothingKept, fits, entryCount, readingCount, nodeAt, entryAt, entriesFrom, entriesOf}
-use Rattle.table.specs.Nodes.{kids}
+use Rattle.layout.specs.Links.{secondIndex, otherIndex, linksWith, cellsWith}
+use Rattle.layout.specs.LinksLaws.{links-length, links-apart, links-here, cells-length, cells-apart, cells-kept, cells-key, cells-nothing}
+use Rattle.layout.specs.Memory.{Memory, Node, Entry, nothingKept, fits, entryCount, readingCount, nodeAt, entryAt, entriesFrom, entriesOf}
+use Rattle.layout.specs.Nodes.{kids}
 use Rattle.table.specs.WellFormed.{every, hasNode, distinct, awaitedBy, awaitedAfter, awaitsFew, doneAt, allDone, settled, namesRight, keptRight, wellFormed}
 use Rattle.table.specs.Bind.{append, appendAll}
-use Rattle.table.specs.Right.{allFrom, numbered, nodeRight, rightAt}
+use Rattle.table.specs.Right.{nodeRight, rightAt}
+use Rattle.layout.specs.Numbered.{allFrom, numbered}
 use Rattle.table.specs.RightLaws.{all-at, all-of, right-at}
 use Rattle.binder.specs.WrittenLaws.{whole-is}
 use Rattle.table.specs.ChainLaws.{numbered-last, numbered-agree, distinct-snoc}

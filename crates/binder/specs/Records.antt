@@ -6,11 +6,11 @@ use Prim.Native.Nat.{ℕ, _+_, _*_, _/_, _%_, _≤_, _<_}
 use lib.Dec.{ltb}
 use lib.ListN.{length, getD, take}
 use Rattle.language.specs.Limits.{tableEntries}
-use Rattle.table.specs.Memory.{Node, nodeAt}
+use Rattle.layout.specs.Memory.{Node, nodeAt, node}
 use Rattle.table.specs.WellFormed.{distinct}
 use Rattle.table.specs.Bind.{Bound, bindOne, bindAll}
-use Rattle.table.specs.Right.{node, numbered}
-use Rattle.table.specs.Held.{heldAt}
+use Rattle.layout.specs.Numbered.{numbered}
+use Rattle.layout.specs.Held.{heldAt}
 use Rattle.table.specs.Chain.{Chained}
 
 unfoldable pub recordAt : List ℕ → ℕ → Node

@@ -11,16 +11,16 @@ use borrow.Author.Tests.{eq-eqb, ne-eqb, lt-ltb, le-ltb}
 use lib.Dec.{eqb, ltb}
 use lib.ListN.{length, getD, set, take, drop, length-set, List·getD-eq-default}
 use lib.Seq.{getD-set-same, getD-set-other, getD-take, take-suc-set, length-take-le, drop-at}
-use Rattle.table.specs.Memory.{Node, nodeAt}
+use Rattle.layout.specs.Memory.{Node, nodeAt, node}
 use Rattle.table.specs.WellFormed.{distinct}
 use Rattle.table.specs.Bind.{find, relinked, relink, Bound, bindOne, bindAll}
-use Rattle.table.specs.Right.{node, numbered}
+use Rattle.layout.specs.Numbered.{numbered}
 use Rattle.table.specs.RightLaws.{left-suc}
-use Rattle.table.specs.Held.{shaped, wordOf, freshAt, heldAt, withFresh}
+use Rattle.layout.specs.Held.{shaped, wordOf, freshAt, heldAt, withFresh}
 use Rattle.table.specs.Chain.{hashOf, lastSame, Chained, linked}
 use Rattle.table.specs.ChainLaws.{numbered-zero, numbered-last, numbered-agree, length-numbered, distinct-snoc, has-last, last-le, find-last, hash-low, chained-more, chained-agree, held-front}
 use Rattle.binder.specs.Records.{recordAt, bound, boundNow, Ready, BoundOne, BoundAll}
-use Rattle.table.specs.declared.nodes.Shape.{Shape}
+use Rattle.layout.specs.declared.nodes.Shape.{Shape}
 
 -- the words of a node that waits, taken apart again
 word-kind : (k f s : ℕ) → k < 32 → f < 1024 → s < 1024 → wordOf k f s % 32 ≡ k

@@ -2,7 +2,7 @@
 use mathlib.Core.List.{List, _++_, map}
 use Prim.Native.Nat.{ℕ, _≤_}
 use lib.ListN.{length, getD, drop}
-use Rattle.table.specs.Links.{tableLinks, tableCells}
+use Rattle.layout.specs.Links.{tableLinks, tableCells}
 
 -- the slices of a cache that is lent whole
 pub record Whole (heads links cells : List ℕ) : Type 0 where

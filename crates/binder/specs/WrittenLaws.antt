@@ -13,12 +13,12 @@ use lib.ListN.{length, getD, set, take, drop, length-append, length-map}
 use lib.Seq.{getD-set-same, take-suc, drop-cons, set-at, length-take-le}
 use Rattle.language.specs.Limits.{tableReadings}
 use Rattle.meaning.specs.FormsLaws.{and-left, and-right}
-use Rattle.table.specs.Links.{tableLinks, tableCells, linksWith, cellsWith}
-use Rattle.table.specs.Memory.{Memory, Node, fits}
+use Rattle.layout.specs.Links.{tableLinks, tableCells, linksWith, cellsWith}
+use Rattle.layout.specs.Memory.{Memory, Node, fits}
 use Rattle.table.specs.Bind.{append, appendAll}
-use Rattle.table.specs.Right.{numbered}
+use Rattle.layout.specs.Numbered.{numbered}
 use Rattle.table.specs.RightLaws.{left-suc}
-use Rattle.table.specs.Held.{freshAt}
+use Rattle.layout.specs.Held.{freshAt}
 use Rattle.table.specs.ChainLaws.{numbered-zero}
 use Rattle.table.specs.Checked.{memory}
 use Rattle.binder.specs.Written.{Whole, placed}

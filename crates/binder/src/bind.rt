@@ -2,25 +2,25 @@
 // A record is two words: its kind and its links to earlier records, each 0 or one more than the record's number; and its key.
 use language::limits::Table;
 use language::limits::Text;
-use table::cells::at64;
+use layout::cells::at64;
 use table::chain::CHAIN_CELLS;
 use table::chain::enter;
 use table::chain::enter_all;
 use table::chain::hash;
 use table::chain::seek;
-use table::nodes::Shape;
-use table::nodes::TEXT_WORDS;
-use table::nodes::add_fresh;
+use layout::nodes::Shape;
+use layout::nodes::TEXT_WORDS;
+use layout::nodes::add_fresh;
 ghost use mathlib.Core.Path.{_≡_};
 ghost use mathlib.Core.Bool.{true};
 ghost use Prim.Native.Nat.{ℕ, _≤_, _<_};
 ghost use lib.ListN.{length, getD, take};
 ghost use Rattle.language.specs.Limits.{textParts, tableEntries};
-ghost use Rattle.table.specs.Memory.{nodeAt};
+ghost use Rattle.layout.specs.Memory.{nodeAt};
 ghost use Rattle.table.specs.WellFormed.{distinct};
 ghost use Rattle.table.specs.Bind.{relinked, relink};
-ghost use Rattle.table.specs.Right.{numbered};
-ghost use Rattle.table.specs.Held.{shaped};
+ghost use Rattle.layout.specs.Numbered.{numbered};
+ghost use Rattle.layout.specs.Held.{shaped};
 ghost use Rattle.binder.specs.Records.{recordAt, Ready, BoundOne, BoundAll, isFull};
 
 // The record of number r.

@@ -1,12 +1,12 @@
 // The writes of an accepted edit: the entries that waited are appended, and each part's number goes to its place.
 use language::limits::Text;
-use table::cells::at16;
-use table::cells::at32;
-use table::cells::put_cells;
-use table::cells::put_links;
-use table::nodes::Shape;
-use table::nodes::TEXT_WORDS;
-use table::nodes::fresh_at;
+use layout::cells::at16;
+use layout::cells::at32;
+use layout::cells::put_cells;
+use layout::cells::put_links;
+use layout::nodes::Shape;
+use layout::nodes::TEXT_WORDS;
+use layout::nodes::fresh_at;
 ghost use mathlib.Core.Path.{_≡_};
 ghost use mathlib.Core.List.{List};
 ghost use Prim.Native.Nat.{_-_, _≤_, _<_};
@@ -14,8 +14,8 @@ ghost use lib.IntN.{ℤ};
 ghost use lib.ListN.{length, getD, take};
 ghost use Rattle.language.specs.Limits.{textParts, tableEntries};
 ghost use Rattle.table.specs.Bind.{append, appendAll};
-ghost use Rattle.table.specs.Right.{numbered};
-ghost use Rattle.table.specs.Held.{shaped, freshAt};
+ghost use Rattle.layout.specs.Numbered.{numbered};
+ghost use Rattle.layout.specs.Held.{shaped, freshAt};
 ghost use Rattle.table.specs.Checked.{memory};
 ghost use Rattle.binder.specs.Written.{Whole, placed};
 

@@ -17,10 +17,10 @@ use Rattle.meaning.specs.FormsLaws.{same-eq, same-self}
 use Rattle.model.specs.Lists.{member}
 use Rattle.model.specs.ListLaws.{Equality}
 use Rattle.model.specs.Graph.{among, Graph, GraphLaws}
-use Rattle.table.specs.Memory.{Node}
-use Rattle.records.specs.Records.{node, numberKey}
-use Rattle.table.specs.Nodes.{numberKind, variableKind, unboundKind, readingsKind, functionKind, memberKind, pickForm}
-use Rattle.table.specs.Nodes.{memberOfKind, memberArity, memberForm, arity, listed, kids, sameNode, numberOfKey, build}
+use Rattle.layout.specs.Memory.{Node, node}
+use Rattle.records.specs.Records.{numberKey}
+use Rattle.layout.specs.Nodes.{numberKind, variableKind, unboundKind, readingsKind, functionKind, memberKind, pickForm}
+use Rattle.layout.specs.Nodes.{memberOfKind, memberArity, memberForm, arity, listed, kids, sameNode, numberOfKey, build}
 use Rattle.table.specs.NodeKinds.{Fine, aNumber, aVariable, anUnbound, theReadings, aFunction, anAsk, aCall, less-one, member-arity, build-ask, build-call}
 use Rattle.formulas.specs.Formulas.{formulas}
 

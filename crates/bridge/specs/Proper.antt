@@ -13,7 +13,7 @@ use Rattle.language.specs.Cases.{impossible, split, or-right}
 use Rattle.grammar.specs.KeptLimits.{InRange}
 use Rattle.meaning.specs.Forms.{Form, number, variable, unbound, readings, ask, call, function}
 use Rattle.meaning.specs.Evaluation.{hasName, joined, without, awaited}
-use Rattle.table.specs.Nodes.{isName}
+use Rattle.layout.specs.Nodes.{isName}
 
 abbrev pub Shape : Form → Type 0
 Shape (number z) = InRange z

@@ -23,7 +23,7 @@ use Rattle.meaning.specs.Forms.{Form, number, variable, unbound, readings, ask,
 use Rattle.meaning.specs.Binding.{Meaning, means, lookUp, named, asLambda, member, formE, formC, formA, formM, called, orderE, orderC, orderA, orderM, formsInOrder}
 use Rattle.meaning.specs.Evaluation.{hasName, awaited}
 use Rattle.model.specs.Lists.{All}
-use Rattle.table.specs.Nodes.{isName}
+use Rattle.layout.specs.Nodes.{isName}
 use Rattle.bridge.specs.Recorded.{given-right}
 use Rattle.bridge.specs.Words.{word-name}
 use Rattle.bridge.specs.Proper.{Shape, Proper, Has, nodup-awaited, has-joined, has-without, no-more}

@@ -29,10 +29,10 @@ use Rattle.meaning.specs.Binding.{placesC, placesA, placesM, orderE, orderC, or
 use Rattle.model.specs.Lists.{All, member as isIn, insert, insertAll}
 use Rattle.model.specs.ListLaws.{Equality, all-append, insert-old, insertAll-has}
 use Rattle.model.specs.Graph.{among, formAt, Placed, AllPlaced, decode, decode-snoc}
-use Rattle.table.specs.Memory.{Node}
-use Rattle.table.specs.Nodes.{numberKind, variableKind, unboundKind, readingsKind, functionKind, memberKind, build, kids, arity, memberOfKind}
+use Rattle.layout.specs.Memory.{Node, node}
+use Rattle.layout.specs.Nodes.{numberKind, variableKind, unboundKind, readingsKind, functionKind, memberKind, build, kids, arity, memberOfKind}
 use Rattle.table.specs.NodeKinds.{Fine, aNumber, aVariable, anUnbound, theReadings, aFunction, anAsk, aCall, build-ask, build-call, less-one}
-use Rattle.records.specs.Records.{Named, stands, Recorded, node, newRecord, numberKey, linked, recordScoped, recordName, behind, recordE, recordC, recordA, recordM, recordsOf}
+use Rattle.records.specs.Records.{Named, stands, Recorded, newRecord, numberKey, linked, recordScoped, recordName, behind, recordE, recordC, recordA, recordM, recordsOf}
 use Rattle.formulas.specs.Formulas.{formulas}
 use Rattle.bridge.specs.Graphs.{nodes, kids-function, kids-ask, kids-call, among-one, among-two}
 

@@ -14,7 +14,7 @@ use Rattle.language.specs.Members.{sameBytes}
 use Rattle.language.specs.MembersLaws.{same-bytes}
 use Rattle.language.specs.Cases.{impossible, split, either}
 use Rattle.grammar.specs.Words.{IsWord, word-bytes}
-use Rattle.table.specs.Nodes.{wordNumber, isName}
+use Rattle.layout.specs.Nodes.{wordNumber, isName}
 
 letter-range : (b : ℕ) → isLetter b ≡ true → (65 ≤ b) × (b < 256)
 letter-range b h =

@@ -5,7 +5,7 @@ use Prim.Native.Nat.{ℕ}
 use Rattle.grammar.specs.Machine.{readText}
 use Rattle.model.specs.Model.{written}
 use Rattle.formulas.specs.Formulas.{formulas}
-use Rattle.table.specs.Memory.{Memory}
+use Rattle.layout.specs.Memory.{Memory}
 use Rattle.interface.specs.declared.answers.Edited.{Edited}
 use Rattle.interface.specs.Answers.{editReply}
 use Rattle.interface.specs.Calls.{readAnswer, readMemory}

@@ -11,7 +11,7 @@ use lib.IntN.{ℤ, pos}
 use lib.ListN.{length, getD, set, take, drop}
 use lib.Seq.{take-suc, drop-cons, set-at, length-take-le, take-length}
 use Rattle.meaning.specs.FormsLaws.{and-left}
-use Rattle.table.specs.Memory.{Memory, fits}
+use Rattle.layout.specs.Memory.{Memory, fits}
 use Rattle.table.specs.Checked.{memory}
 use Rattle.binder.specs.Written.{Whole}
 use Rattle.binder.specs.WrittenLaws.{whole-is}

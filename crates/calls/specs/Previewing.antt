@@ -12,7 +12,7 @@ use lib.ListN.{length, getD, take, drop}
 use lib.Seq.{length-take-le}
 use Rattle.meaning.specs.FormsLaws.{and-left, and-right}
 use Rattle.meaning.specs.EvaluationLaws.{split}
-use Rattle.table.specs.Memory.{Memory, fits, entryCount, readingCount, nodeAt, keptAt}
+use Rattle.layout.specs.Memory.{Memory, fits, entryCount, readingCount, nodeAt, keptAt}
 use Rattle.table.specs.WellFormed.{namesRight, keptRight, wellFormed}
 use Rattle.table.specs.Checked.{memory, entriesRight}
 use Rattle.table.specs.CheckedLaws.{well-is}
@@ -22,7 +22,7 @@ use Rattle.values.specs.declared.Value.the-variants.{Number, Window, Function, 
 use Rattle.values.specs.Packing.{windowCell, delayedCell, missingCell, unpackOf, isPacked}
 use Rattle.values.specs.PackingLaws.{unpack-number, unpack-window, unpack-delayed, unpack-missing, passes-packs}
 use Rattle.values.specs.Keepable.{Inside}
-use Rattle.table.specs.Links.{kindAt, keyAt, valueAt}
+use Rattle.layout.specs.Links.{kindAt, keyAt, valueAt}
 use Rattle.evaluator.specs.Frames.{leafOf, startAt}
 use Rattle.scheduler.specs.declared.works.View.{View}
 use Rattle.scheduler.specs.Works.{Lent, Works, showOf}

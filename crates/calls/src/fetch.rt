@@ -1,7 +1,7 @@
 // Fetch: the window that an entry shows, as that very part of the lent readings.
 use crate::lent::refusal;
 use evaluator::frames::start_at;
-use table::cells::at32;
+use layout::cells::at32;
 use values::Value;
 use values::packing::unpack;
 ghost use mathlib.Core.Path.{_≡_};

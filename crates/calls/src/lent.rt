@@ -1,11 +1,11 @@
 // The cache as it is lent: the tests that come before a call's work.
 use language::limits::Table;
-use table::cells::ENTRY_CELLS;
-use table::cells::LINK_CELLS;
-use table::cells::at32;
+use layout::cells::ENTRY_CELLS;
+use layout::cells::LINK_CELLS;
+use layout::cells::at32;
 use table::check::well_formed;
 ghost use mathlib.Core.Path.{_≡_};
-ghost use Rattle.table.specs.Memory.{fits as fitsOf};
+ghost use Rattle.layout.specs.Memory.{fits as fitsOf};
 ghost use Rattle.table.specs.Checked.{memory};
 ghost use Rattle.calls.specs.Previewing.{refusal as refusalOf};
 

@@ -3,7 +3,7 @@ use interface::answers::Previewed;
 use crate::lent::refusal;
 use scheduler::works::show;
 use scheduler::works::work;
-use table::cells::at32;
+use layout::cells::at32;
 ghost use Rattle.table.specs.Checked.{memory};
 ghost use Rattle.interface.specs.Effects.{Previews};
 

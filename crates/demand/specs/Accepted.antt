@@ -29,12 +29,11 @@ use Rattle.model.specs.Invariant as Inv
 use Rattle.model.specs.Invariant.{Invariant}
 use Rattle.model.specs.Graph.{among, formAt, Placed, AllPlaced, Stands, decodes, decode}
 use Rattle.model.specs.Checks as Checks
-use Rattle.table.specs.Memory.{Memory, Node, Entry, entryCount, readingCount, recordingOf, entriesOf, nodesOf}
-use Rattle.table.specs.Nodes.{memberKind, kindCount, worksKind, arity, memberOfKind, listed, kids, sameNode, build, numberOfKey}
+use Rattle.layout.specs.Memory.{Memory, Node, Entry, entryCount, readingCount, recordingOf, entriesOf, nodesOf, node}
+use Rattle.layout.specs.Nodes.{memberKind, kindCount, worksKind, arity, memberOfKind, listed, kids, sameNode, build, numberOfKey}
 use Rattle.table.specs.WellFormed.{every, kindKnown, keyRight, given, arityRight, lower, hasNode, distinct, awaitedBy, awaitedAfter, isDone, doneAt, allDone, settled, namesRight, keptRight, wellFormed}
 use Rattle.table.specs.AwaitedForms.{awaited-build}
 use Rattle.table.specs.NodeKinds.{Fine, aNumber, aVariable, anUnbound, theReadings, aFunction, anAsk, aCall, not-member, member-arity, build-ask, build-call}
-use Rattle.records.specs.Records.{node}
 use Rattle.formulas.specs.Formulas.{formulas, IsReading}
 use Rattle.bridge.specs.Graphs.{nodes, graph-laws, equality, kids-function, kids-ask, kids-call, among-first, among-second}
 use Rattle.bridge.specs.Recorded.{formsOf}

@@ -15,16 +15,17 @@ use lib.Seq.{getD-set-same, getD-set-other}
 use Rattle.values.specs.Packing.{isPacked}
 use Rattle.model.specs.Lists.{All, countIf}
 use Rattle.model.specs.Cases.{impossible, split, both}
-use Rattle.table.specs.Memory.{Memory, Node, Kept, Entry, fits, entryCount, readingCount, recordingOf, nodeAt, keptAt, entryAt, entriesFrom}
-use Rattle.table.specs.Nodes.{arity, listed, kids, isName}
+use Rattle.layout.specs.Memory.{Memory, Node, Kept, Entry, fits, entryCount, readingCount, recordingOf, nodeAt, keptAt, entryAt, entriesFrom}
+use Rattle.layout.specs.Nodes.{arity, listed, kids, isName}
 use Rattle.table.specs.WellFormed.{keyRight, doneAt, allDone, settled, namesRight, keptRight}
-use Rattle.table.specs.Right.{numbered, nodeRight}
+use Rattle.table.specs.Right.{nodeRight}
+use Rattle.layout.specs.Numbered.{numbered}
 use Rattle.table.specs.RightLaws.{right-key, first-low, second-low, first-given, variable-named}
 use Rattle.table.specs.Checked.{keptOk}
 use Rattle.table.specs.CheckedLaws.{done-is}
 use Rattle.binder.specs.AppendedLaws.{Well, and-true, settled-later}
-use Rattle.table.specs.LinksLaws.{kept-length as keep-length, kept-key as keep-key, kept-apart as keep-apart, kept-here as keep-here}
-use Rattle.table.specs.Links.{kindAt, firstAt, secondAt, keyAt, valueAt, isBelow}
+use Rattle.layout.specs.LinksLaws.{kept-length as keep-length, kept-key as keep-key, kept-apart as keep-apart, kept-here as keep-here}
+use Rattle.layout.specs.Links.{kindAt, firstAt, secondAt, keyAt, valueAt, isBelow}
 use Rattle.table.specs.ArityLaws.{a-second}
 use Rattle.table.specs.Waits.{waitsFrom}
 use Rattle.table.specs.AwaitsLaws.{few-at}

@@ -10,8 +10,8 @@ use lib.Dec.{leb}
 use lib.ListN.{length}
 use Rattle.language.specs.Limits.{tableEntries, tableReadings}
 use Rattle.meaning.specs.FormsLaws.{and-left, and-right}
-use Rattle.table.specs.Links.{tableLinks, tableCells}
-use Rattle.table.specs.Memory.{Memory, Node, Entry, fits, entryCount, readingCount, entriesFrom, entriesOf}
+use Rattle.layout.specs.Links.{tableLinks, tableCells}
+use Rattle.layout.specs.Memory.{Memory, Node, Entry, fits, entryCount, readingCount, entriesFrom, entriesOf}
 use Rattle.table.specs.Bind.{append, appendAll}
 use Rattle.binder.specs.AppendedLaws.{newEntry, append-fits, append-count, append-readings, append-entries}
 

@@ -12,8 +12,8 @@ use Rattle.model.specs.Lists.{member, index}
 use Rattle.model.specs.Cases.{impossible, split}
 use Rattle.model.specs.Graph.{among, formAt, AllPlaced, decode}
 use Rattle.model.specs.Binder as Binder
-use Rattle.table.specs.Memory.{Node}
-use Rattle.table.specs.Nodes.{sameNode, build, kids, arity, memberOfKind}
+use Rattle.layout.specs.Memory.{Node}
+use Rattle.layout.specs.Nodes.{sameNode, build, kids, arity, memberOfKind}
 use Rattle.table.specs.Bind.{find, relinked, relink, Bound, bindOne, bindAll}
 use Rattle.table.specs.NodeKinds.{Fine, aNumber, aVariable, anUnbound, theReadings, aFunction, anAsk, aCall, build-ask, build-call}
 use Rattle.formulas.specs.Formulas.{formulas}

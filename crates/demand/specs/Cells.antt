@@ -23,8 +23,8 @@ use Rattle.meaning.specs.Forms.{Form, number, variable, unbound, readings, ask,
 use Rattle.meaning.specs.FormsLaws.{within-self, no-way}
 use Rattle.meaning.specs.Evaluation.{valueOf, nowhere, lookup, evaluate, hasName, awaited, Shown, aNumber, aWindow, aFunction, aDelay, aReason, shownAs, shows}
 use Rattle.model.specs.Cases.{impossible, split}
-use Rattle.table.specs.Memory.{Kept as Cells}
-use Rattle.table.specs.Nodes.{isName, wordNumber}
+use Rattle.layout.specs.Memory.{Kept as Cells}
+use Rattle.layout.specs.Nodes.{isName, wordNumber}
 use Rattle.table.specs.WellFormed.{namesRight}
 use Rattle.bridge.specs.Proper.{Has}
 use Rattle.demand.specs.Holds.{keptFor, markOf, shownBy}

@@ -11,8 +11,8 @@ use Rattle.model.specs.Lists.{member, Distinct}
 use Rattle.model.specs.Cases.{impossible, split, both}
 use Rattle.model.specs.ListLaws.{nth-below, nth-has, getD-nth, Equality, nth-index, index-nth}
 use Rattle.model.specs.Graph.{among, formAt, Placed, AllPlaced, Stands, decodes}
-use Rattle.table.specs.Memory.{Memory, Node, entryCount, nodeAt, entriesOf, nodesOf}
-use Rattle.table.specs.Nodes.{arity, listed, kids, sameNode}
+use Rattle.layout.specs.Memory.{Memory, Node, entryCount, nodeAt, entriesOf, nodesOf}
+use Rattle.layout.specs.Nodes.{arity, listed, kids, sameNode}
 use Rattle.table.specs.WellFormed.{hasNode, distinct}
 use Rattle.table.specs.Right.{nodeRight}
 use Rattle.table.specs.RightLaws.{first-low, second-low, first-given}

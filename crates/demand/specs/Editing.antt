@@ -27,7 +27,7 @@ use Rattle.model.specs.Entries.{forms-holdAll, holdAll-as}
 use Rattle.model.specs.Invariant.{Invariant}
 use Rattle.model.specs.Graph.{AllPlaced, decodes}
 use Rattle.model.specs.Binder as Binder
-use Rattle.table.specs.Memory.{Memory, Node, Entry, entryCount, entriesOf, nodesOf}
+use Rattle.layout.specs.Memory.{Memory, Node, Entry, entryCount, entriesOf, nodesOf}
 use Rattle.table.specs.WellFormed.{wellFormed}
 use Rattle.table.specs.Bind.{Bound, appendAll}
 use Rattle.records.specs.Records.{Recorded, recordsOf}

@@ -21,7 +21,7 @@ use Rattle.meaning.specs.Forms.{Form, number, variable, unbound, readings, ask,
 use Rattle.meaning.specs.FormsLaws.{no-way, either, or-right, same-self, within-self}
 use Rattle.meaning.specs.Evaluation.{Result, plain, runs, valueOf, runOf, Environment, nowhere, bind, lookup, settled, functionOf, evaluate, hasName, awaited}
 use Rattle.model.specs.Cases.{impossible, split}
-use Rattle.table.specs.Nodes.{isName}
+use Rattle.layout.specs.Nodes.{isName}
 use Rattle.bridge.specs.Proper.{Proper, Has, joined-cases, joined-left, joined-right, has-without, has-kept}
 use Rattle.demand.specs.Delays.{delayed0, delayed1}
 

@@ -21,8 +21,8 @@ use Rattle.model.specs.Cases.{split}
 use Rattle.model.specs.ListLaws.{nth-below, nth-old, nth-seam, map-append}
 use Rattle.model.specs.Graph.{formAt, Placed, AllPlaced, decode-snoc, decodes}
 use Rattle.model.specs.Binder as Binder
-use Rattle.table.specs.Memory.{Memory, Node, Entry, fits, entryCount, entriesOf, nodesOf}
-use Rattle.table.specs.Nodes.{sameNode, build}
+use Rattle.layout.specs.Memory.{Memory, Node, Entry, fits, entryCount, entriesOf, nodesOf}
+use Rattle.layout.specs.Nodes.{sameNode, build}
 use Rattle.table.specs.WellFormed.{hasNode, awaitedBy, awaitedAfter, wellFormed}
 use Rattle.table.specs.Bind.{Bound, append, appendAll}
 use Rattle.table.specs.Right.{nodeRight}

@@ -17,7 +17,7 @@ use Rattle.meaning.specs.Evaluation.{Shown, aNumber, aWindow, aFunction, aDelay
 use Rattle.model.specs.Lists.{All}
 use Rattle.model.specs.Model as Model
 use Rattle.model.specs.Graph.{AllPlaced}
-use Rattle.table.specs.Memory.{Memory, Kept, Entry, fits, readingCount, recordingOf, entriesOf, nodesOf, nothingKept}
+use Rattle.layout.specs.Memory.{Memory, Kept, Entry, fits, readingCount, recordingOf, entriesOf, nodesOf, nothingKept}
 use Rattle.formulas.specs.Formulas.{formulas}
 use Rattle.bridge.specs.Graphs.{nodes}
 use Rattle.bridge.specs.Recorded.{formsOf}

@@ -15,11 +15,11 @@ use Rattle.model.specs.Cases.{split}
 use Rattle.model.specs.ListLaws.{nth-map}
 use Rattle.model.specs.Graph.{among, linksAt, decodes}
 use Rattle.model.specs.Sweep.{spread, sweep, needed}
-use Rattle.table.specs.Memory.{Memory, Node, Entry, entryCount, nodeAt, entryAt, entriesFrom, entriesOf, nodesOf}
-use Rattle.table.specs.Nodes.{arity, memberOfKind, kids}
+use Rattle.layout.specs.Memory.{Memory, Node, Entry, entryCount, nodeAt, entryAt, entriesFrom, entriesOf, nodesOf}
+use Rattle.layout.specs.Nodes.{arity, memberOfKind, kids}
 use Rattle.formulas.specs.Formulas.{formulas}
 use Rattle.bridge.specs.Graphs.{nodes, graph-laws, kids-function, kids-ask, kids-call, among-first, among-second}
-use Rattle.table.specs.Links.{firstAt, secondAt, isBelow}
+use Rattle.layout.specs.Links.{firstAt, secondAt, isBelow}
 use Rattle.table.specs.NodeKinds.{Fine, aNumber, aVariable, anUnbound, theReadings, aFunction, anAsk, aCall, less-one}
 use Rattle.scheduler.specs.Works.{raised, needFrom, needOf}
 use Rattle.demand.specs.Holds.{Ok}

@@ -12,7 +12,7 @@ use Rattle.language.specs.Limits.{tableReadings}
 use Rattle.model.specs.Graph.{decode}
 use Rattle.model.specs.Model as Model
 use Rattle.model.specs.Model.{refused, opened}
-use Rattle.table.specs.Memory.{Memory, fits, entryCount, readingCount, recordingOf, entriesFrom, entriesOf}
+use Rattle.layout.specs.Memory.{Memory, fits, entryCount, readingCount, recordingOf, entriesFrom, entriesOf}
 use Rattle.formulas.specs.Formulas.{formulas}
 use Rattle.interface.specs.Calls.{openedMemory, openAnswer, openMemory}
 use Rattle.demand.specs.Holds.{withMarks, holds}

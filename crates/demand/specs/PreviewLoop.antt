@@ -21,9 +21,9 @@ use Rattle.model.specs.Language.{Language}
 use Rattle.model.specs.Model as Model
 use Rattle.model.specs.Previews as Previews
 use Rattle.model.specs.Previews.{markAt, upward, chosenFrom}
-use Rattle.table.specs.Memory.{Kept, keptAt, entriesFrom, nothingKept}
-use Rattle.table.specs.Links.{entryCells, kindAt, keyAt, valueAt}
-use Rattle.table.specs.LinksLaws.{kept-length as keep-length, kept-key as keep-key, kept-apart as keep-apart, kept-here as keep-here}
+use Rattle.layout.specs.Memory.{Kept, keptAt, entriesFrom, nothingKept}
+use Rattle.layout.specs.Links.{entryCells, kindAt, keyAt, valueAt}
+use Rattle.layout.specs.LinksLaws.{kept-length as keep-length, kept-key as keep-key, kept-apart as keep-apart, kept-here as keep-here}
 use Rattle.table.specs.Waits.{slotA, slotB}
 use Rattle.evaluator.specs.Applying.{graph, applyAt}
 use Rattle.scheduler.specs.Works.{chosen, nameFor, otherFor, kept, workFrom}

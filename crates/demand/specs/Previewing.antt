@@ -24,13 +24,14 @@ use Rattle.model.specs.Invariant.{Invariant}
 use Rattle.model.specs.Graph.{among, Stands, linksAt, decodes}
 use Rattle.model.specs.Sweep.{needed, swept, linked}
 use Rattle.model.specs.Previews.{Values, counts-as-model, works-as-model}
-use Rattle.table.specs.Memory.{Memory, Node, Entry, entryCount, readingCount, recordingOf, nodeAt, keptAt, entryAt, entriesFrom, entriesOf, nodesOf, nothingKept}
-use Rattle.table.specs.Nodes.{memberKind, kids, build}
-use Rattle.table.specs.Right.{numbered, nodeRight}
+use Rattle.layout.specs.Memory.{Memory, Node, Entry, entryCount, readingCount, recordingOf, nodeAt, keptAt, entryAt, entriesFrom, entriesOf, nodesOf, nothingKept}
+use Rattle.layout.specs.Nodes.{memberKind, kids, build}
+use Rattle.table.specs.Right.{nodeRight}
+use Rattle.layout.specs.Numbered.{numbered}
 use Rattle.table.specs.WellFormed.{wellFormed}
 use Rattle.table.specs.CheckedLaws.{nodes-are}
 use Rattle.binder.specs.AppendedLaws.{well-parts}
-use Rattle.table.specs.Links.{kindAt, firstAt, secondAt, keyAt}
+use Rattle.layout.specs.Links.{kindAt, firstAt, secondAt, keyAt}
 use Rattle.table.specs.Waits.{waitsFrom}
 use Rattle.table.specs.NodeKinds.{Fine, aNumber, aVariable, anUnbound, theReadings, aFunction, anAsk, aCall, build-ask, build-call}
 use Rattle.evaluator.specs.Frames.{startAt, startFrom}

@@ -14,7 +14,7 @@ use Rattle.model.specs.Cases.{impossible, split}
 use Rattle.model.specs.ListLaws.{nth-has, getD-nth}
 use Rattle.model.specs.Graph.{formAt, Placed, AllPlaced, Stands, decodes}
 use Rattle.model.specs.Model as Model
-use Rattle.table.specs.Memory.{Memory, Node, Entry, entryCount, entriesOf, nodesOf}
+use Rattle.layout.specs.Memory.{Memory, Node, Entry, entryCount, entriesOf, nodesOf}
 use Rattle.table.specs.Bind.{find, relink, Bound, bindOne, bindAll}
 use Rattle.formulas.specs.Formulas.{formulas}
 use Rattle.bridge.specs.Graphs.{nodes, graph-laws}

@@ -26,8 +26,8 @@ use Rattle.model.specs.Cases.{impossible, split}
 use Rattle.model.specs.ListLaws.{getD-nth}
 use Rattle.model.specs.Invariant.{Invariant}
 use Rattle.model.specs.Graph.{formAt, decodes}
-use Rattle.table.specs.Memory.{Memory, Node, Kept, entryCount, readingCount, recordingOf, nodeAt, keptAt, entriesOf, nodesOf}
-use Rattle.table.specs.Nodes.{build}
+use Rattle.layout.specs.Memory.{Memory, Node, Kept, entryCount, readingCount, recordingOf, nodeAt, keptAt, entriesOf, nodesOf}
+use Rattle.layout.specs.Nodes.{build}
 use Rattle.table.specs.WellFormed.{keyRight}
 use Rattle.table.specs.Checked.{entriesRight}
 use Rattle.table.specs.CheckedLaws.{well-is}
@@ -36,7 +36,7 @@ use Rattle.formulas.specs.Formulas.{formulas}
 use Rattle.bridge.specs.Graphs.{nodes, graph-laws, number-key}
 use Rattle.bridge.specs.Recorded.{formsOf}
 use Rattle.bridge.specs.FormulaLaws.{formula-laws}
-use Rattle.table.specs.Links.{kindAt, keyAt}
+use Rattle.layout.specs.Links.{kindAt, keyAt}
 use Rattle.table.specs.Waits.{slotA, slotB}
 use Rattle.table.specs.NodeKinds.{Fine, aNumber, aVariable, anUnbound, theReadings, aFunction, anAsk, aCall}
 use Rattle.evaluator.specs.Frames.{leafOf, startAt, startFrom}

@@ -7,7 +7,7 @@ use Prim.Native.Nat.{ℕ, zero, suc, _+_, _≤_, _<_}
 use native.Mathlib.Omega.{arith}
 use lib.Dec.{leb}
 use Rattle.model.specs.Lists.{countIf}
-use Rattle.table.specs.Memory.{Memory, Entry, keptAt, entriesFrom, entriesOf}
+use Rattle.layout.specs.Memory.{Memory, Entry, keptAt, entriesFrom, entriesOf}
 
 abbrev pub isKept : Entry → Bool
 isKept e = leb 1 (e .kept .value)

@@ -6,7 +6,7 @@ use native.Mathlib.Nat.{zero-add}
 use native.Mathlib.Omega.{arith}
 use lib.ListN.{length, drop, set}
 use lib.Seq.{sets, sets-eq, set-comm}
-use Rattle.table.specs.Memory.{Node}
+use Rattle.layout.specs.Memory.{Node}
 use Rattle.descent.specs.Descent.{linkWord}
 
 pub sets-append : (xs ys cs : List ℕ) (i : ℕ) → sets cs i (xs ++ ys) ≡ sets (sets cs i xs) (i + length xs) ys

@@ -13,7 +13,7 @@ use Rattle.language.specs.Names.{packed, isLong, isData}
 use Rattle.language.specs.Members.{memberOf, isUnknown, takes}
 use Rattle.grammar.specs.Tokens.{Token, kLet, kIn, kEquals, kLambda, kArrow, kDot, kOpen, kShut, kComma, word, number, other, when, Located}
 use Rattle.meaning.specs.Binding.{member}
-use Rattle.table.specs.Nodes.{memberKind}
+use Rattle.layout.specs.Nodes.{memberKind}
 
 -- a token's kind as a number; 0 is the end
 abbrev pub endKind : ℕ

@@ -4,8 +4,7 @@ use mathlib.Core.List.{List, [], _∷_, _++_}
 use Prim.Native.Nat.{ℕ, zero, suc, _+_, _*_, _/_, _%_, _≤_, _<_}
 use native.Mathlib.Omega.{arith}
 use lib.ListN.{length, getD}
-use Rattle.table.specs.Memory.{Node}
-use Rattle.records.specs.Records.{node}
+use Rattle.layout.specs.Memory.{Node, node}
 use Rattle.descent.specs.Descent.{linkWord}
 use Rattle.descent.specs.Cells.{words}
 use Rattle.descent.specs.Linked.{Earlier}

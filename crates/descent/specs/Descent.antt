@@ -8,9 +8,9 @@ use lib.Dec.{eqb}
 use lib.ListN.{length, getD, set}
 use Rattle.language.specs.Names.{packed, dataWord}
 use Rattle.grammar.specs.Tokens.{when, Located, tokens}
-use Rattle.table.specs.Memory.{Node}
-use Rattle.table.specs.Nodes.{numberKind, variableKind, unboundKind, readingsKind, functionKind}
-use Rattle.records.specs.Records.{node, numberKey}
+use Rattle.layout.specs.Memory.{Node, node}
+use Rattle.layout.specs.Nodes.{numberKind, variableKind, unboundKind, readingsKind, functionKind}
+use Rattle.records.specs.Records.{numberKey}
 use Rattle.descent.specs.Cursor.{Cursor, letKind, inKind, lambdaKind, dotKind, openKind, shutKind, commaKind, wordKind, digitsKind, endKind}
 use Rattle.descent.specs.Cursor.{isAt, headWord, headValue, binderOf, atBracket, atName, atNumber, atMark, atShut, atComma, pass, passPart}
 use Rattle.descent.specs.Cursor.{refuse, judge, need, letHead, lambdaHead, callHead}

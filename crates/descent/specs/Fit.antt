@@ -13,7 +13,7 @@ use borrow.Author.Tests.{leb-false, eqb-true, eqb-false}
 use Rattle.language.specs.MembersLaws.{number-below}
 use Rattle.grammar.specs.TokensLaws.{by-test}
 use Rattle.meaning.specs.Binding.{member}
-use Rattle.table.specs.Nodes.{memberKind}
+use Rattle.layout.specs.Nodes.{memberKind}
 use Rattle.descent.specs.Cursor.{Cursor, binderLink, lambdasIn, isAt, headWord, letKind, inKind, lambdaKind, dotKind, openKind, shutKind, commaKind}
 use Rattle.descent.specs.Cursor.{atLet, atLambda, atBracket, atComma, atCallOpen, pass, passPart, passMember, refuse, judge, next, need, letHead, lambdaHead, callHead}
 use Rattle.descent.specs.Descent.{State, moved, Call, newCall, Mode, inExpression, inCalls, inArguments, inMore, enter}

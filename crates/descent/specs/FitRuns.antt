@@ -10,7 +10,7 @@ use borrow.Author.Tests.{eqb-true, eqb-false}
 use Rattle.language.specs.Names.{dataWord}
 use Rattle.grammar.specs.Tokens.{when}
 use Rattle.grammar.specs.TokensLaws.{by-test}
-use Rattle.table.specs.Memory.{Node}
+use Rattle.layout.specs.Memory.{Node}
 use Rattle.descent.specs.Cursor.{Cursor, binderLink, binderOf, isAt, letKind, lambdaKind, openKind, shutKind, commaKind, wordKind, digitsKind}
 use Rattle.descent.specs.Cursor.{headWord, atComma, atName, pass, passPart, refuse, judge, lambdaHead, callHead}
 use Rattle.descent.specs.Descent.{State, moved, then, counted, rooted, put, link, mark, enter, putBound, putScoped, putName, Call, newCall, firstGiven, nextGiven}

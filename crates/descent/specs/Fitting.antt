@@ -15,8 +15,8 @@ use Rattle.grammar.specs.Grammar.{Expression, Calls, Arguments, More}
 use Rattle.grammar.specs.Reading.{Reading, refused}
 use Rattle.grammar.specs.Machine.{Frame, argument, at, Outer, expression, calls, arguments, over}
 use Rattle.meaning.specs.Binding.{member}
-use Rattle.table.specs.Memory.{Node}
-use Rattle.table.specs.Nodes.{memberKind}
+use Rattle.layout.specs.Memory.{Node}
+use Rattle.layout.specs.Nodes.{memberKind}
 use Rattle.records.specs.Records.{Named, Recorded, behind, recordE, recordC, recordA, recordM}
 use Rattle.descent.specs.Cursor.{Cursor, headPlace, refuse}
 use Rattle.descent.specs.Descent.{State, moved, then, Call, inExpression, inCalls, inArguments, inMore, run}

@@ -16,7 +16,7 @@ use Rattle.grammar.specs.Faults.{opened, inLambda, markFault, lambdaFault, fine
 use Rattle.grammar.specs.Reading.{Reading, refused}
 use Rattle.grammar.specs.Machine.{Frame, value, at, Trees, expression, letName, lambdaName, member as memberPhase, arguments}
 use Rattle.meaning.specs.Binding.{member}
-use Rattle.table.specs.Nodes.{memberKind}
+use Rattle.layout.specs.Nodes.{memberKind}
 use Rattle.records.specs.Records.{Named}
 use Rattle.descent.specs.Cursor.{Cursor, equalsKind, arrowKind, wordKind, openKind, headPlace, headWord, behindHead, isAt, lambdasIn}
 use Rattle.descent.specs.Cursor.{atPart, atLet, atLambda, atMark, atLetName, atLambdaName, atMember, atCallOpen}

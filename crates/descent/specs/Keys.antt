@@ -19,9 +19,9 @@ use Rattle.grammar.specs.Machine.{readText}
 use Rattle.grammar.specs.Theorems.{text-read-plainly}
 use Rattle.grammar.specs.Words.{IsWord, word-bytes, Worded, text-worded}
 use Rattle.meaning.specs.Binding.{member}
-use Rattle.table.specs.Memory.{Node}
-use Rattle.table.specs.Nodes.{numberKind, readingsKind, functionKind, memberKind}
-use Rattle.records.specs.Records.{Named, stands, node, numberKey, Recorded, newRecord, recordName, recordScoped, linked, recordE, recordC, recordA, recordM, recordsOf}
+use Rattle.layout.specs.Memory.{Node, node}
+use Rattle.layout.specs.Nodes.{numberKind, readingsKind, functionKind, memberKind}
+use Rattle.records.specs.Records.{Named, stands, numberKey, Recorded, newRecord, recordName, recordScoped, linked, recordE, recordC, recordA, recordM, recordsOf}
 
 -- a number's key
 number-key : (z : ℤ) → InRange z → numberKey z < 2 ^ 32

@@ -10,9 +10,9 @@ use Rattle.language.specs.MembersLaws.{number-below}
 use Rattle.language.specs.Cases.{by-cond}
 use Rattle.grammar.specs.Grammar.{Expression, Calls, Arguments, More, letIn, lambda, name, literal, bracket, done, call, none, first, last, next}
 use Rattle.meaning.specs.Binding.{member}
-use Rattle.table.specs.Memory.{Node}
-use Rattle.table.specs.Nodes.{numberKind, readingsKind, memberKind}
-use Rattle.records.specs.Records.{Named, stands, node, numberKey, Recorded, newRecord, recordName, recordScoped, linked, recordE, recordC, recordA, recordM, recordsOf}
+use Rattle.layout.specs.Memory.{Node, node}
+use Rattle.layout.specs.Nodes.{numberKind, readingsKind, memberKind}
+use Rattle.records.specs.Records.{Named, stands, numberKey, Recorded, newRecord, recordName, recordScoped, linked, recordE, recordC, recordA, recordM, recordsOf}
 
 -- record i: its kind, and its links, each 0 for none or one more than an earlier record's number
 pub record EarlierAt (i : ℕ) (n : Node) : Type 0 where

@@ -9,9 +9,9 @@ use Rattle.language.specs.Cases.{by-cond}
 use Rattle.grammar.specs.Grammar.{Expression, Calls, Arguments, More, letIn, lambda, name, literal, bracket, done, call, none, first, last, next}
 use Rattle.grammar.specs.KeptLimits.{partsE, partsC, partsA, partsM}
 use Rattle.meaning.specs.Binding.{member}
-use Rattle.table.specs.Memory.{Node}
-use Rattle.table.specs.Nodes.{numberKind, readingsKind, memberKind}
-use Rattle.records.specs.Records.{Named, stands, node, numberKey, Recorded, newRecord, recordName, recordScoped, linked, recordE, recordC, recordA, recordM}
+use Rattle.layout.specs.Memory.{Node, node}
+use Rattle.layout.specs.Nodes.{numberKind, readingsKind, memberKind}
+use Rattle.records.specs.Records.{Named, stands, numberKey, Recorded, newRecord, recordName, recordScoped, linked, recordE, recordC, recordA, recordM}
 
 linked-place : (j : ℕ) (x : List ℕ) (t : List Node) → length (linked j x t .places) ≡ 1
 linked-place zero x t = refl

@@ -9,8 +9,8 @@ use lib.Dec.{eqb, lit<}
 use lib.ListN.{length}
 use borrow.Author.Tests.{eqb-true}
 use Rattle.grammar.specs.Tokens.{when, Located, tokens}
-use Rattle.table.specs.Nodes.{functionKind}
-use Rattle.records.specs.Records.{node}
+use Rattle.layout.specs.Nodes.{functionKind}
+use Rattle.layout.specs.Memory.{node}
 use Rattle.descent.specs.Cursor.{Cursor, headKind, isAt, letKind, inKind, lambdaKind, openKind, shutKind, commaKind, wordKind, digitsKind}
 use Rattle.descent.specs.Cursor.{atBracket, atComma, pass, refuse, judge, need, letHead, lambdaHead}
 use Rattle.descent.specs.Descent.{State, moved, then, put, mark, enter, Call, firstGiven, nextGiven, Mode, inExpression, inCalls, inArguments, inMore}

@@ -12,7 +12,7 @@ use borrow.Author.Tests.{eqb-true, eqb-false}
 use Rattle.language.specs.Names.{dataWord}
 use Rattle.grammar.specs.Tokens.{Located}
 use Rattle.grammar.specs.TokensLaws.{by-test}
-use Rattle.table.specs.Memory.{Node}
+use Rattle.layout.specs.Memory.{Node}
 use Rattle.descent.specs.Cursor.{Cursor, inKind, dotKind, shutKind, wordKind, openKind, letKind, lambdaKind, commaKind, digitsKind}
 use Rattle.descent.specs.Cursor.{headWord, headValue, behindHead, isAt}
 use Rattle.descent.specs.Cursor.{refuse}

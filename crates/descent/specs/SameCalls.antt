@@ -13,9 +13,9 @@ use Rattle.grammar.specs.Faults.{opened, callFault, note}
 use Rattle.grammar.specs.Reading.{Reading}
 use Rattle.grammar.specs.Machine.{Frame, argument, at, Outer, expression, calls, arguments, over}
 use Rattle.meaning.specs.Binding.{member}
-use Rattle.table.specs.Memory.{Node}
-use Rattle.table.specs.Nodes.{memberKind}
-use Rattle.records.specs.Records.{Named, node, newRecord, recordE, recordC, recordA, recordM}
+use Rattle.layout.specs.Memory.{Node, node}
+use Rattle.layout.specs.Nodes.{memberKind}
+use Rattle.records.specs.Records.{Named, newRecord, recordE, recordC, recordA, recordM}
 use Rattle.descent.specs.Cursor.{dotKind, shutKind, commaKind}
 use Rattle.descent.specs.Cursor.{isAt, atShut, atComma}
 use Rattle.descent.specs.Cursor.{pass, judge, callHead}

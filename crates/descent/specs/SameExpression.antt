@@ -13,9 +13,9 @@ use Rattle.grammar.specs.Grammar.{Expression, Calls, letIn, lambda, name, liter
 use Rattle.grammar.specs.Faults.{opened, inLet, inLambda, markFault, lambdaFault, nameFault, literalFault, note}
 use Rattle.grammar.specs.Reading.{Reading}
 use Rattle.grammar.specs.Machine.{Frame, value, brackets, at, Outer, expression, letName, lambdaName, calls}
-use Rattle.table.specs.Memory.{Node}
-use Rattle.table.specs.Nodes.{numberKind, functionKind}
-use Rattle.records.specs.Records.{Named, stands, node, newRecord, numberKey, recordName, recordE}
+use Rattle.layout.specs.Memory.{Node, node}
+use Rattle.layout.specs.Nodes.{numberKind, functionKind}
+use Rattle.records.specs.Records.{Named, stands, newRecord, numberKey, recordName, recordE}
 use Rattle.descent.specs.Cursor.{letKind, inKind, lambdaKind, openKind, shutKind, wordKind, digitsKind}
 use Rattle.descent.specs.Cursor.{headWord, headValue, isAt, atBracket, atName, atNumber}
 use Rattle.descent.specs.Cursor.{pass, passPart, judge, need, letHead, lambdaHead}

@@ -14,9 +14,9 @@ use Rattle.grammar.specs.Tokens.{when}
 use Rattle.grammar.specs.Faults.{fine, badCall, tooMany, manyLambdas, longName, dataBound, reusedName, outOfRange, faultNumber, orMany}
 use Rattle.grammar.specs.Faults.{Around, Binder, byLet, byLambda, lambdasOf, lambdaNamed, deep, markFault, lambdaFault, letNameFault, lambdaNameFault}
 use Rattle.grammar.specs.Faults.{nameFault, literalFault, callFault, note, fault}
-use Rattle.table.specs.Memory.{Node}
-use Rattle.table.specs.Nodes.{unboundKind}
-use Rattle.records.specs.Records.{Named, stands, Recorded, node, newRecord, linked, recordScoped}
+use Rattle.layout.specs.Memory.{Node, node}
+use Rattle.layout.specs.Nodes.{unboundKind}
+use Rattle.records.specs.Records.{Named, stands, Recorded, newRecord, linked, recordScoped}
 use Rattle.descent.specs.Cursor.{binderName, binderLink, binderOf, lambdasIn, lambdaIn, isOutside}
 use Rattle.descent.specs.Cursor.{atPart, atLet, atLambda, atBracket, atName, atNumber}
 

@@ -11,9 +11,9 @@ use lib.Seq.{sets}
 use Rattle.language.specs.Names.{packed, isData, dataWord}
 use Rattle.grammar.specs.Tokens.{when}
 use Rattle.grammar.specs.TokensLaws.{by-test}
-use Rattle.table.specs.Memory.{Node}
-use Rattle.table.specs.Nodes.{readingsKind}
-use Rattle.records.specs.Records.{Named, stands, Recorded, node, newRecord, linked, recordName, recordScoped, behind}
+use Rattle.layout.specs.Memory.{Node, node}
+use Rattle.layout.specs.Nodes.{readingsKind}
+use Rattle.records.specs.Records.{Named, stands, Recorded, newRecord, linked, recordName, recordScoped, behind}
 use Rattle.descent.specs.Cursor.{Cursor, binderLink, binderOf}
 use Rattle.descent.specs.Descent.{State, moved, counted, rooted, put, link, mark, enter, putBound, putScoped, putName}
 use Rattle.descent.specs.Cells.{sets-append, put-before, words, put-word}

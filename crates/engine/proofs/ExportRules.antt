@@ -15,7 +15,7 @@ use Rattle.grammar.specs.Reading.{Reading, tree, refused as refusedAt}
 use Rattle.grammar.specs.Machine.{readText}
 use Rattle.model.specs.Cases.{split}
 use Rattle.model.specs.Model.{refused, opened, edited, notYet, finished}
-use Rattle.table.specs.Memory.{Memory, fits}
+use Rattle.layout.specs.Memory.{Memory, fits}
 use Rattle.table.specs.WellFormed.{wellFormed}
 use Rattle.scheduler.specs.declared.works.View.{View}
 use Rattle.records.specs.Records.{recordsOf}

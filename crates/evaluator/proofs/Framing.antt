@@ -12,8 +12,8 @@ use lib.ListN.{length, getD, set, List·getD-eq-default}
 use Rattle.language.specs.Limits.{tableEntries}
 use Rattle.values.specs.Values.{unboundName}
 use Rattle.values.specs.Packing.{windowCell, functionCell, delayedCell, missingCell}
-use Rattle.table.specs.Links.{kindAt, keyAt, valueAt}
-use Rattle.table.specs.Nodes.{numberKind, variableKind, unboundKind, functionKind}
+use Rattle.layout.specs.Links.{kindAt, keyAt, valueAt}
+use Rattle.layout.specs.Nodes.{numberKind, variableKind, unboundKind, functionKind}
 use Rattle.evaluator.specs.Frames.{leafOf, startAt, startFrom, bound, isUnset, isOpen, functionOf}
 
 pub past : (l : List ℕ) (k : ℕ) → length l ≤ k → 0 ≡ getD l k 0

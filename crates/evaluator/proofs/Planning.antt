@@ -23,9 +23,9 @@ use Rattle.values.specs.Apply.{apply0}
 use Rattle.values.specs.Applied.{applied1}
 use Rattle.values.specs.Tallies.{stepped, finished, Steps}
 use Rattle.values.specs.Packing.{packOf, unpackOf, windowCell, wrongCell}
-use Rattle.table.specs.Nodes.{functionKind, memberOfKind}
+use Rattle.layout.specs.Nodes.{functionKind, memberOfKind}
 use Rattle.evaluator.specs.declared.working.Task.{Task}
-use Rattle.table.specs.Links.{kindAt, firstAt, secondAt, isBelow}
+use Rattle.layout.specs.Links.{kindAt, firstAt, secondAt, isBelow}
 use Rattle.table.specs.Waits.{ownOf}
 use Rattle.evaluator.specs.Frames.{functionOf}
 use Rattle.evaluator.proofs.Numbers.{both-numbers}

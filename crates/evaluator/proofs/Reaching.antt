@@ -11,7 +11,7 @@ use lib.Dec.{eqb}
 use lib.ListN.{length, getD, set, replicate, drop, length-set, drop-of-length-le}
 use lib.Seq.{drop-cons, drop-set-lt, getD-set-same}
 use Rattle.language.specs.Limits.{tableEntries}
-use Rattle.table.specs.Links.{firstAt, secondAt, isBelow}
+use Rattle.layout.specs.Links.{firstAt, secondAt, isBelow}
 use Rattle.table.specs.Waits.{awaits}
 use Rattle.evaluator.specs.Reach.{moves, flagged, spread, gatherFrom, gathered}
 

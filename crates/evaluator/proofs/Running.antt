@@ -17,7 +17,7 @@ use Rattle.values.specs.Packing.{packOf, delayedCell}
 use Rattle.values.specs.Tallies.{begun, Within}
 use Rattle.values.specs.TallyLaws.{within-none, within-more}
 use Rattle.values.specs.Windows.{readingsIn}
-use Rattle.table.specs.Nodes.{memberOfKind}
+use Rattle.layout.specs.Nodes.{memberOfKind}
 use Rattle.evaluator.specs.declared.working.Task.{Task}
 use Rattle.evaluator.specs.Reach.{Gathers}
 use Rattle.evaluator.specs.Frames.{bound, functionOf}

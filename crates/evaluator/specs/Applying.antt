@@ -23,9 +23,9 @@ use Rattle.values.specs.Applied.{applied1}
 use Rattle.values.specs.Tallies.{begun, stepped, finished, Within}
 use Rattle.values.specs.Keepable.{Bounded}
 use Rattle.values.specs.Packing.{packOf, unpackOf, delayedCell, wrongCell}
-use Rattle.table.specs.Nodes.{numberKind, functionKind, memberOfKind}
+use Rattle.layout.specs.Nodes.{numberKind, functionKind, memberOfKind}
 use Rattle.evaluator.specs.declared.working.Task.{Task}
-use Rattle.table.specs.Links.{kindAt, firstAt, secondAt, isBelow}
+use Rattle.layout.specs.Links.{kindAt, firstAt, secondAt, isBelow}
 use Rattle.table.specs.Waits.{ownOf}
 use Rattle.evaluator.specs.Reach.{gathered}
 use Rattle.evaluator.specs.Frames.{bound, functionOf}

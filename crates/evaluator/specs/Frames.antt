@@ -8,8 +8,8 @@ use lib.ListN.{getD, set}
 use Rattle.language.specs.Limits.{tableEntries}
 use Rattle.values.specs.Values.{unboundName}
 use Rattle.values.specs.Packing.{windowCell, functionCell, delayedCell, missingCell}
-use Rattle.table.specs.Links.{kindAt, keyAt, valueAt}
-use Rattle.table.specs.Nodes.{numberKind, variableKind, unboundKind, functionKind}
+use Rattle.layout.specs.Links.{kindAt, keyAt, valueAt}
+use Rattle.layout.specs.Nodes.{numberKind, variableKind, unboundKind, functionKind}
 use Rattle.table.specs.Waits.{slotA, slotB}
 
 -- what a number, a variable, an unbound name and the recording, of so many readings, come to

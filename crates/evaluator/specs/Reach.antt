@@ -7,7 +7,7 @@ use Prim.Native.Nat.{ℕ, zero, suc, _+_, _-_, _≤_}
 use lib.Dec.{eqb}
 use lib.ListN.{length, getD, set, replicate, drop}
 use Rattle.language.specs.Limits.{tableEntries}
-use Rattle.table.specs.Links.{firstAt, secondAt, isBelow}
+use Rattle.layout.specs.Links.{firstAt, secondAt, isBelow}
 use Rattle.table.specs.Waits.{awaits}
 
 -- entry d awaits the variable v and is not v; v is one more than its number

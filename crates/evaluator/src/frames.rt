@@ -1,9 +1,9 @@
 // Frames: a packed value for each entry, 0 for one that is not worked out.
 use language::limits::Table;
-use table::cells::key_of;
-use table::cells::kind_of;
-use table::cells::value_of;
-use table::nodes::Shape;
+use layout::cells::key_of;
+use layout::cells::kind_of;
+use layout::cells::value_of;
+use layout::nodes::Shape;
 use values::packing::Packed;
 ghost use mathlib.Core.Path.{_≡_};
 ghost use Prim.Native.Nat.{_<_, _≤_};

@@ -1,8 +1,8 @@
 // What a run works out again: a falling sweep from the body that follows the entries that await the variable.
 use language::limits::Table;
-use table::cells::first_of;
-use table::cells::is_below;
-use table::cells::second_of;
+use layout::cells::first_of;
+use layout::cells::is_below;
+use layout::cells::second_of;
 use table::waits::awaits;
 ghost use mathlib.Core.Path.{_≡_};
 ghost use Prim.Native.Nat.{_<_};

@@ -5,12 +5,12 @@ use crate::frames::function;
 use crate::reach::gather;
 use language::limits::Table;
 use language::members::Found;
-use table::cells::first_of;
-use table::cells::is_below;
-use table::cells::kind_of;
-use table::cells::second_of;
+use layout::cells::first_of;
+use layout::cells::is_below;
+use layout::cells::kind_of;
+use layout::cells::second_of;
 use table::entries::member_of;
-use table::nodes::Shape;
+use layout::nodes::Shape;
 use table::waits::own;
 use values::Value;
 use values::apply::Applied;
@@ -36,7 +36,7 @@ ghost use Rattle.values.specs.declared.Value.the-variants.{Number};
 ghost use Rattle.values.specs.declared.apply.Applied.the-variants.{Done};
 ghost use Rattle.values.specs.Packing.{packOf, windowCell};
 ghost use Rattle.values.specs.Tallies.{Within};
-ghost use Rattle.table.specs.Nodes.{memberOfKind};
+ghost use Rattle.layout.specs.Nodes.{memberOfKind};
 ghost use Rattle.evaluator.specs.Applying.{graph, askOf, callOf, doneOf, taskOf, judgeOf, runOf, followOf, planOf, Planned, concludeOf, Applies, Fills, Bounds, Tallied, Reruns, Counts};
 
 // What an entry asks for: it is done, with a value; or a body is to be worked out with a variable set, to judge a function (whose kind it

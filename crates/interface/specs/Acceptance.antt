@@ -12,7 +12,7 @@ use Rattle.grammar.specs.KeptLimits.{KeepsLimits}
 use Rattle.grammar.specs.Reading.{tree, tokensOf}
 use Rattle.grammar.specs.Machine.{readText}
 use Rattle.model.specs.Model.{refused, edited}
-use Rattle.table.specs.Memory.{Memory, fits}
+use Rattle.layout.specs.Memory.{Memory, fits}
 use Rattle.table.specs.WellFormed.{wellFormed}
 use Rattle.records.specs.Records.{recordsOf}
 use Rattle.interface.specs.Answers.{Reply}

@@ -18,7 +18,7 @@ use Rattle.grammar.specs.Machine.{readText}
 use Rattle.grammar.specs.Theorems.{text-read-plainly, text-refused}
 use Rattle.model.specs.Cases.{impossible}
 use Rattle.model.specs.Model.{refused, opened}
-use Rattle.table.specs.Memory.{Memory, fits, entryCount}
+use Rattle.layout.specs.Memory.{Memory, fits, entryCount}
 use Rattle.table.specs.WellFormed.{wellFormed}
 use Rattle.records.specs.Records.{recordsOf}
 use Rattle.interface.specs.declared.answers.Opened.{Opened}

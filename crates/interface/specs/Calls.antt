@@ -15,7 +15,7 @@ use Rattle.formulas.specs.Formulas.{formulas}
 use Rattle.values.specs.declared.Value.{Value}
 use Rattle.values.specs.declared.Value.the-variants.{Number, Window, Function, Delayed, Missing}
 use Rattle.values.specs.Packing.{unpackOf}
-use Rattle.table.specs.Memory.{Memory, fits, entryCount, readingCount, recordingOf, entriesOf, nodesOf}
+use Rattle.layout.specs.Memory.{Memory, fits, entryCount, readingCount, recordingOf, entriesOf, nodesOf}
 use Rattle.table.specs.WellFormed.{doneAt, wellFormed}
 use Rattle.table.specs.Bind.{Bound, bindAll, appendAll}
 use Rattle.evaluator.specs.Frames.{startAt}

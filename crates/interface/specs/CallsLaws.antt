@@ -7,15 +7,15 @@ use native.Mathlib.Omega.{arith}
 use borrow.Author.Tests.{le-leb, lt-leb, leb-false, ltb-true, ltb-false}
 use lib.Dec.{ltb, leb}
 use Rattle.language.specs.Cases.{impossible, split}
-use Rattle.table.specs.Memory.{Memory, fits, entryCount, readingCount, keptAt, entryAt, entriesFrom, entriesOf}
+use Rattle.layout.specs.Memory.{Memory, fits, entryCount, readingCount, keptAt, entryAt, entriesFrom, entriesOf}
 use Rattle.table.specs.WellFormed.{distinct, awaitsFew, doneAt, settled, namesRight, keptRight, wellFormed}
-use Rattle.table.specs.Right.{allFrom}
+use Rattle.layout.specs.Numbered.{allFrom}
 use Rattle.table.specs.RightLaws.{all-at}
 use Rattle.table.specs.Checked.{keptOk, entriesRight}
 use Rattle.table.specs.CheckedLaws.{done-is, well-is}
 use Rattle.values.specs.Packing.{unpackOf}
 use Rattle.values.specs.PackingLaws.{unpack-number}
-use Rattle.table.specs.Links.{kindAt, valueAt}
+use Rattle.layout.specs.Links.{kindAt, valueAt}
 use Rattle.evaluator.specs.Frames.{startAt}
 use Rattle.interface.specs.Calls.{Part, windowIn, partOf}
 

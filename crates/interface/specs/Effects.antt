@@ -3,7 +3,7 @@ use mathlib.Core.Path.{_≡_}
 use mathlib.Core.List.{List}
 use Prim.Native.Nat.{ℕ, _<_}
 use lib.IntN.{ℤ}
-use Rattle.table.specs.Memory.{Memory}
+use Rattle.layout.specs.Memory.{Memory}
 use Rattle.interface.specs.declared.answers.Opened.{Opened}
 use Rattle.interface.specs.declared.answers.Edited.{Edited}
 use Rattle.interface.specs.declared.answers.Edited.the-variants as Edit

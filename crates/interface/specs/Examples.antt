@@ -12,8 +12,8 @@ use Rattle.language.specs.Members.{row, memberAt}
 use Rattle.values.specs.Packing.{delayedCell, isPacked}
 use Rattle.meaning.specs.Evaluation.{hasName, joined, without}
 use Rattle.model.specs.Model.{refused}
-use Rattle.table.specs.Memory.{Memory, fits, nodeAt, keptAt, entriesFrom}
-use Rattle.table.specs.Nodes.{memberOfKind, arity, kids, sameNode, wordNumber, isName}
+use Rattle.layout.specs.Memory.{Memory, fits, nodeAt, keptAt, entriesFrom}
+use Rattle.layout.specs.Nodes.{memberOfKind, arity, kids, sameNode, wordNumber, isName}
 use Rattle.table.specs.WellFormed.{every, keyRight, arityRight, hasNode, distinct, awaitedBy, awaitedAfter, doneAt, allDone, namesRight, keptRight, wellFormed}
 use Rattle.interface.specs.Calls.{editAnswer, previewed, previewAnswer}
 

@@ -13,7 +13,7 @@ use Rattle.grammar.specs.Reading.{Reading, tree, refused as refusedAt}
 use Rattle.grammar.specs.Machine.{readText}
 use Rattle.model.specs.Cases.{split, both}
 use Rattle.model.specs.Model.{refused, opened, edited}
-use Rattle.table.specs.Memory.{Memory, fits, entryCount, readingCount}
+use Rattle.layout.specs.Memory.{Memory, fits, entryCount, readingCount}
 use Rattle.table.specs.WellFormed.{wellFormed}
 use Rattle.records.specs.Records.{recordsOf}
 use Rattle.scheduler.specs.declared.works.View.{View}

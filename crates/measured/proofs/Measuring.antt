@@ -11,11 +11,11 @@ use lib.IntN.{ℤ}
 use lib.ListN.{length, getD}
 use lib.Seq.{getD-take}
 use Rattle.meaning.specs.FormsLaws.{and-left, and-right}
-use Rattle.table.specs.Memory.{nodeAt}
+use Rattle.layout.specs.Memory.{nodeAt}
 use Rattle.table.specs.WellFormed.{distinct}
 use Rattle.table.specs.Bind.{Bound}
-use Rattle.table.specs.Right.{numbered}
-use Rattle.table.specs.Held.{heldAt}
+use Rattle.layout.specs.Numbered.{numbered}
+use Rattle.layout.specs.Held.{heldAt}
 use Rattle.binder.specs.Records.{BoundAll}
 use Rattle.table.specs.ChainLaws.{length-numbered}
 use Rattle.scheduler.specs.Works.{workOf, Lent, Works}

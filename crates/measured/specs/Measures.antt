@@ -7,9 +7,9 @@ use Prim.Native.Nat.{ℕ, _+_, _*_, _-_, _%_}
 use lib.Dec.{leb, ltb}
 use lib.IntN.{ℤ}
 use lib.ListN.{length, getD}
-use Rattle.table.specs.Memory.{nodeAt}
+use Rattle.layout.specs.Memory.{nodeAt}
 use Rattle.table.specs.WellFormed.{distinct}
-use Rattle.table.specs.Right.{numbered}
+use Rattle.layout.specs.Numbered.{numbered}
 use Rattle.table.specs.Bind.{Bound, bindAll}
 use Rattle.binder.specs.Records.{recordAt, bound}
 use Rattle.scheduler.specs.Works.{Work, workOf, worked}

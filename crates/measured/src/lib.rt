@@ -3,7 +3,7 @@ use scheduler::works;
 use reader::answer::Read;
 use reader::parser;
 use binder::bind;
-use table::cells::at16;
+use layout::cells::at16;
 use table::chain;
 use table::check;
 use values::packing::pack;

@@ -10,10 +10,10 @@ use Rattle.grammar.specs.Machine.{readText}
 use Rattle.records.specs.Records.{recordsOf}
 use Rattle.model.specs.Lists.{All}
 use Rattle.model.specs.Model.{refused, edited}
-use Rattle.table.specs.Memory.{Memory, entryCount}
+use Rattle.layout.specs.Memory.{Memory, entryCount}
 use Rattle.table.specs.Bind.{appendAll}
-use Rattle.table.specs.Right.{numbered}
-use Rattle.table.specs.Held.{freshAt}
+use Rattle.layout.specs.Numbered.{numbered}
+use Rattle.layout.specs.Held.{freshAt}
 use Rattle.binder.specs.Records.{recordAt}
 use Rattle.interface.specs.Calls.{readAnswer, readMemory}
 use Rattle.planner.specs.declared.plan.Plan.{Plan}

@@ -14,7 +14,7 @@ use Rattle.language.specs.Cases.{impossible, split}
 use Rattle.grammar.specs.Machine.{readText}
 use Rattle.model.specs.Lists.{All}
 use Rattle.model.specs.Model.{refused, opened}
-use Rattle.table.specs.Memory.{Memory, fits, entryCount, recordingOf}
+use Rattle.layout.specs.Memory.{Memory, fits, entryCount, recordingOf}
 use Rattle.table.specs.WellFormed.{wellFormed}
 use Rattle.binder.specs.AppendedLaws.{well-parts, well-from, well-empty}
 use Rattle.formulas.specs.Formulas.{IsReading}

@@ -11,7 +11,7 @@ use Rattle.language.specs.Cases.{impossible, split}
 use Rattle.grammar.specs.Reading.{Reading, tree, refused as refusedAt}
 use Rattle.grammar.specs.Machine.{readText}
 use Rattle.model.specs.Model.{refused, opened, written}
-use Rattle.table.specs.Memory.{Memory, fits, entryCount}
+use Rattle.layout.specs.Memory.{Memory, fits, entryCount}
 use Rattle.table.specs.WellFormed.{wellFormed}
 use Rattle.records.specs.Records.{recordsOf}
 use Rattle.formulas.specs.Formulas.{formulas}

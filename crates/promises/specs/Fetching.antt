@@ -16,9 +16,9 @@ use Rattle.values.specs.Shown.{shownNumbers}
 use Rattle.meaning.specs.Evaluation.{Shown, aNumber, aWindow, aFunction, aDelay, aReason}
 use Rattle.model.specs.Lists.{All}
 use Rattle.formulas.specs.Formulas.{IsReading}
-use Rattle.table.specs.Memory.{Memory, fits, entryCount, readingCount, recordingOf, entriesOf}
+use Rattle.layout.specs.Memory.{Memory, fits, entryCount, readingCount, recordingOf, entriesOf}
 use Rattle.table.specs.WellFormed.{doneAt, wellFormed}
-use Rattle.table.specs.Links.{kindAt, keyAt, nameAt, otherAt}
+use Rattle.layout.specs.Links.{kindAt, keyAt, nameAt, otherAt}
 use Rattle.evaluator.specs.Frames.{startAt}
 use Rattle.scheduler.specs.declared.works.View.{View}
 use Rattle.scheduler.specs.Works.{view, showOf}

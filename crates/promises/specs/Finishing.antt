@@ -8,7 +8,7 @@ use lib.Dec.{ltb}
 use Rattle.language.specs.Cases.{split}
 use Rattle.model.specs.Lists.{All}
 use Rattle.formulas.specs.Formulas.{IsReading}
-use Rattle.table.specs.Memory.{Memory, fits, entryCount, readingCount, recordingOf}
+use Rattle.layout.specs.Memory.{Memory, fits, entryCount, readingCount, recordingOf}
 use Rattle.table.specs.WellFormed.{wellFormed}
 use Rattle.scheduler.specs.declared.works.View.{View}
 use Rattle.scheduler.specs.Works.{showOf}

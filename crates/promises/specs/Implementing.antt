@@ -10,7 +10,7 @@ use Rattle.model.specs.Model.{State, Request, Open, Edit, Preview, Outcome, Ans
 use Rattle.model.specs.Engine.{Engine, Lent, whole, part, says, leaves, Sent, isWhole, told, lendTo, Agrees, Implements}
 use Rattle.formulas.specs.Formulas.{formulas}
 use Rattle.bridge.specs.FormulaLaws.{formula-laws}
-use Rattle.table.specs.Memory.{Memory, fits}
+use Rattle.layout.specs.Memory.{Memory, fits}
 use Rattle.interface.specs.Calls.{openAnswer, openMemory, editAnswer, editMemory, editPlaces, previewed, previewAnswer, previewMemory}
 use Rattle.demand.specs.Holds.{holds, Ok}
 use Rattle.demand.specs.Editing.{Done, editing}

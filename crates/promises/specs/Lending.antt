@@ -10,8 +10,8 @@ use lib.Dec.{leb}
 use lib.ListN.{length, take, drop, length-take, take-append-drop}
 use Rattle.language.specs.Limits.{tableReadings}
 use Rattle.language.specs.Cases.{impossible, split}
-use Rattle.table.specs.Links.{tableLinks, tableCells}
-use Rattle.table.specs.Memory.{Memory, fits}
+use Rattle.layout.specs.Links.{tableLinks, tableCells}
+use Rattle.layout.specs.Memory.{Memory, fits}
 
 -- how many cells of each slice are lent; some slice is under its size
 abbrev pub enough : ℕ → ℕ → ℕ → ℕ → Bool

@@ -13,8 +13,8 @@ use Rattle.language.specs.Limits.{textBytes, textParts, tableEntries, tableRead
 use Rattle.language.specs.Cases.{split}
 use Rattle.grammar.specs.Reading.{Reading, tree, refused as refusedAt}
 use Rattle.grammar.specs.Machine.{readText}
-use Rattle.table.specs.Links.{tableLinks, tableCells, kindIndex, firstIndex, secondIndex, keyIndex, valueIndex, nameIndex, otherIndex, linksWith, keptWith}
-use Rattle.table.specs.Memory.{Memory, Node, fits, entryCount}
+use Rattle.layout.specs.Links.{tableLinks, tableCells, kindIndex, firstIndex, secondIndex, keyIndex, valueIndex, nameIndex, otherIndex, linksWith, keptWith}
+use Rattle.layout.specs.Memory.{Memory, Node, fits, entryCount}
 use Rattle.table.specs.WellFormed.{wellFormed}
 use Rattle.table.specs.Bind.{Bound, append, appendAll}
 use Rattle.scheduler.specs.Works.{chosen, nameFor, otherFor, kept, workFrom, worked}

@@ -35,7 +35,7 @@ use Rattle.meaning.specs.Substitution.{EveryLetE}
 use Rattle.meaning.specs.PartSubstitution.{PartsSubstituted, AtLetsE}
 use Rattle.bridge.specs.FormulaLaws.{formula-laws}
 use Rattle.bridge.specs.LetLaws.{text-lets, text-parts}
-use Rattle.table.specs.Memory.{Memory, fits, entryCount, readingCount, recordingOf, entriesOf}
+use Rattle.layout.specs.Memory.{Memory, fits, entryCount, readingCount, recordingOf, entriesOf}
 use Rattle.table.specs.WellFormed.{doneAt, wellFormed}
 use Rattle.scheduler.specs.declared.works.View.{View}
 use Rattle.scheduler.specs.Works.{showOf}

@@ -13,11 +13,11 @@ use Rattle.values.specs.Packing.{functionCell, delayedCell, unpackOf, isFunctio
 use Rattle.values.specs.PackingLaws.{unpack-function, unpack-delayed}
 use Rattle.values.specs.Shown.{shownNumbers}
 use Rattle.model.specs.Lists.{All}
-use Rattle.table.specs.Memory.{Memory, Kept, entryCount, readingCount, recordingOf, keptAt}
-use Rattle.table.specs.Nodes.{isName}
+use Rattle.layout.specs.Memory.{Memory, Kept, entryCount, readingCount, recordingOf, keptAt}
+use Rattle.layout.specs.Nodes.{isName}
 use Rattle.table.specs.WellFormed.{nameless, namesRight, wellFormed}
 use Rattle.scheduler.specs.declared.works.View.{View}
-use Rattle.table.specs.Links.{kindAt, keyAt, nameAt, otherAt}
+use Rattle.layout.specs.Links.{kindAt, keyAt, nameAt, otherAt}
 use Rattle.evaluator.specs.Frames.{leafOf, startAt}
 use Rattle.scheduler.specs.Works.{view, showOf}
 use Rattle.refine.specs.Shows.{viewOf}

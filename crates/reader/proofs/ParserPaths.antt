@@ -10,7 +10,7 @@ use lib.Dec.{eqb, lit<}
 use lib.ListN.{length, set}
 use borrow.Author.Tests.{eq-eqb, ne-eqb}
 use Rattle.grammar.specs.Tokens.{when}
-use Rattle.records.specs.Records.{node}
+use Rattle.layout.specs.Memory.{node}
 use Rattle.descent.specs.Cursor as C
 use Rattle.descent.specs.Descent as D
 use Rattle.descent.specs.Descent.{State, moved, Mode, inExpression, inCalls, inArguments, inMore, firstGiven, nextGiven}

@@ -14,7 +14,7 @@ use steps::cursor;
 use steps::cursor::Cursor;
 use steps::scratch;
 use steps::scratch::Call;
-use table::nodes::Shape;
+use layout::nodes::Shape;
 ghost use mathlib.Core.Path.{_≡_};
 ghost use Prim.Native.Nat.{_-_, _≤_};
 ghost use Rattle.descent.specs.Cursor.{isAt, letKind, lambdaKind, dotKind, openKind};

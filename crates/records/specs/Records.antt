@@ -9,8 +9,8 @@ use lib.ListN.{length}
 use Rattle.language.specs.Names.{packed, sameName, isData}
 use Rattle.grammar.specs.Grammar.{Expression, Calls, Arguments, More, letIn, lambda, name, literal, bracket, done, call, none, first, last, next}
 use Rattle.meaning.specs.Binding.{member}
-use Rattle.table.specs.Memory.{Node}
-use Rattle.table.specs.Nodes.{numberKind, variableKind, unboundKind, readingsKind, functionKind, memberKind}
+use Rattle.layout.specs.Memory.{Node, node}
+use Rattle.layout.specs.Nodes.{numberKind, variableKind, unboundKind, readingsKind, functionKind, memberKind}
 
 -- a name, and what it stands for: 0 a lambda's variable, or one more than the record of a let's value
 pub record Named : Type 0 where
@@ -25,9 +25,6 @@ pub record Recorded : Type 0 where
   pub records : List Node
   pub root : ℕ
   pub places : List ℕ
-
-abbrev pub node : ℕ → ℕ → ℕ → ℕ → Node
-node k key f s = record { kind = k; key = key; first = f; second = s }
 
 -- one more record, with its part
 abbrev pub newRecord : Node → List Node → List ℕ → Recorded

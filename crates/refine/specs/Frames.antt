@@ -22,7 +22,7 @@ use Rattle.values.specs.Tallies as Tallies
 use Rattle.values.specs.TallyLaws.{stopped-stays}
 use Rattle.meaning.specs.Forms.{Form, variable}
 use Rattle.meaning.specs.Evaluation.{valueOf, Environment, bind, lookup, evaluate, awaited, hasName}
-use Rattle.table.specs.Links.{kindAt, firstAt, secondAt, keyAt}
+use Rattle.layout.specs.Links.{kindAt, firstAt, secondAt, keyAt}
 use Rattle.table.specs.Waits.{awaits}
 use Rattle.evaluator.specs.Reach.{moves, gathered}
 use Rattle.evaluator.specs.Frames.{bound}

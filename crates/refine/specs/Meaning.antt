@@ -35,8 +35,8 @@ use Rattle.values.specs.TallyLaws.{finished-is}
 use Rattle.values.specs.Windows.{readingsIn}
 use Rattle.meaning.specs.Forms.{Form, variable, ask, call, function}
 use Rattle.meaning.specs.Evaluation.{Result, plain, runs, valueOf, runOf, Environment, bind, lookup, settled, functionOf, evaluate, awaited, hasName}
-use Rattle.table.specs.Nodes.{memberKind, memberOfKind}
-use Rattle.table.specs.Links.{kindAt, firstAt, secondAt, keyAt}
+use Rattle.layout.specs.Nodes.{memberKind, memberOfKind}
+use Rattle.layout.specs.Links.{kindAt, firstAt, secondAt, keyAt}
 use Rattle.table.specs.Waits.{slotA, slotB, hasSlot, awaits, ownOf}
 use Rattle.evaluator.specs.Reach.{gathered}
 use Rattle.evaluator.specs.Frames as Code

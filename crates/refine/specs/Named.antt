@@ -7,9 +7,9 @@ use Prim.Native.Nat.{ℕ, suc, _≤_}
 use borrow.Author.Tests.{eqb-true}
 use lib.Dec.{eqb}
 use Rattle.values.specs.Packing.{functionCell, delayedCell}
-use Rattle.table.specs.Nodes.{isName}
+use Rattle.layout.specs.Nodes.{isName}
 use Rattle.table.specs.WellFormed.{namesRight}
-use Rattle.table.specs.Links.{kindAt, keyAt}
+use Rattle.layout.specs.Links.{kindAt, keyAt}
 use Rattle.table.specs.NodeKinds.{less-one}
 use Rattle.table.specs.Waits.{slotA, slotB}
 use Rattle.table.specs.WaitsLaws.{Variable, Holds, none, one, two, positive}

@@ -11,7 +11,7 @@ use borrow.Author.Tests.{eqb-false, leb-true}
 use lib.Dec.{leb, eqb}
 use lib.ListN.{length, getD, set, replicate, length-set, length-replicate}
 use lib.Seq.{getD-set-same, getD-set-other}
-use Rattle.table.specs.Links.{firstAt, secondAt, isBelow}
+use Rattle.layout.specs.Links.{firstAt, secondAt, isBelow}
 use Rattle.scheduler.specs.Works.{raised, needFrom, needOf}
 use Rattle.refine.specs.Free.{split, both, decEq}
 

@@ -34,9 +34,9 @@ use Rattle.values.specs.KeepableApply.{Settled, kept-closed, kept-apply0, kept-
 use Rattle.values.specs.Packing.{packOf, unpackOf, isPacked, windowCell, functionCell, delayedCell, missingCell, wrongCell}
 use Rattle.values.specs.PackingLaws.{unpack-number, round, test-number, kept-passes, passes-packs}
 use Rattle.values.specs.Ranges.{down-range}
-use Rattle.table.specs.Nodes.{memberOfKind}
+use Rattle.layout.specs.Nodes.{memberOfKind}
 use Rattle.evaluator.specs.declared.working.Task.{Task}
-use Rattle.table.specs.Links.{kindAt, firstAt, secondAt, isBelow}
+use Rattle.layout.specs.Links.{kindAt, firstAt, secondAt, isBelow}
 use Rattle.table.specs.Waits.{ownOf}
 use Rattle.evaluator.specs.Reach.{gathered as list}
 use Rattle.evaluator.specs.Frames.{leafOf, startAt, startFrom, bound, isOpen, functionOf}

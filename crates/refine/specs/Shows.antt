@@ -19,7 +19,7 @@ use Rattle.values.specs.Ranges.{up-size}
 use Rattle.meaning.specs.Forms.{Form, nameOf}
 use Rattle.meaning.specs.Evaluation.{awaited, Shown, aNumber, aWindow, aFunction, aDelay, aReason, shownAs}
 use Rattle.scheduler.specs.declared.works.View.{View}
-use Rattle.table.specs.Links.{keyAt}
+use Rattle.layout.specs.Links.{keyAt}
 use Rattle.table.specs.Waits.{slotA, slotB}
 use Rattle.scheduler.specs.Works.{slotName, nameFor, otherFor, view}
 

@@ -10,7 +10,7 @@ use borrow.Author.Tests.{eq-eqb, eqb-true, eqb-false, le-leb}
 use lib.Dec.{eqb}
 use lib.ListN.{length, getD, set, replicate, length-set, length-replicate}
 use lib.Seq.{getD-set-same, getD-set-other}
-use Rattle.table.specs.Links.{firstAt, secondAt, isBelow}
+use Rattle.layout.specs.Links.{firstAt, secondAt, isBelow}
 use Rattle.evaluator.specs.Reach.{moves, flagged, spread, gatherFrom, gathered}
 use Rattle.refine.specs.Free.{decEq, split, both}
 use Rattle.refine.specs.Tables.{Link}

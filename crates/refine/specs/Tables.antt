@@ -18,8 +18,8 @@ use Rattle.values.specs.Ranges.{down-range}
 use Rattle.values.specs.KeepableApply.{kept-apply0, kept-apply1}
 use Rattle.meaning.specs.Forms.{Form, number, variable, unbound, readings, ask, call, function}
 use Rattle.meaning.specs.Evaluation.{Result, plain, runs, valueOf, runOf, Environment, nowhere, bind, lookup, settled, functionOf, evaluate}
-use Rattle.table.specs.Nodes.{memberKind, numberOfKey}
-use Rattle.table.specs.Links.{kindAt, firstAt, secondAt, keyAt}
+use Rattle.layout.specs.Nodes.{memberKind, numberOfKey}
+use Rattle.layout.specs.Links.{kindAt, firstAt, secondAt, keyAt}
 use Rattle.table.specs.Waits.{slotA, slotB, hasSlot, awaits}
 use Rattle.refine.specs.Free.{free, split}
 

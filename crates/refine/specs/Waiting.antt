@@ -12,12 +12,12 @@ use lib.ListN.{length, getD, replicate}
 use lib.Signed.{mag}
 use Rattle.meaning.specs.Forms.{Form}
 use Rattle.meaning.specs.Evaluation.{awaited}
-use Rattle.table.specs.Memory.{Node, nodeAt}
-use Rattle.table.specs.Nodes.{build}
+use Rattle.layout.specs.Memory.{Node, nodeAt}
+use Rattle.layout.specs.Nodes.{build}
 use Rattle.table.specs.WellFormed.{keyRight}
 use Rattle.table.specs.Right.{nodeRight}
 use Rattle.table.specs.RightLaws.{right-key, first-low, second-low}
-use Rattle.table.specs.Links.{kindAt, firstAt, secondAt, keyAt}
+use Rattle.layout.specs.Links.{kindAt, firstAt, secondAt, keyAt}
 use Rattle.table.specs.Waits.{slotA, slotB, hasSlot, waitsFrom}
 use Rattle.table.specs.NodeKinds.{Fine, aNumber, aVariable, anUnbound, theReadings, aFunction, anAsk, aCall, less-one, build-ask, build-call, right-fine}
 use Rattle.table.specs.AwaitsLaws.{namesOf}

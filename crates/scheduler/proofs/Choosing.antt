@@ -16,9 +16,9 @@ use Rattle.values.specs.declared.Value.{Value}
 use Rattle.values.specs.declared.shown.Shown.{Shown}
 use Rattle.values.specs.Shown.{shownNumbers}
 use Rattle.values.specs.Packing.{functionCell, delayedCell, unpackOf}
-use Rattle.table.specs.Links.{kindAt, firstAt, secondAt, keyAt, nameAt, otherAt, keptWith, isBelow}
-use Rattle.table.specs.LinksLaws.{kept-length}
-use Rattle.table.specs.Nodes.{variableKind, functionKind}
+use Rattle.layout.specs.Links.{kindAt, firstAt, secondAt, keyAt, nameAt, otherAt, keptWith, isBelow}
+use Rattle.layout.specs.LinksLaws.{kept-length}
+use Rattle.layout.specs.Nodes.{variableKind, functionKind}
 use Rattle.table.specs.Waits.{waitsFrom}
 use Rattle.evaluator.specs.Frames.{startAt, startFrom}
 use Rattle.evaluator.specs.Applying.{graph, applyAt, Applies}

@@ -12,8 +12,8 @@ use Rattle.values.specs.Packing.{functionCell, delayedCell, unpackOf}
 use Rattle.values.specs.Shown.{shownNumbers}
 use Rattle.values.specs.declared.shown.Shown.{Shown}
 use Rattle.scheduler.specs.declared.works.View.{View}
-use Rattle.table.specs.Links.{tableCells, kindAt, firstAt, secondAt, keyAt, nameAt, otherAt, keptWith, isBelow}
-use Rattle.table.specs.Nodes.{variableKind, functionKind, worksKind}
+use Rattle.layout.specs.Links.{tableCells, kindAt, firstAt, secondAt, keyAt, nameAt, otherAt, keptWith, isBelow}
+use Rattle.layout.specs.Nodes.{variableKind, functionKind, worksKind}
 use Rattle.table.specs.Waits.{slotA, slotB, waitsFrom}
 use Rattle.evaluator.specs.Frames.{startAt, startFrom}
 use Rattle.evaluator.specs.Applying.{graph, applyAt}

@@ -15,7 +15,7 @@ use Rattle.language.specs.declared.members.Found.{Found}
 use Rattle.language.specs.declared.members.Found.the-variants.{Is, Unknown}
 use Rattle.grammar.specs.Tokens.{when, Located}
 use Rattle.meaning.specs.Binding.{member}
-use Rattle.table.specs.Nodes.{memberKind}
+use Rattle.layout.specs.Nodes.{memberKind}
 use Rattle.descent.specs.Cursor as D
 use Rattle.descent.specs.Moves.{not-refused, was-due}
 use Rattle.steps.specs.declared.cursor.Cursor.{Cursor}

@@ -16,7 +16,8 @@ use Rattle.values.specs.declared.Value.the-variants.{Number}
 use Rattle.values.proofs.PackingRules.{pack-number}
 use Rattle.values.proofs.Signed.{wide}
 use Rattle.grammar.specs.Tokens.{when}
-use Rattle.records.specs.Records.{node, numberKey}
+use Rattle.records.specs.Records.{numberKey}
+use Rattle.layout.specs.Memory.{node}
 use Rattle.descent.specs.Cursor as C
 use Rattle.descent.specs.Descent.{State, moved}
 use Rattle.descent.specs.Descent as D

@@ -5,7 +5,7 @@ use language::members;
 use language::members::Found;
 use lexer::tokens;
 use lexer::tokens::Lexed;
-use table::nodes::Shape;
+use layout::nodes::Shape;
 ghost use mathlib.Core.Path.{_≡_};
 ghost use mathlib.Core.Bool.{cond, _&&_};
 ghost use Prim.Native.Nat.{suc, _≤_, _<_};

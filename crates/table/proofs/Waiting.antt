@@ -9,8 +9,8 @@ use borrow.Author.Needs.{needs}
 use borrow.Author.Tests.{lt-ltb, le-ltb, le-leb, lt-leb, eq-eqb, ne-eqb, leb-true}
 use lib.Dec.{leb, eqb}
 use lib.ListN.{getD, set}
-use Rattle.table.specs.Links.{kindAt, firstAt, secondAt, keyAt, isBelow}
-use Rattle.table.specs.Nodes.{variableKind, functionKind}
+use Rattle.layout.specs.Links.{kindAt, firstAt, secondAt, keyAt, isBelow}
+use Rattle.layout.specs.Nodes.{variableKind, functionKind}
 use Rattle.table.specs.Waits.{hasSlot, awaits, joinedSlots, isNamed, withoutSlot, waitsOf, waitsAt, waitsFrom, covers, fewAt, ownOf}
 
 pub awaits-is : (w v : ℕ) (r : Bool) → r ≡ hasSlot w v → leb 1 v && r ≡ awaits w v

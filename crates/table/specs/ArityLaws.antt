@@ -10,8 +10,8 @@ use Rattle.language.specs.declared.members.Found.{Found}
 use Rattle.language.specs.declared.members.Found.the-variants.{Is, Unknown}
 use Rattle.meaning.specs.FormsLaws.{and-left, and-right}
 use Rattle.meaning.specs.EvaluationLaws.{split}
-use Rattle.table.specs.Memory.{Node}
-use Rattle.table.specs.Nodes.{memberOfKind, memberArity, arity}
+use Rattle.layout.specs.Memory.{Node}
+use Rattle.layout.specs.Nodes.{memberOfKind, memberArity, arity}
 use Rattle.table.specs.WellFormed.{arityRight}
 use Rattle.table.specs.Right.{nodeRight}
 use Rattle.table.specs.RightLaws.{right-arity, second-given}

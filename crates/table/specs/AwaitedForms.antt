@@ -14,8 +14,8 @@ use Rattle.language.specs.declared.members.Found.the-variants.{Is, Unknown}
 use Rattle.meaning.specs.Forms.{Form}
 use Rattle.meaning.specs.Evaluation.{joined, awaited}
 use Rattle.meaning.specs.EvaluationLaws.{split}
-use Rattle.table.specs.Memory.{Node}
-use Rattle.table.specs.Nodes.{memberOfKind, memberArity, memberForm, arity, build}
+use Rattle.layout.specs.Memory.{Node}
+use Rattle.layout.specs.Nodes.{memberOfKind, memberArity, memberForm, arity, build}
 use Rattle.table.specs.WellFormed.{awaitedBy}
 use Rattle.table.specs.Right.{nodeRight}
 use Rattle.table.specs.RightLaws.{first-low, first-given, second-low, second-given}

@@ -12,9 +12,9 @@ use lib.Seq.{getD-at}
 use Rattle.meaning.specs.Evaluation.{hasName, joined}
 use Rattle.meaning.specs.FormsLaws.{and-left, and-right}
 use Rattle.meaning.specs.EvaluationLaws.{split}
-use Rattle.table.specs.Memory.{Node}
+use Rattle.layout.specs.Memory.{Node}
 use Rattle.table.specs.WellFormed.{every, awaitedBy, awaitedAfter, awaitsFew}
-use Rattle.table.specs.Right.{allFrom, numbered}
+use Rattle.layout.specs.Numbered.{allFrom, numbered}
 use Rattle.table.specs.RightLaws.{all-at}
 use Rattle.table.specs.ChainLaws.{numbered-zero, numbered-last, all-zero, all-last}
 

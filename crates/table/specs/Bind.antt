@@ -5,9 +5,9 @@ use mathlib.Core.List.{List, [], _∷_, _++_}
 use Prim.Native.Nat.{ℕ, zero, suc}
 use lib.Dec.{ltb}
 use lib.ListN.{length, getD, set}
-use Rattle.table.specs.Links.{linksWith, cellsWith}
-use Rattle.table.specs.Memory.{Memory, Node, entryCount}
-use Rattle.table.specs.Nodes.{sameNode}
+use Rattle.layout.specs.Links.{linksWith, cellsWith}
+use Rattle.layout.specs.Memory.{Memory, Node, entryCount}
+use Rattle.layout.specs.Nodes.{sameNode}
 
 -- the number of the entry equal to n; how many there are, where there is none
 unfoldable pub find : List Node → Node → ℕ

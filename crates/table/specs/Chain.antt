@@ -5,8 +5,8 @@ use mathlib.Core.List.{List}
 use Prim.Native.Nat.{ℕ, zero, suc, _+_, _*_, _%_, _<_}
 use lib.Dec.{eqb}
 use lib.ListN.{length, getD, set}
-use Rattle.table.specs.Memory.{Node}
-use Rattle.table.specs.Nodes.{sameNode}
+use Rattle.layout.specs.Memory.{Node}
+use Rattle.layout.specs.Nodes.{sameNode}
 
 unfoldable pub hashOf : Node → ℕ
 hashOf n = (n .key % 65521 + (n .kind * 31 + (n .first * 1009 + n .second * 37))) % 512

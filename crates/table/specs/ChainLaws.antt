@@ -13,13 +13,13 @@ use lib.ListN.{length, getD, set, replicate, length-set, length-append, length-r
 use lib.Seq.{getD-set-same, getD-set-other}
 use Rattle.meaning.specs.FormsLaws.{no-way, and-left, and-right}
 use Rattle.meaning.specs.EvaluationLaws.{split}
-use Rattle.table.specs.Memory.{Node, nodeAt}
-use Rattle.table.specs.Nodes.{sameNode}
+use Rattle.layout.specs.Memory.{Node, nodeAt}
+use Rattle.layout.specs.Nodes.{sameNode}
 use Rattle.table.specs.WellFormed.{hasNode, distinct}
 use Rattle.table.specs.Bind.{find}
-use Rattle.table.specs.Right.{allFrom, numbered}
+use Rattle.layout.specs.Numbered.{allFrom, numbered}
 use Rattle.table.specs.RightLaws.{all-stop, all-end}
-use Rattle.table.specs.Held.{heldAt}
+use Rattle.layout.specs.Held.{heldAt}
 use Rattle.table.specs.Chain.{hashOf, latest, lastSame, newAt, Chained, linked, Entered}
 
 -- the test is equality

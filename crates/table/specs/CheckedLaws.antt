@@ -10,14 +10,15 @@ use lib.IntN.{ℤ}
 use lib.ListN.{getD}
 use Rattle.values.specs.Packing.{functionCell, delayedCell, isPacked}
 use Rattle.meaning.specs.EvaluationLaws.{split}
-use Rattle.table.specs.Links.{kindAt, valueAt, nameAt, otherAt}
-use Rattle.table.specs.Memory.{Node, Entry, nodeAt, keptAt, entryAt, entriesFrom, nodesOf}
-use Rattle.table.specs.Nodes.{worksKind, arity, listed, kids, isName}
+use Rattle.layout.specs.Links.{kindAt, valueAt, nameAt, otherAt}
+use Rattle.layout.specs.Memory.{Node, Entry, nodeAt, keptAt, entryAt, entriesFrom, nodesOf}
+use Rattle.layout.specs.Nodes.{worksKind, arity, listed, kids, isName}
 use Rattle.table.specs.WellFormed.{every, kindKnown, keyRight, arityRight, lower, distinct, awaitsFew, isDone, doneAt, allDone, settled, namesRight, keptRight, wellFormed}
-use Rattle.table.specs.Right.{allFrom, numbered, nodeRight, rightAt}
-use Rattle.table.specs.Held.{shaped}
+use Rattle.table.specs.Right.{nodeRight, rightAt}
+use Rattle.layout.specs.Numbered.{allFrom, numbered}
+use Rattle.layout.specs.Held.{shaped}
 use Rattle.table.specs.Checked.{memory, kept, keptOk, entriesRight}
-use Rattle.table.specs.declared.nodes.Shape.{Shape}
+use Rattle.layout.specs.declared.nodes.Shape.{Shape}
 
 -- entries by number
 pub nodes-are : (links cells : List ℕ) (i n : ℕ) → nodesOf (entriesFrom links cells i n) ≡ numbered (nodeAt links cells) i n

@@ -6,13 +6,7 @@ pub mod Chain
 pub mod ChainLaws
 pub mod Checked
 pub mod CheckedLaws
-pub mod Held
-pub mod HeldLaws
-pub mod Links
-pub mod LinksLaws
-pub mod Memory
 pub mod NodeKinds
-pub mod Nodes
 pub mod Right
 pub mod RightLaws
 pub mod Waits

@@ -14,10 +14,10 @@ use Rattle.language.specs.declared.members.Found.the-variants.{Is}
 use Rattle.meaning.specs.Forms.{Form, ask, call}
 use Rattle.meaning.specs.FormsLaws.{and-left, and-right}
 use Rattle.meaning.specs.EvaluationLaws.{split}
-use Rattle.table.specs.Memory.{Node}
-use Rattle.table.specs.Nodes.{numberKind, variableKind, unboundKind, readingsKind, functionKind, memberKind, memberOfKind, memberForm, arity, build}
+use Rattle.layout.specs.Memory.{Node, node}
+use Rattle.layout.specs.Nodes.{numberKind, variableKind, unboundKind, readingsKind, functionKind, memberKind, memberOfKind, memberForm, arity, build}
 use Rattle.table.specs.WellFormed.{keyRight}
-use Rattle.table.specs.Right.{node, nodeRight}
+use Rattle.table.specs.Right.{nodeRight}
 use Rattle.table.specs.RightLaws.{right-kind, right-key, first-given}
 use Rattle.table.specs.ArityLaws.{function-arity, leaf-arity, no-links, no-second, a-second}
 

@@ -16,11 +16,12 @@ use Rattle.language.specs.declared.members.Found.{Found}
 use Rattle.language.specs.declared.members.Found.the-variants.{Is, Unknown}
 use Rattle.meaning.specs.FormsLaws.{and-left, and-right}
 use Rattle.meaning.specs.EvaluationLaws.{split}
-use Rattle.table.specs.Links.{kindAt, firstAt, secondAt, keyAt}
-use Rattle.table.specs.Memory.{Node, nodeAt}
-use Rattle.table.specs.Nodes.{numberKind, variableKind, unboundKind, functionKind, firstMember, kindCount, memberOfKind, memberArity, arity, wordNumber, isName}
+use Rattle.layout.specs.Links.{kindAt, firstAt, secondAt, keyAt}
+use Rattle.layout.specs.Memory.{Node, nodeAt, node}
+use Rattle.layout.specs.Nodes.{numberKind, variableKind, unboundKind, functionKind, firstMember, kindCount, memberOfKind, memberArity, arity, wordNumber, isName}
 use Rattle.table.specs.WellFormed.{kindKnown, keyRight, arityRight, lower}
-use Rattle.table.specs.Right.{node, allFrom, nodeRight, rightAt}
+use Rattle.table.specs.Right.{nodeRight, rightAt}
+use Rattle.layout.specs.Numbered.{allFrom}
 
 -- what is left of n at i is one more than what is left at i + 1
 pub left-suc : (n i : ℕ) → i < n → n - i ≡ suc (n - (i + 1))

@@ -5,7 +5,7 @@ use mathlib.Core.List.{List}
 use Prim.Native.Nat.{ℕ, zero, suc, _+_, _*_, _-_, _/_, _%_}
 use lib.Dec.{leb, ltb, eqb}
 use lib.ListN.{getD, set}
-use Rattle.table.specs.Links.{kindAt, firstAt, secondAt, keyAt, isBelow}
+use Rattle.layout.specs.Links.{kindAt, firstAt, secondAt, keyAt, isBelow}
 
 abbrev pub slotA : ℕ → ℕ
 slotA w = w / 65536

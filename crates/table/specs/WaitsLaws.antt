@@ -14,12 +14,13 @@ use Rattle.meaning.specs.Evaluation.{hasName}
 use Rattle.meaning.specs.Evaluation as meaning
 use Rattle.meaning.specs.FormsLaws.{no-way, and-left, and-right}
 use Rattle.meaning.specs.EvaluationLaws.{split}
-use Rattle.table.specs.Memory.{Node, nodeAt}
-use Rattle.table.specs.Nodes.{arity, sameNode}
+use Rattle.layout.specs.Memory.{Node, nodeAt}
+use Rattle.layout.specs.Nodes.{arity, sameNode}
 use Rattle.table.specs.WellFormed.{distinct, awaitedBy, awaitsFew}
-use Rattle.table.specs.Right.{allFrom, numbered, nodeRight, rightAt}
+use Rattle.table.specs.Right.{nodeRight, rightAt}
+use Rattle.layout.specs.Numbered.{allFrom, numbered}
 use Rattle.table.specs.RightLaws.{first-low, second-low, first-given, second-given, all-at, right-at}
-use Rattle.table.specs.Links.{kindAt, firstAt, secondAt, keyAt, isBelow}
+use Rattle.layout.specs.Links.{kindAt, firstAt, secondAt, keyAt, isBelow}
 use Rattle.table.specs.Waits.{slotA, slotB, hasSlot, joinedSlots, isNamed, withoutSlot, waitsOf, waitsAt, waitsFrom, covers, fewAt}
 use Rattle.table.specs.Chain.{newAt, lastSame}
 use Rattle.table.specs.ChainLaws.{same-self, distinct-all, all-last, all-zero}

@@ -7,8 +7,8 @@ use lib.ListN.{length, getD}
 use Rattle.language.specs.Limits.{tableEntries, tableReadings}
 use Rattle.values.specs.Packing.{isPacked, isFunctionCell, isDelayedCell}
 use Rattle.meaning.specs.Evaluation.{joined, without}
-use Rattle.table.specs.Memory.{Memory, Node, Kept, Entry, entryCount, readingCount, entriesOf, nodesOf}
-use Rattle.table.specs.Nodes.{numberKind, variableKind, unboundKind, functionKind, kindCount, worksKind, arity, kids, sameNode, isName}
+use Rattle.layout.specs.Memory.{Memory, Node, Kept, Entry, entryCount, readingCount, entriesOf, nodesOf}
+use Rattle.layout.specs.Nodes.{numberKind, variableKind, unboundKind, functionKind, kindCount, worksKind, arity, kids, sameNode, isName}
 
 -- a test of every entry, with its number
 unfoldable pub every : {A : Type 0} → (ℕ → A → Bool) → ℕ → List A → Bool

@@ -1,9 +1,9 @@
 // A chain for each hash, in the call's own frame: the first 512 cells hold one more than the latest entry of the hash, or 0; then a cell
 // for each entry holds the same of the entries before it.
-use crate::nodes::Shape;
-use crate::nodes::TEXT_WORDS;
-use crate::nodes::held_at;
-use crate::nodes::same;
+use layout::nodes::Shape;
+use layout::nodes::TEXT_WORDS;
+use layout::nodes::held_at;
+use layout::nodes::same;
 use language::limits::Table;
 use language::limits::Text;
 ghost use mathlib.Core.Path.{_≡_};
@@ -11,10 +11,10 @@ ghost use mathlib.Core.Bool.{true};
 ghost use Prim.Native.Nat.{_+_, _<_, _≤_};
 ghost use lib.ListN.{length};
 ghost use Rattle.language.specs.Limits.{tableEntries};
-ghost use Rattle.table.specs.Memory.{nodeAt};
+ghost use Rattle.layout.specs.Memory.{nodeAt};
 ghost use Rattle.table.specs.WellFormed.{distinct};
-ghost use Rattle.table.specs.Right.{numbered};
-ghost use Rattle.table.specs.Held.{shaped, heldAt};
+ghost use Rattle.layout.specs.Numbered.{numbered};
+ghost use Rattle.layout.specs.Held.{shaped, heldAt};
 ghost use Rattle.table.specs.Chain.{hashOf, lastSame, Chained, linked, Entered};
 
 // A cell for each of 512 hashes, and one for each entry, held or about to be appended.

@@ -1,16 +1,16 @@
 // 01, refusal 4: whether a cache is well-formed. One pass for each concern, each linear in the number of entries.
-use crate::cells::at32;
-use crate::cells::kind_of;
-use crate::cells::name_of;
-use crate::cells::other_of;
-use crate::cells::value_of;
+use layout::cells::at32;
+use layout::cells::kind_of;
+use layout::cells::name_of;
+use layout::cells::other_of;
+use layout::cells::value_of;
 use crate::chain::distinct_nodes;
 use crate::entries::arity;
 use crate::entries::is_name;
 use crate::entries::nodes_right;
-use crate::nodes::Shape;
-use crate::nodes::entry_of;
-use crate::nodes::node_at;
+use layout::nodes::Shape;
+use layout::nodes::entry_of;
+use layout::nodes::node_at;
 use crate::waits::are_few;
 use crate::waits::fill_waits;
 use language::limits::Table;
@@ -22,10 +22,11 @@ ghost use mathlib.Core.List.{List};
 ghost use Prim.Native.Nat.{_≤_};
 ghost use lib.IntN.{ℤ};
 ghost use Rattle.language.specs.Limits.{tableEntries};
-ghost use Rattle.table.specs.Memory.{nodeAt, entriesFrom};
-ghost use Rattle.table.specs.Nodes.{kids};
+ghost use Rattle.layout.specs.Memory.{nodeAt, entriesFrom};
+ghost use Rattle.layout.specs.Nodes.{kids};
 ghost use Rattle.table.specs.WellFormed.{doneAt, allDone, namesRight, distinct, awaitsFew, wellFormed};
-ghost use Rattle.table.specs.Right.{numbered, allFrom, rightAt};
+ghost use Rattle.table.specs.Right.{rightAt};
+ghost use Rattle.layout.specs.Numbered.{numbered, allFrom};
 ghost use Rattle.table.specs.Checked.{memory, kept, keptOk, entriesRight};
 
 // Whether entry j of n is worked out.

@@ -1,9 +1,9 @@
 // One entry: whether its kind, its key and its dependencies are right (01, refusal 4).
-use crate::cells::first_of;
-use crate::cells::key_of;
-use crate::cells::kind_of;
-use crate::cells::second_of;
-use crate::nodes::Shape;
+use layout::cells::first_of;
+use layout::cells::key_of;
+use layout::cells::kind_of;
+use layout::cells::second_of;
+use layout::nodes::Shape;
 use language::members::Found;
 use language::members::arguments;
 use language::members::member_at;
@@ -11,9 +11,11 @@ use language::names::in_word;
 use language::names::is_letter;
 ghost use mathlib.Core.Path.{_≡_};
 ghost use Prim.Native.Nat.{_%_};
-ghost use Rattle.table.specs.Nodes.{memberOfKind, memberArity, arity, wordNumber, isName};
+ghost use Rattle.layout.specs.Nodes.{memberOfKind, memberArity, arity, wordNumber, isName};
 ghost use Rattle.table.specs.WellFormed.{keyRight, arityRight};
-ghost use Rattle.table.specs.Right.{node, rightAt, allFrom};
+ghost use Rattle.table.specs.Right.{rightAt};
+ghost use Rattle.layout.specs.Numbered.{allFrom};
+ghost use Rattle.layout.specs.Memory.{node};
 
 // The last byte of a packed word.
 fn low_byte(k: u64) -> u8

@@ -1,7 +1,5 @@
-// The cache's memory: entries in lent slices, what they await, and when they are well-formed.
-pub mod cells;
+// The table of entries: what they await, and when they are well-formed.
 pub mod chain;
 pub mod check;
 pub mod entries;
-pub mod nodes;
 pub mod waits;

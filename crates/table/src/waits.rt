@@ -1,15 +1,15 @@
 // The variables that entries await, by a rising pass over the table.
-use crate::cells::first_of;
-use crate::cells::is_below;
-use crate::cells::key_of;
-use crate::cells::kind_of;
-use crate::cells::second_of;
-use crate::nodes::Shape;
+use layout::cells::first_of;
+use layout::cells::is_below;
+use layout::cells::key_of;
+use layout::cells::kind_of;
+use layout::cells::second_of;
+use layout::nodes::Shape;
 use language::limits::Table;
 ghost use mathlib.Core.Path.{_≡_};
 ghost use Prim.Native.Nat.{_<_, _≤_};
 ghost use Rattle.language.specs.Limits.{tableEntries};
-ghost use Rattle.table.specs.Right.{allFrom};
+ghost use Rattle.layout.specs.Numbered.{allFrom};
 ghost use Rattle.table.specs.Waits.{hasSlot, awaits as awaitsOf, joinedSlots, isNamed, withoutSlot as withoutOf, waitsOf, waitsAt, waitsFrom, covers as coversOf, fewAt, ownOf};
 
 pub fn has(w: u32, v: u32) -> bool

@@ -5,10 +5,10 @@ use Prim.Native.Nat.{_≤_, _-_}
 use borrow.Author.Needs.{needs}
 use Rattle.table.specs.Bind.{bindAll}
 use Rattle.table.specs.ChainLaws.{chains}
-use Rattle.table.specs.Memory.{nodeAt}
+use Rattle.layout.specs.Memory.{nodeAt}
 use Rattle.binder.specs.Records.{recordAt, bound, boundNow, Ready}
 use Rattle.binder.specs.RecordsLaws.{binding}
-use Rattle.table.specs.Right.{numbered}
+use Rattle.layout.specs.Numbered.{numbered}
 use Rattle.binder.proofs.bind.bind.Statement.{statement}
 use Rattle.binder.proofs.bind.bind.Tie as tie
 

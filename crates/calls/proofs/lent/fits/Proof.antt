@@ -1,6 +1,6 @@
 -- The lengths are tested as in the definition. Assumes nothing.
 use borrow.Author.Needs.{needs}
-use Rattle.table.specs.Memory.{fits}
+use Rattle.layout.specs.Memory.{fits}
 use Rattle.calls.proofs.lent.fits.Statement.{statement}
 use Rattle.calls.proofs.lent.fits.Tie as tie
 

@@ -4,8 +4,8 @@ use Prim.Native.Nat.{_≤_, _-_}
 use borrow.Author.Needs.{needs}
 use Rattle.table.specs.Chain.{Chained, newAt}
 use Rattle.table.specs.ChainLaws.{chains}
-use Rattle.table.specs.Held.{heldAt}
-use Rattle.table.specs.Right.{allFrom}
+use Rattle.layout.specs.Held.{heldAt}
+use Rattle.layout.specs.Numbered.{allFrom}
 use Rattle.table.specs.RightLaws.{loops}
 use Rattle.table.proofs.chain.distinct_nodes.Statement.{statement}
 use Rattle.table.proofs.chain.distinct_nodes.Tie as tie

@@ -3,7 +3,7 @@ use Prim.Native.Nat.{_≤_, _-_}
 use borrow.Author.Needs.{needs}
 use Rattle.table.specs.Chain.{Chained}
 use Rattle.table.specs.ChainLaws.{chains, chained-entered, chained-done}
-use Rattle.table.specs.Held.{heldAt}
+use Rattle.layout.specs.Held.{heldAt}
 use Rattle.table.proofs.chain.enter_all.Statement.{statement}
 use Rattle.table.proofs.chain.enter_all.Tie as tie
 

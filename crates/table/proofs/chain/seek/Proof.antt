@@ -4,7 +4,7 @@ use Prim.Native.Nat.{_≤_}
 use borrow.Author.Needs.{needs}
 use Rattle.table.specs.Chain.{hashOf, latest, lastSame}
 use Rattle.table.specs.ChainLaws.{chains}
-use Rattle.table.specs.Held.{shaped, heldAt}
+use Rattle.layout.specs.Held.{shaped, heldAt}
 use Rattle.table.proofs.chain.seek.Statement.{statement}
 use Rattle.table.proofs.chain.seek.Tie as tie
 

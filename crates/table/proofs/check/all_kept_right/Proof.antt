@@ -3,7 +3,7 @@ use mathlib.Core.Path.{_≡_}
 use Prim.Native.Nat.{_≤_, _-_}
 use borrow.Author.Needs.{needs}
 use Rattle.table.specs.Checked.{keptOk}
-use Rattle.table.specs.Right.{allFrom}
+use Rattle.layout.specs.Numbered.{allFrom}
 use Rattle.table.specs.RightLaws.{loops}
 use Rattle.table.proofs.check.all_kept_right.Statement.{statement}
 use Rattle.table.proofs.check.all_kept_right.Tie as tie

@@ -1,7 +1,7 @@
 -- What is left of the number decides, byte by byte from the last. Assumes nothing.
 use mathlib.Core.Path.{_≡_}
 use borrow.Author.Needs.{needs}
-use Rattle.table.specs.Nodes.{wordNumber}
+use Rattle.layout.specs.Nodes.{wordNumber}
 use Rattle.table.specs.RightLaws.{entries}
 use Rattle.table.proofs.entries.is_word.Statement.{statement}
 use Rattle.table.proofs.entries.is_word.Tie as tie

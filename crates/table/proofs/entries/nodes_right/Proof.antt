@@ -2,7 +2,8 @@
 use mathlib.Core.Path.{_≡_}
 use Prim.Native.Nat.{_≤_, _-_}
 use borrow.Author.Needs.{needs}
-use Rattle.table.specs.Right.{allFrom, rightAt}
+use Rattle.table.specs.Right.{rightAt}
+use Rattle.layout.specs.Numbered.{allFrom}
 use Rattle.table.specs.RightLaws.{loops}
 use Rattle.table.proofs.entries.nodes_right.Statement.{statement}
 use Rattle.table.proofs.entries.nodes_right.Tie as tie

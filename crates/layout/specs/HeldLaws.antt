@@ -1,0 +1,30 @@
+-- Reading a node: the cells that are read are the node's. Assumes nothing.
+use mathlib.Core.Path.{_≡_}
+use mathlib.Core.List.{List}
+use Prim.Native.Nat.{ℕ, _+_, _-_, _*_, _/_, _%_, _≤_, _<_}
+use borrow.Author.Tests.{lt-ltb, le-ltb}
+use lib.ListN.{getD}
+use Rattle.layout.specs.Links.{kindAt, firstAt, secondAt, keyAt}
+use Rattle.layout.specs.Memory.{Node, nodeAt, node}
+use Rattle.layout.specs.Held.{freshAt, heldAt}
+
+pub node-is : (links cells : List ℕ) (i kind key first second : ℕ) → kind ≡ kindAt links i → key ≡ keyAt cells i → first ≡ firstAt links i
+    → second ≡ secondAt links i → node kind key first second ≡ nodeAt links cells i
+unfolding nodeAt
+node-is links cells i kind key first second k y f s = rw (k, y, f, s)
+
+pub fresh-is : (fresh : List ℕ) (i word kind key first second : ℕ) → kind ≡ word % 32 → key ≡ getD fresh (2 * i + 1) 0 → first ≡ word / 32 % 1024
+    → second ≡ word / 32768 % 1024 → word ≡ getD fresh (2 * i) 0 → node kind key first second ≡ freshAt fresh i
+unfolding freshAt
+fresh-is fresh i word kind key first second k y f s w = rw (k, y, f, s, w)
+
+module _ (links cells : List ℕ) (count : ℕ) (fresh : List ℕ) (i : ℕ) (m : Node) where
+  pub held-old : m ≡ nodeAt links cells i → i < count → m ≡ heldAt links cells count fresh i
+  unfolding heldAt
+  held-old e h = rw (lt-ltb i count h) e
+
+  pub held-new : m ≡ freshAt fresh (i - count) → count ≤ i → m ≡ heldAt links cells count fresh i
+  unfolding heldAt
+  held-new e h = rw (le-ltb i count h) e
+
+pub ruleset nodes = (node-is, fresh-is, held-old, held-new)

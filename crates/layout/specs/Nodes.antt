@@ -1,0 +1,105 @@
+-- 01, "Binding": the kinds of entries, their dependencies, and the form that an entry stands for. Assumes nothing: these are definitions.
+use mathlib.Core.Bool.{Bool, true, false, cond, not, _&&_, _||_}
+use mathlib.Core.List.{List, [], _∷_}
+use Prim.Native.Nat.{ℕ, zero, suc, _+_, _-_, _/_, _%_}
+use lib.Dec.{ltb, leb, eqb}
+use lib.IntN.{ℤ, pos, _-ℤ_}
+use lib.ListN.{length}
+use Rattle.language.specs.Limits.{nameBytes}
+use Rattle.language.specs.Names.{isLetter, inWord, packed, letWord, inWord!, dataWord}
+use Rattle.language.specs.Members.{row, members, memberAt, memberNumber}
+use Rattle.language.specs.declared.members.Member.{Member}
+use Rattle.language.specs.declared.members.Found.{Found}
+use Rattle.language.specs.declared.members.Found.the-variants.{Is, Unknown}
+use Rattle.meaning.specs.Forms.{Form, number, variable, unbound, readings, ask, call, function}
+use Rattle.layout.specs.Memory.{Node}
+
+-- kinds: 0 number, 1 lambda variable, 2 unbound name, 3 the recording, 4 function, and from 5 on the members by their numbers
+abbrev pub numberKind : ℕ
+numberKind = 0
+
+abbrev pub variableKind : ℕ
+variableKind = 1
+
+abbrev pub unboundKind : ℕ
+unboundKind = 2
+
+abbrev pub readingsKind : ℕ
+readingsKind = 3
+
+abbrev pub functionKind : ℕ
+functionKind = 4
+
+abbrev pub firstMember : ℕ
+firstMember = 5
+
+abbrev pub memberKind : Member → ℕ
+memberKind m = firstMember + memberNumber m
+
+-- the first number that is no kind
+abbrev pub kindCount : ℕ
+kindCount = firstMember + length members
+
+abbrev pub pickFound : Bool → Found → Found → Found
+pickFound true a b = a
+pickFound false a b = b
+
+-- the member of a kind, if it is one
+unfoldable pub memberOfKind : ℕ → Found
+memberOfKind k = pickFound (ltb k firstMember) Unknown (memberAt (k - firstMember))
+
+abbrev pub memberArity : Found → ℕ
+memberArity (Is m) = suc (row m .arguments)
+memberArity Unknown = 0
+
+-- how many dependencies an entry of the kind has
+unfoldable pub arity : ℕ → ℕ
+arity k = cond (eqb k functionKind) 1 (memberArity (memberOfKind k))
+
+-- members and functions are worked out by previews; the other kinds are from the start
+abbrev pub worksKind : ℕ → Bool
+worksKind k = leb functionKind k
+
+abbrev pub listed : ℕ → Node → List ℕ
+listed zero n = []
+listed (suc zero) n = (n .first - 1) ∷ []
+listed (suc (suc k)) n = (n .first - 1) ∷ (n .second - 1) ∷ []
+
+-- the numbers of an entry's dependencies
+unfoldable pub kids : Node → List ℕ
+kids n = listed (arity (n .kind)) n
+
+-- one entry is another: all pieces are equal
+unfoldable pub sameNode : Node → Node → Bool
+sameNode a b = eqb (a .kind) (b .kind) && (eqb (a .key) (b .key) && (eqb (a .first) (b .first) && eqb (a .second) (b .second)))
+
+-- a number is kept as itself plus 2^31
+abbrev pub numberOfKey : ℕ → ℤ
+numberOfKey key = pos key -ℤ pos 2147483648
+
+abbrev pub pickForm : Bool → Form → Form → Form
+pickForm true f g = f
+pickForm false f g = g
+
+abbrev pub memberForm : Found → Form → Form → Form
+memberForm (Is m) f a = pickForm (eqb (row m .arguments) 0) (ask m f) (call m f a)
+memberForm Unknown f a = readings
+
+-- the form of an entry, from the forms of its dependencies by number
+unfoldable pub build : Node → (ℕ → Form) → Form
+build n φ =
+    pickForm (eqb (n .kind) numberKind) (number (numberOfKey (n .key)))
+    (pickForm (eqb (n .kind) variableKind) (variable (n .key))
+    (pickForm (eqb (n .kind) unboundKind) (unbound (n .key))
+    (pickForm (eqb (n .kind) readingsKind) readings
+    (pickForm (eqb (n .kind) functionKind) (function (n .key) (φ (n .first - 1)))
+    (memberForm (memberOfKind (n .kind)) (φ (n .first - 1)) (φ (n .second - 1)))))))
+
+-- a number that is a packed name: a letter, then letters and digits, at most so many bytes in all
+unfoldable pub wordNumber : ℕ → ℕ → Bool
+wordNumber zero k = false
+wordNumber (suc n) k = cond (ltb k 256) (isLetter k) (inWord (k % 256) && wordNumber n (k / 256))
+
+-- a name is no let, in or data
+unfoldable pub isName : ℕ → Bool
+isName k = wordNumber nameBytes k && not (eqb k (packed letWord) || (eqb k (packed inWord!) || eqb k (packed dataWord)))
