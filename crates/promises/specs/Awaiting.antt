@@ -16,7 +16,8 @@ use Rattle.meaning.specs.Evaluation.{Result, valueOf, runOf, Environment, nowhe
 use Rattle.meaning.specs.Evaluation.{hasName, joined, without, awaited, aDelay, aReason, shownAs, shows}
 use Rattle.meaning.specs.EvaluationLaws.{evaluate-put}
 use Rattle.model.specs.Cases.{impossible, split}
-use Rattle.refine.specs.Free.{or-right, settled-no, has-joined, has-without}
+use Rattle.table.specs.AwaitsLaws.{has-joined}
+use Rattle.refine.specs.Free.{or-right, settled-no, has-without}
 use Rattle.demand.specs.Fitting.{delayed-awaits}
 
 -- ---- the names awaited

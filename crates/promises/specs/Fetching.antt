@@ -89,7 +89,7 @@ fetch-windowless m n h =
         (λ p. no-window v (keyAt (m .cells) n) 0 (λ s l e. h s l (rw p e)))
         (λ p. split (ltb (kindAt (m .links) n) 4)
         (λ q. no-window v 0 0 (λ s l e. h s l (rw (p, q) e)))
-        (λ q. no-window v (getD (m .cells) (4 * n + 2) 0) (getD (m .cells) (4 * n + 3) 0) (λ s l e. h s l (rw (p, q) e))))
+        (λ q. no-window v (nameAt (m .cells) n) (otherAt (m .cells) n) (λ s l e. h s l (rw (p, q) e))))
 
 -- an entry whose preview is finished, in the cache that it leaves
 pub fetch-previewed : (m : Memory) (n a k : ℕ) (v : View) → previewed m n a ≡ Finished k v → All IsReading (recordingOf m)
