@@ -118,6 +118,11 @@ namedIn (m ∷ ms) w = pickFound (sameBytes w (row m .name)) (Is m) (namedIn ms 
 unfoldable pub memberOf : List ℕ → Found
 memberOf w = namedIn members w
 
+-- its name, and no bytes where there is none
+abbrev pub nameOf : Found → List ℕ
+nameOf (Is m) = row m .name
+nameOf Unknown = []
+
 abbrev pub isUnknown : Found → Bool
 isUnknown (Is m) = false
 isUnknown Unknown = true

@@ -11,9 +11,9 @@ use native.Mathlib.Omega.{arith}
 use lib.Dec.{eqb, leb}
 use lib.ListN.{length, getD, take, drop, replicate, drop-of-length-le, length-take, length-append, length-replicate}
 use lib.Seq.{take-at, getD-take, ext-getD}
-use borrow.Author.Tests.{eqb-true, eq-eqb, leb-true}
+use borrow.Author.Tests.{ne-eqb, eqb-true, eq-eqb, leb-true}
 use Rattle.language.specs.Names.{bytes}
-use Rattle.language.specs.Members.{row, members, memberNumber, foundIn, memberAt, sameBytes, pickFound, namedIn, memberOf, padded}
+use Rattle.language.specs.Members.{row, members, memberNumber, foundIn, memberAt, sameBytes, pickFound, namedIn, memberOf, nameOf, padded}
 use Rattle.language.specs.declared.members.Member.{Member}
 use Rattle.language.specs.declared.members.Member.the-variants.{Add, Sub, Mul, Div, Gt, Eq, Skip, Take, Count, Sum, Min, Max, At, CountWhere, LongestRun, SumBy}
 use Rattle.language.specs.declared.members.Name.{Name}
@@ -159,36 +159,32 @@ name-own w m e = named-in members w m e
 -- ---- the search for a name, row by row
 
 rest-row : (ms : List Member) (n : ℕ) (w : List ℕ) → n < length ms
-    → namedIn (drop n ms) w ≡ pickFound (sameBytes w (row (getD ms n Add) .name)) (foundIn ms n) (namedIn (drop (suc n) ms) w)
+    → namedIn (drop n ms) w ≡ pickFound (sameBytes w (nameOf (foundIn ms n))) (foundIn ms n) (namedIn (drop (suc n) ms) w)
 unfolding namedIn
 rest-row [] n w h = absurd (omega arith)
 rest-row (m ∷ ms) zero w h = refl
 rest-row (m ∷ ms) (suc n) w h = rest-row ms n w (omega arith)
 
 module _ (n : ℕ) (w : List ℕ) (h : n < length members) where
-  pub row-is : sameBytes w (row (getD members n Add) .name) ≡ true → memberAt n ≡ namedIn (drop n members) w
+  pub row-is : sameBytes w (nameOf (memberAt n)) ≡ true → memberAt n ≡ namedIn (drop n members) w
   unfolding memberAt
   row-is e = rw (rest-row members n w h, e)
 
-  pub row-not : sameBytes w (row (getD members n Add) .name) ≡ false → namedIn (drop (n + 1) members) w ≡ namedIn (drop n members) w
+  pub row-not : sameBytes w (nameOf (memberAt n)) ≡ false → namedIn (drop (n + 1) members) w ≡ namedIn (drop n members) w
+  unfolding memberAt
   row-not e = rw (add-one, rest-row members n w h, e)
 
 pub row-none : (n : ℕ) (w : List ℕ) → length members ≤ n → namedIn (drop n members) w ≡ Unknown
 unfolding namedIn
 row-none n w h = rw (drop-of-length-le members h)
 
--- ---- the names as the code has them: in the order of the members
+-- ---- the names as the code has them
 
-column : {A : Type 0} (g : Member → A) (ms : List Member) (n : ℕ) (d : A) → n < length ms → getD (map g ms) n d ≡ g (getD ms n Add)
-column g [] n d h = absurd (omega arith)
-column g (m ∷ ms) zero d h = refl
-column g (m ∷ ms) (suc n) d h = column g ms n d (omega arith)
-
-name-short : (m : Member) → padded m .1 ≤ 12
+pub name-short : (m : Member) → padded m .1 ≤ 12
 unfolding padded row bytes
 name-short m = leb-true (length (row m .name)) 12 (each (λ k. leb (length (row k .name)) 12) refl m)
 
-name-full : (m : Member) → length (padded m .0) ≡ 12
+pub name-full : (m : Member) → length (padded m .0) ≡ 12
 unfolding padded
 name-full m =
     let short = name-short m in
@@ -200,16 +196,19 @@ name-taken : (m : Member) → take (padded m .1) (padded m .0) ≡ row m .name
 unfolding padded
 name-taken m = take-at (row m .name) (replicate (12 - length (row m .name)) 0) (length (row m .name)) refl
 
-module _ (n : ℕ) (d : Name) (h : n < length members) where
-  named-at : getD (map padded members) n d ≡ padded (getD members n Add)
-  named-at = column padded members n d h
+no-bytes : (w : List ℕ) → sameBytes w [] ≡ eqb (length w) 0
+unfolding sameBytes
+no-bytes [] = refl
+no-bytes (b ∷ w) = sym (ne-eqb (suc (length w)) 0 (λ e. omega arith))
 
-  pub name-fits : (getD (map padded members) n d .1 ≤ 12) × (length (getD (map padded members) n d .0) ≡ 12)
-  name-fits = rw named-at (name-short _, name-full _)
+-- what the test of a number's name comes to
+module _ (w : List ℕ) (n : ℕ) where
+  pub named-row : (b : Bool) (m : Member) (x : Name) → b ≡ sameBytes w (take (x .1) (x .0)) → x ≡ padded m → memberAt n ≡ Is m → b ≡ sameBytes w (nameOf (memberAt n))
+  named-row b m x e h k =
+      e ∙ ap (λ (y : Name). sameBytes w (take (y .1) (y .0))) h ∙ ap (sameBytes w) (name-taken m) ∙ ap (λ (f : Found). sameBytes w (nameOf f)) (sym k)
 
-  pub name-test : (b : Bool) (w : List ℕ) → b ≡ sameBytes w (take (getD (map padded members) n d .1) (getD (map padded members) n d .0))
-      → b ≡ sameBytes w (row (getD members n Add) .name)
-  name-test b w e = e ∙ ap (λ (x : Name). sameBytes w (take (x .1) (x .0))) named-at ∙ ap (sameBytes w) (name-taken _)
+  pub named-none : memberAt n ≡ Unknown → eqb (length w) 0 ≡ sameBytes w (nameOf (memberAt n))
+  named-none k = sym (no-bytes w) ∙ ap (λ (f : Found). sameBytes w (nameOf f)) (sym k)
 
 -- a word against the first s bytes of a row's name
 module _ (w name : List ℕ) (s : ℕ) (full : s ≤ length name) where

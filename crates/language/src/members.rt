@@ -2,7 +2,7 @@
 ghost use mathlib.Core.Path.{_≡_};
 ghost use Prim.Native.Nat.{_≤_};
 ghost use lib.ListN.{length, take};
-ghost use Rattle.language.specs.Members.{listed, argumentsOf, receiverOf, argumentOf, row, memberNumber, memberAt, sameBytes, memberOf};
+ghost use Rattle.language.specs.Members.{listed, argumentsOf, receiverOf, argumentOf, row, memberNumber, memberAt, sameBytes, memberOf, nameOf, padded};
 
 pub enum Member {
     Add,
@@ -50,28 +50,6 @@ struct Name(pub [u8; 12], pub u8);
 // How many members there are.
 pub const MEMBERS: usize = 16;
 
-// The member table has two columns: the names, in the order of the members' numbers, and the signatures, which signature_of gives. Reader and evaluator
-// look members up here alone. A constant array is laid out anew at each look-up: the reader searches the whole column, so that costs it
-// nothing, but an application of a member would take twice as long.
-const NAMES: [Name; MEMBERS] = [
-    Name(*b"add\0\0\0\0\0\0\0\0\0", 3),
-    Name(*b"sub\0\0\0\0\0\0\0\0\0", 3),
-    Name(*b"mul\0\0\0\0\0\0\0\0\0", 3),
-    Name(*b"div\0\0\0\0\0\0\0\0\0", 3),
-    Name(*b"gt\0\0\0\0\0\0\0\0\0\0", 2),
-    Name(*b"eq\0\0\0\0\0\0\0\0\0\0", 2),
-    Name(*b"skip\0\0\0\0\0\0\0\0", 4),
-    Name(*b"take\0\0\0\0\0\0\0\0", 4),
-    Name(*b"count\0\0\0\0\0\0\0", 5),
-    Name(*b"sum\0\0\0\0\0\0\0\0\0", 3),
-    Name(*b"min\0\0\0\0\0\0\0\0\0", 3),
-    Name(*b"max\0\0\0\0\0\0\0\0\0", 3),
-    Name(*b"at\0\0\0\0\0\0\0\0\0\0", 2),
-    Name(*b"countWhere\0\0", 10),
-    Name(*b"longestRun\0\0", 10),
-    Name(*b"sumBy\0\0\0\0\0\0\0", 5),
-];
-
 // The member of a number.
 pub fn member_at(n: u8) -> Found
     ensures { λ r. ⌜ r ≡ memberAt n ⌝ }
@@ -118,6 +96,31 @@ pub fn number_of(m: Member) -> u8
         Member::CountWhere => 13,
         Member::LongestRun => 14,
         Member::SumBy => 15,
+    }
+}
+
+// The member table: a name and a signature for each member. Reader and evaluator look members up here alone. It goes by cases: a constant
+// array is laid out anew at each look-up, on the stack of the reader at every open mark.
+fn name_of(m: Member) -> Name
+    ensures { λ r. ⌜ r ≡ padded m ⌝ }
+{
+    match m {
+        Member::Add => Name(*b"add\0\0\0\0\0\0\0\0\0", 3),
+        Member::Sub => Name(*b"sub\0\0\0\0\0\0\0\0\0", 3),
+        Member::Mul => Name(*b"mul\0\0\0\0\0\0\0\0\0", 3),
+        Member::Div => Name(*b"div\0\0\0\0\0\0\0\0\0", 3),
+        Member::Gt => Name(*b"gt\0\0\0\0\0\0\0\0\0\0", 2),
+        Member::Eq => Name(*b"eq\0\0\0\0\0\0\0\0\0\0", 2),
+        Member::Skip => Name(*b"skip\0\0\0\0\0\0\0\0", 4),
+        Member::Take => Name(*b"take\0\0\0\0\0\0\0\0", 4),
+        Member::Count => Name(*b"count\0\0\0\0\0\0\0", 5),
+        Member::Sum => Name(*b"sum\0\0\0\0\0\0\0\0\0", 3),
+        Member::Min => Name(*b"min\0\0\0\0\0\0\0\0\0", 3),
+        Member::Max => Name(*b"max\0\0\0\0\0\0\0\0\0", 3),
+        Member::At => Name(*b"at\0\0\0\0\0\0\0\0\0\0", 2),
+        Member::CountWhere => Name(*b"countWhere\0\0", 10),
+        Member::LongestRun => Name(*b"longestRun\0\0", 10),
+        Member::SumBy => Name(*b"sumBy\0\0\0\0\0\0\0", 5),
     }
 }
 
@@ -219,14 +222,23 @@ fn has_name(name: Name, word: &[u8]) -> bool
     true
 }
 
+// Whether the word is the name of member n.
+fn is_named(n: u8, word: &[u8]) -> bool
+    ensures { λ r. ⌜ r ≡ sameBytes (now (word .entry)) (nameOf (memberAt n)) ⌝ }
+{
+    match member_at(n) {
+        Found::Is(m) => has_name(name_of(m), word),
+        Found::Unknown => word.len() == 0,
+    }
+}
+
 // The member of a name.
 pub fn named(word: &[u8]) -> Found
     ensures { λ r. ⌜ r ≡ memberOf (now (word .entry)) ⌝ }
 {
-    let names = NAMES;
     let mut n: u8 = 0;
     while (n as usize) < MEMBERS {
-        if has_name(names[n as usize], word) {
+        if is_named(n, word) {
             return member_at(n);
         }
         n += 1;
