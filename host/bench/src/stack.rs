@@ -118,16 +118,16 @@ fn bytes(case: &str, used: f64, figures: &mut Figures) {
 }
 
 fn edits(readings: &[i32], figures: &mut Figures) {
-    let mut edit = |name: &str, text: &[u8], refusal: u32| {
-        let mut cache = Cache::new(readings);
+    let mut edit = |name: &str, mut cache: Cache, text: &[u8], refusal: u32| {
         let edit = used(|| assert_eq!(cache.edit(text).refusal, refusal));
         bytes(&format!("edit: {name}"), edit, figures);
     };
     for (name, text) in texts() {
-        edit(name, &text, 0);
+        edit(name, Cache::new(readings), &text, 0);
     }
     let refused = texts::one_mark_too_many();
-    edit("17 open marks: calls in arguments, on brackets; refused", &refused, 12);
+    edit("17 open marks: calls in arguments, on brackets; refused", Cache::new(readings), &refused, 12);
+    edit("512 entries held, no new one", tables::full(readings), b"data", 0);
 }
 
 /// A preview of the last entry.
