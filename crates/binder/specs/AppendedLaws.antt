@@ -1,7 +1,7 @@
 -- A cache after entries are appended: those held stay as they are, the new ones have nothing kept, and the cache stays well-formed where
 -- each new entry is right, new, and awaits two names at most. Assumes nothing.
 use mathlib.Core.Path.{_≡_, refl, sym, ap, _∙_, subst}
-use mathlib.Core.Bool.{Bool, true, false, _&&_}
+use mathlib.Core.Bool.{Bool, true, false, _&&_, and-eq-true-iff}
 use mathlib.Core.List.{List, [], _∷_, _++_}
 use Prim.Native.Nat.{ℕ, zero, suc, _+_, _≤_, _<_}
 use native.Mathlib.Decide.{decLt}
@@ -10,8 +10,7 @@ use borrow.Author.Tests.{leb-true, le-leb}
 use lib.Dec.{eqb, leb}
 use lib.ListN.{length, length-set}
 use lib.Seq.{getD-set-same, getD-set-other}
-use Rattle.meaning.specs.FormsLaws.{no-way, and-left, and-right}
-use Rattle.meaning.specs.EvaluationLaws.{split}
+use Rattle.language.specs.Cases.{impossible, split}
 use Rattle.layout.specs.Links.{secondIndex, otherIndex, linksWith, cellsWith}
 use Rattle.layout.specs.LinksLaws.{links-length, links-apart, links-here, cells-length, cells-apart, cells-kept, cells-key, cells-nothing}
 use Rattle.layout.specs.Memory.{Memory, Node, Entry, nothingKept, fits, entryCount, readingCount, nodeAt, entryAt, entriesFrom, entriesOf}
@@ -71,7 +70,9 @@ module _ (links cells : List ℕ) (k : ℕ) (n : Node) where
       let q : 0 + k ≡ k = omega arith in
       entries-last links′ cells′ 0 k ∙ rw (entries-old 0 k (omega arith), q, entry-new hl hc)
 
-append-as : (m : Memory) (n : Node) (j : ℕ) → entriesFrom (append m n .links) (append m n .cells) 0 j ≡ entriesFrom (linksWith (m .links) (entryCount m) (n .kind) (n .first) (n .second)) (cellsWith (m .cells) (entryCount m) (n .key)) 0 j
+append-as : (m : Memory) (n : Node) (j : ℕ)
+    → entriesFrom (append m n .links) (append m n .cells) 0 j
+    ≡ entriesFrom (linksWith (m .links) (entryCount m) (n .kind) (n .first) (n .second)) (cellsWith (m .cells) (entryCount m) (n .key)) 0 j
 unfolding append
 append-as m n j = refl
 
@@ -93,10 +94,7 @@ module _ (m : Memory) (n : Node) where
     pub append-entries : entryCount m < 512 → entriesOf (append m n) ≡ entriesOf m ++ (newEntry n ∷ [])
     append-entries h =
         let w = whole-is m f in
-        rw append-count (at-count ∙ entries-more (m .links) (m .cells) (entryCount m) n (omega arith) (omega arith))
-      where
-        at-count : entriesFrom (append m n .links) (append m n .cells) 0 (suc (entryCount m)) ≡ entriesFrom (linksWith (m .links) (entryCount m) (n .kind) (n .first) (n .second)) (cellsWith (m .cells) (entryCount m) (n .key)) 0 (suc (entryCount m))
-        at-count = append-as m n (suc (entryCount m))
+        rw append-count (append-as m n (suc (entryCount m)) ∙ entries-more (m .links) (m .cells) (entryCount m) n (omega arith) (omega arith))
 
 pub append-all-fits : (m : Memory) (ns : List Node) → fits (appendAll m ns) ≡ fits m
 unfolding appendAll
@@ -119,17 +117,18 @@ pub well-parts : (m : Memory) → wellFormed m ≡ true → Well m
 unfolding entriesRight
 well-parts m w =
     let e = sym (well-is (m .readings) (m .heads) (m .links) (m .cells)) ∙ w in
-    let r = and-right (leb (entryCount m) 512) _ e in
-    let a = and-right (leb (readingCount m) 1024) _ r in
-    let b = and-right (allFrom (rightAt (m .links) (m .cells)) (entryCount m) 0) _ a in
-    let c = and-right (distinct (numbered (nodeAt (m .links) (m .cells)) 0 (entryCount m))) _ b in
+    let r = and-eq-true-iff (leb (entryCount m) 512) _ .0 e .1 in
+    let a = and-eq-true-iff (leb (readingCount m) 1024) _ .0 r .1 in
+    let b = and-eq-true-iff (allFrom (rightAt (m .links) (m .cells)) (entryCount m) 0) _ .0 a .1 in
+    let c = and-eq-true-iff (distinct (numbered (nodeAt (m .links) (m .cells)) 0 (entryCount m))) _ .0 b .1 in
+    let d = and-eq-true-iff (awaitsFew (numbered (nodeAt (m .links) (m .cells)) 0 (entryCount m))) _ .0 c .1 in
     record {
-      few = leb-true (entryCount m) 512 (and-left _ _ e);
-      readings = leb-true (readingCount m) 1024 (and-left _ _ r);
-      right = λ i l. right-at (m .links) (m .cells) (entryCount m) i (and-left _ _ a) l;
-      apart = and-left _ _ b;
-      names = and-left _ _ c;
-      kept = λ i l. at-zero (keptOk (m .links) (m .cells) (entryCount m) (readingCount m)) (entryCount m) i (and-right (awaitsFew (numbered (nodeAt (m .links) (m .cells)) 0 (entryCount m))) _ c) l;
+      few = leb-true (entryCount m) 512 (and-eq-true-iff _ _ .0 e .0);
+      readings = leb-true (readingCount m) 1024 (and-eq-true-iff _ _ .0 r .0);
+      right = λ i l. right-at (m .links) (m .cells) (entryCount m) i (and-eq-true-iff _ _ .0 a .0) l;
+      apart = and-eq-true-iff _ _ .0 b .0;
+      names = and-eq-true-iff _ _ .0 c .0;
+      kept = λ i l. at-zero (keptOk (m .links) (m .cells) (entryCount m) (readingCount m)) (entryCount m) i d l;
     }
 
 pub well-from : (m : Memory) → Well m → wellFormed m ≡ true
@@ -156,12 +155,12 @@ and-true a b p q = rw (p, q)
 every-snoc : {A : Type 0} (p : A → Bool) (i : ℕ) (xs : List A) (x : A) → every (λ (k : ℕ) (y : A). p y) i xs ≡ true → p x ≡ true → every (λ (k : ℕ) (y : A). p y) i (xs ++ (x ∷ [])) ≡ true
 unfolding every
 every-snoc p i [] x h e = rw e
-every-snoc p i (y ∷ ys) x h e = and-true (p y) _ (and-left _ _ h) (every-snoc p (suc i) ys x (and-right (p y) _ h) e)
+every-snoc p i (y ∷ ys) x h e = and-true (p y) _ (and-eq-true-iff _ _ .0 h .0) (every-snoc p (suc i) ys x (and-eq-true-iff (p y) _ .0 h .1) e)
 
 -- what is worked out stays so
 done-more : (es : List Entry) (x : Entry) (i : ℕ) → doneAt es i ≡ true → doneAt (es ++ (x ∷ [])) i ≡ true
 unfolding doneAt
-done-more [] x i h = no-way h
+done-more [] x i h = impossible h
 done-more (e ∷ es) x zero h = h
 done-more (e ∷ es) x (suc i) h = done-more es x i h
 
@@ -170,7 +169,7 @@ module _ (es later : List Entry) (stays : (i : ℕ) → doneAt es i ≡ true →
   all-done-later : (is : List ℕ) → allDone es is ≡ true → allDone later is ≡ true
   unfolding allDone
   all-done-later [] h = refl
-  all-done-later (i ∷ is) h = rw (stays i (and-left _ _ h), all-done-later is (and-right (doneAt es i) _ h))
+  all-done-later (i ∷ is) h = rw (stays i (and-eq-true-iff _ _ .0 h .0), all-done-later is (and-eq-true-iff (doneAt es i) _ .0 h .1))
 
   pub settled-later : (e : Entry) → settled es e ≡ true → settled later e ≡ true
   settled-later e h = split (eqb (e .kept .value) 0) (λ p. rw p) (λ p. rw p (all-done-later (kids (e .node)) (rw p at h)))
@@ -229,8 +228,8 @@ module _ (m : Memory) (n : Node) (f : fits m ≡ true) (w : Well m) (room : entr
             let h = w .kept i less in
             subst (λ (e : Entry). (settled (old ++ (newEntry n ∷ [])) e && keptRight (readingCount m) e) ≡ true) (sym (entry-old (m .links) (m .cells) k n i less))
             (and-true _ _
-            (settled-later old (old ++ (newEntry n ∷ [])) (done-more old (newEntry n)) (entryAt (m .links) (m .cells) i) (and-left _ _ h))
-            (and-right (settled old (entryAt (m .links) (m .cells) i)) _ h))
+            (settled-later old (old ++ (newEntry n ∷ [])) (done-more old (newEntry n)) (entryAt (m .links) (m .cells) i) (and-eq-true-iff _ _ .0 h .0))
+            (and-eq-true-iff (settled old (entryAt (m .links) (m .cells) i)) _ .0 h .1))
         | no most ↦
             let q : i ≡ k = omega arith in
             subst (λ (e : Entry). (settled (old ++ (newEntry n ∷ [])) e && keptRight (readingCount m) e) ≡ true) (sym (ap (entryAt ls cs) q ∙ last-entry))

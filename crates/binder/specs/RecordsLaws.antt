@@ -202,7 +202,10 @@ module _ (links cells : List ℕ) (count total : ℕ) (records : List ℕ) (r : 
           high = omega arith;
           places = length-set numbers r total ∙ ready .places;
           room = ap length qf ∙ fresh-length ∙ y;
-          chained = chained-more (heldAt links cells count fresh′) chain chain′ total h (chained-agree ν (heldAt links cells count fresh′) chain total (ready .chained) old) qg (qh ∙ ap hashOf (sym last)) (hash-low h m qh) (omega arith);
+          chained =
+              chained-more (heldAt links cells count fresh′) chain chain′ total h
+              (chained-agree ν (heldAt links cells count fresh′) chain total (ready .chained) old)
+              qg (qh ∙ ap hashOf (sym last)) (hash-low h m qh) (omega arith);
           apart = ap distinct more ∙ distinct-snoc m ns ∙ rw (ready .apart, has-last ν m total, ← qc) (rw none);
           known = known-more numbers r total (ready .known) (omega arith) (ready .places) few;
         };
@@ -276,7 +279,8 @@ module _ (links cells : List ℕ) (count : ℕ) (records : List ℕ) (n total : 
       sym (ap (λ (b : Bound). b .nodes) (all .is)) ∙ ap (numbered (heldAt links cells count fresh) 0) (sym z)
       ∙ numbered-split (heldAt links cells count fresh) (freshAt fresh) 0 count (total - count)
       (λ j. let q : 0 + count + j - count ≡ j = omega arith in held-back links cells count fresh (0 + count + j) (omega arith) ∙ ap (freshAt fresh) q)
-      ∙ ap (λ (ns : List Node). ns ++ numbered (freshAt fresh) 0 (total - count)) (numbered-agree (heldAt links cells count fresh) (nodeAt links cells) 0 count (λ j m. held-front links cells count fresh j (omega arith)))
+      ∙ ap (λ (ns : List Node). ns ++ numbered (freshAt fresh) 0 (total - count))
+      (numbered-agree (heldAt links cells count fresh) (nodeAt links cells) 0 count (λ j m. held-front links cells count fresh j (omega arith)))
 
   -- exactly the new entries wait
   pub bound-waits : numbered (freshAt fresh) 0 (total - count) ≡ drop count (after .nodes)

@@ -1,6 +1,6 @@
 -- The writes of an accepted edit are those of the definition. Assumes nothing.
 use mathlib.Core.Path.{_≡_, refl, sym, ap, _∙_}
-use mathlib.Core.Bool.{true}
+use mathlib.Core.Bool.{true, and-eq-true-iff}
 use mathlib.Core.List.{List, [], _∷_, map, map-append, append-assoc}
 use Prim.Native.Nat.{ℕ, suc, _+_, _-_, _≤_, _<_}
 use native.Mathlib.Nat.{sub-zero}
@@ -12,7 +12,6 @@ use lib.IntN.{ℤ}
 use lib.ListN.{length, getD, set, take, drop, length-append, length-map}
 use lib.Seq.{getD-set-same, take-suc, drop-cons, set-at, length-take-le}
 use Rattle.language.specs.Limits.{tableReadings}
-use Rattle.meaning.specs.FormsLaws.{and-left, and-right}
 use Rattle.layout.specs.Links.{tableLinks, tableCells, linksWith, cellsWith}
 use Rattle.layout.specs.Memory.{Memory, Node, fits}
 use Rattle.table.specs.Bind.{append, appendAll}
@@ -23,7 +22,8 @@ use Rattle.table.specs.ChainLaws.{numbered-zero}
 use Rattle.table.specs.Checked.{memory}
 use Rattle.binder.specs.Written.{Whole, placed}
 
-pub append-is : (heads links cells heads′ links′ cells′ : List ℕ) (k : ℕ) (n : Node) → k ≡ getD heads 0 0 → links′ ≡ linksWith links k (n .kind) (n .first) (n .second) → cells′ ≡ cellsWith cells k (n .key)
+pub append-is : (heads links cells heads′ links′ cells′ : List ℕ) (k : ℕ) (n : Node) → k ≡ getD heads 0 0
+    → links′ ≡ linksWith links k (n .kind) (n .first) (n .second) → cells′ ≡ cellsWith cells k (n .key)
     → heads′ ≡ set heads 0 (k + 1) → (readings : List ℤ) → memory readings heads′ links′ cells′ ≡ append (memory readings heads links cells) n
 unfolding append
 append-is heads links cells heads′ links′ cells′ k n q p c h readings = rw (h, p, c, q, add-one (getD heads 0 0))
@@ -35,12 +35,12 @@ append-none m = refl
 pub whole-is : (m : Memory) → fits m ≡ true → Whole (m .heads) (m .links) (m .cells)
 unfolding fits
 whole-is m e =
-    let r = and-right (leb tableReadings (length (m .readings))) _ e in
-    let l = and-right (leb 2 (length (m .heads))) _ r in
+    let r = and-eq-true-iff (leb tableReadings (length (m .readings))) _ .0 e .1 in
+    let l = and-eq-true-iff (leb 2 (length (m .heads))) _ .0 r .1 in
     record {
-      in-heads = leb-true 2 (length (m .heads)) (and-left _ _ r);
-      in-links = leb-true tableLinks (length (m .links)) (and-left _ _ l);
-      in-cells = leb-true tableCells (length (m .cells)) (and-right (leb tableLinks (length (m .links))) _ l);
+      in-heads = leb-true 2 (length (m .heads)) (and-eq-true-iff _ _ .0 r .0);
+      in-links = leb-true tableLinks (length (m .links)) (and-eq-true-iff _ _ .0 l .0);
+      in-cells = leb-true tableCells (length (m .cells)) (and-eq-true-iff (leb tableLinks (length (m .links))) _ .0 l .1);
     }
 
 -- the loop over the entries that wait

@@ -1,7 +1,7 @@
 -- The table's nodes as the model's graph: a node with its dependencies' forms builds its form, and equal forms have equal nodes.
 -- Assumes nothing.
 use mathlib.Core.Path.{_≡_, refl, sym, ap, _∙_, subst}
-use mathlib.Core.Bool.{Bool, true, false, and-eq-true-iff}
+use mathlib.Core.Bool.{Bool, true, false, and-eq-true-iff, cond}
 use mathlib.Core.List.{List, [], _∷_}
 use Prim.Native.Nat.{ℕ, zero, suc, _-_}
 use borrow.Author.Tests.{eqb-true, eq-eqb}
@@ -19,7 +19,7 @@ use Rattle.model.specs.ListLaws.{Equality}
 use Rattle.model.specs.Graph.{among, Graph, GraphLaws}
 use Rattle.layout.specs.Memory.{Node, node}
 use Rattle.records.specs.Records.{numberKey}
-use Rattle.layout.specs.Nodes.{numberKind, variableKind, unboundKind, readingsKind, functionKind, memberKind, pickForm}
+use Rattle.layout.specs.Nodes.{numberKind, variableKind, unboundKind, readingsKind, functionKind, memberKind}
 use Rattle.layout.specs.Nodes.{memberOfKind, memberArity, memberForm, arity, listed, kids, sameNode, numberOfKey, build}
 use Rattle.table.specs.NodeKinds.{Fine, aNumber, aVariable, anUnbound, theReadings, aFunction, anAsk, aCall, less-one, member-arity, build-ask, build-call}
 use Rattle.formulas.specs.Formulas.{formulas}
@@ -208,14 +208,14 @@ agree-member (Is m) n φ ψ h = by (row m .arguments) refl
         rw (a, b)
 
 agree-works : (n : Node) (φ ψ : ℕ → Form) → ((j : ℕ) → among j (kids n) ≡ true → φ j ≡ ψ j)
-    → pickForm (eqb (n .kind) functionKind) (function (n .key) (φ (n .first - 1))) (memberForm (memberOfKind (n .kind)) (φ (n .first - 1)) (φ (n .second - 1)))
-    ≡ pickForm (eqb (n .kind) functionKind) (function (n .key) (ψ (n .first - 1))) (memberForm (memberOfKind (n .kind)) (ψ (n .first - 1)) (ψ (n .second - 1)))
+    → cond (eqb (n .kind) functionKind) (function (n .key) (φ (n .first - 1))) (memberForm (memberOfKind (n .kind)) (φ (n .first - 1)) (φ (n .second - 1)))
+    ≡ cond (eqb (n .kind) functionKind) (function (n .key) (ψ (n .first - 1))) (memberForm (memberOfKind (n .kind)) (ψ (n .first - 1)) (ψ (n .second - 1)))
 unfolding kids arity
 agree-works n φ ψ h = by (eqb (n .kind) functionKind) refl
   where
     by : (b : Bool) → eqb (n .kind) functionKind ≡ b
-        → pickForm b (function (n .key) (φ (n .first - 1))) (memberForm (memberOfKind (n .kind)) (φ (n .first - 1)) (φ (n .second - 1)))
-        ≡ pickForm b (function (n .key) (ψ (n .first - 1))) (memberForm (memberOfKind (n .kind)) (ψ (n .first - 1)) (ψ (n .second - 1)))
+        → cond b (function (n .key) (φ (n .first - 1))) (memberForm (memberOfKind (n .kind)) (φ (n .first - 1)) (φ (n .second - 1)))
+        ≡ cond b (function (n .key) (ψ (n .first - 1))) (memberForm (memberOfKind (n .kind)) (ψ (n .first - 1)) (ψ (n .second - 1)))
     by true e = ap (function (n .key)) (h (n .first - 1) (rw e (among-first (n .first - 1) [])))
     by false e = agree-member (memberOfKind (n .kind)) n φ ψ (λ j a. h j (rw e a))
 
@@ -223,10 +223,10 @@ agree-of : (n : Node) (φ ψ : ℕ → Form) → ((j : ℕ) → among j (kids n)
 unfolding build
 agree-of n φ ψ h =
     λ i.
-    pickForm (eqb (n .kind) numberKind) (number (numberOfKey (n .key)))
-    (pickForm (eqb (n .kind) variableKind) (variable (n .key))
-    (pickForm (eqb (n .kind) unboundKind) (unbound (n .key))
-    (pickForm (eqb (n .kind) readingsKind) readings (agree-works n φ ψ h i))))
+    cond (eqb (n .kind) numberKind) (number (numberOfKey (n .key)))
+    (cond (eqb (n .kind) variableKind) (variable (n .key))
+    (cond (eqb (n .kind) unboundKind) (unbound (n .key))
+    (cond (eqb (n .kind) readingsKind) readings (agree-works n φ ψ h i))))
 
 pub graph-laws : GraphLaws formulas nodes
 graph-laws =

@@ -43,7 +43,8 @@ module _ (heads links cells : List ℕ) (well : (readings : List ℤ) → wellFo
       and-eq-true-iff _ _ .0 (and-eq-true-iff (allFrom (rightAt links cells) count 0) _ .0 entries .1) .0
 
 -- What an accepted plan promises to the writes.
-pub plan-room : (links cells text : List ℕ) (count : ℕ) (p : Plan) (P N F : List ℕ) → ((readings : List ℤ) (heads : List ℕ) → getD heads 0 0 ≡ count → Planned (memory readings heads links cells) text p P N F)
+pub plan-room : (links cells text : List ℕ) (count : ℕ) (p : Plan) (P N F : List ℕ)
+    → ((readings : List ℤ) (heads : List ℕ) → getD heads 0 0 ≡ count → Planned (memory readings heads links cells) text p P N F)
     → p .number ≡ 0 → (count ≤ p .total) × (p .total ≤ 512) × (p .parts ≤ 128) × (length P ≡ 128)
 plan-room links cells text count p P N F plans z = let a = plans [] (count ∷ []) refl .accepted z in (a .low, a .high, a .few, a .room)
 

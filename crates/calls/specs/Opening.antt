@@ -1,7 +1,7 @@
 -- Laws of open, each with a premise for every call and test on the code's way: the test of the lent memory, the copy of the recording, and
 -- the answers. Assumes nothing.
 use mathlib.Core.Path.{_≡_, sym, _∙_}
-use mathlib.Core.Bool.{Bool, true, false}
+use mathlib.Core.Bool.{Bool, true, false, and-eq-true-iff}
 use mathlib.Core.List.{List, _++_, append-assoc}
 use Prim.Native.Nat.{ℕ, suc, _+_, _≤_, _<_}
 use native.Mathlib.Numerals.{add-one}
@@ -10,7 +10,6 @@ use borrow.Author.Tests.{lt-ltb, le-ltb, leb-true}
 use lib.IntN.{ℤ, pos}
 use lib.ListN.{length, getD, set, take, drop}
 use lib.Seq.{take-suc, drop-cons, set-at, length-take-le, take-length}
-use Rattle.meaning.specs.FormsLaws.{and-left}
 use Rattle.layout.specs.Memory.{Memory, fits}
 use Rattle.table.specs.Checked.{memory}
 use Rattle.binder.specs.Written.{Whole}
@@ -42,7 +41,7 @@ module _ (rs : List ℤ) (heads links cells : List ℕ) (b : Bool) (q : b ≡ fi
   fits-room t =
       let e : fits (memory rs heads links cells) ≡ true = sym q ∙ t in
       let w : Whole heads links cells = whole-is (memory rs heads links cells) e in
-      record { in-readings = leb-true 1024 (length rs) (and-left _ _ e); in-heads = w .in-heads; in-links = w .in-links; in-cells = w .in-cells }
+      record { in-readings = leb-true 1024 (length rs) (and-eq-true-iff _ _ .0 e .0); in-heads = w .in-heads; in-links = w .in-links; in-cells = w .in-cells }
 
   -- the answers, and what is left in the memory
   module _ (xs : List ℤ) where

@@ -1,7 +1,7 @@
 -- The tests that come before a preview and a fetch, and laws of both, each with a premise for every call and test on the code's way. That a
 -- fetched part lies within the readings follows from well-formedness. Assumes nothing.
 use mathlib.Core.Path.{_≡_, sym, ap, _∙_}
-use mathlib.Core.Bool.{Bool, true, false, cond, _&&_, _||_}
+use mathlib.Core.Bool.{Bool, true, false, cond, _&&_, _||_, and-eq-true-iff}
 use mathlib.Core.List.{List}
 use Prim.Native.Nat.{ℕ, _+_, _-_, _%_, _≤_, _<_}
 use native.Mathlib.Omega.{arith}
@@ -10,8 +10,7 @@ use lib.Dec.{ltb, leb, eqb}
 use lib.IntN.{ℤ}
 use lib.ListN.{length, getD, take, drop}
 use lib.Seq.{length-take-le}
-use Rattle.meaning.specs.FormsLaws.{and-left, and-right}
-use Rattle.meaning.specs.EvaluationLaws.{split}
+use Rattle.language.specs.Cases.{split}
 use Rattle.layout.specs.Memory.{Memory, fits, entryCount, readingCount, nodeAt, keptAt}
 use Rattle.table.specs.WellFormed.{namesRight, keptRight, wellFormed}
 use Rattle.table.specs.Checked.{memory, entriesRight}
@@ -79,8 +78,8 @@ accepted m n e =
 
 passes-all : (m : Memory) (n : ℕ) → (fits m && (wellFormed m && ltb n (entryCount m))) ≡ true → Accepted m n
 passes-all m n t =
-    let u = and-right (fits m) _ t in
-    record { whole = and-left _ _ t; well = and-left _ _ u; held = and-right (wellFormed m) _ u }
+    let u = and-eq-true-iff (fits m) _ .0 t .1 in
+    record { whole = and-eq-true-iff _ _ .0 t .0; well = and-eq-true-iff _ _ .0 u .0; held = and-eq-true-iff (wellFormed m) _ .0 u .1 }
 
 none-refused : (m : Memory) (n : ℕ) → Accepted m n → refusal m n ≡ 0
 unfolding refusal
@@ -97,10 +96,10 @@ pub sizes : (m : Memory) (n : ℕ) → Accepted m n → Sizes m n
 unfolding fits
 sizes m n a =
     let w = sym (well-is (m .readings) (m .heads) (m .links) (m .cells)) ∙ a .well in
-    let e : entryCount m ≤ 512 = leb-true (entryCount m) 512 (and-left _ _ w) in
-    let k : readingCount m ≤ 1024 = leb-true (readingCount m) 1024 (and-left _ _ (and-right (leb (entryCount m) 512) _ w)) in
+    let e : entryCount m ≤ 512 = leb-true (entryCount m) 512 (and-eq-true-iff _ _ .0 w .0) in
+    let k : readingCount m ≤ 1024 = leb-true (readingCount m) 1024 (and-eq-true-iff _ _ .0 (and-eq-true-iff (leb (entryCount m) 512) _ .0 w .1) .0) in
     let h : n < entryCount m = ltb-true n (entryCount m) (a .held) in
-    let l : 1024 ≤ length (m .readings) = leb-true 1024 (length (m .readings)) (and-left _ _ (a .whole)) in
+    let l : 1024 ≤ length (m .readings) = leb-true 1024 (length (m .readings)) (and-eq-true-iff _ _ .0 (a .whole) .0) in
     record { entry = omega arith; few = k; within = omega arith; room = whole-is m (a .whole) .in-cells }
 
 -- ---- preview
@@ -194,10 +193,10 @@ kept-inside : (links cells : List ℕ) (k count n : ℕ) → entriesRight links 
 unfolding keptRight keptAt
 kept-inside links cells k count n e h =
     let c = valueAt cells n in
-    let kept : (eqb c 0 || (leb 4 (nodeAt links cells n .kind) && isPacked c k)) ≡ true = and-right (namesRight (keptAt cells n)) _ (kept-right links cells k count n e h) in
+    let kept : (eqb c 0 || (leb 4 (nodeAt links cells n .kind) && isPacked c k)) ≡ true = and-eq-true-iff (namesRight (keptAt cells n)) _ .0 (kept-right links cells k count n e h) .1 in
     split (eqb c 0)
     (λ t. rw (unpack-number c (omega (arith, eqb-true c 0 t))) tt)
-    (λ t. passes-packs k c (and-right (leb 4 (nodeAt links cells n .kind)) _ (rw t at kept)) .kept .inside)
+    (λ t. passes-packs k c (and-eq-true-iff (leb 4 (nodeAt links cells n .kind)) _ .0 (rw t at kept) .1) .kept .inside)
 
 shown-inside : (m : Memory) (n : ℕ) → Accepted m n → Inside (readingCount m) (unpackOf (startAt (readingCount m) (m .links) (m .cells) n))
 unfolding startAt
@@ -206,7 +205,7 @@ shown-inside m n a =
     split (ltb (kindAt (m .links) n) 4)
     (λ t. rw t (leaf-inside (readingCount m) (kindAt (m .links) n) (keyAt (m .cells) n) (sizes m n a .few)))
     (λ t. rw t (kept-inside (m .links) (m .cells) (readingCount m) (entryCount m) n
-    (and-right (leb (readingCount m) 1024) _ (and-right (leb (entryCount m) 512) _ w)) (ltb-true n (entryCount m) (a .held))))
+    (and-eq-true-iff (leb (readingCount m) 1024) _ .0 (and-eq-true-iff (leb (entryCount m) 512) _ .0 w .1) .1) (ltb-true n (entryCount m) (a .held))))
 
 pub part-within : (m : Memory) (n : ℕ) → partOf m n .start + partOf m n .length ≤ length (m .readings)
 part-within m n =

@@ -1,7 +1,7 @@
 -- A cache that was opened and kept passes every test of refusal 4. Assumes nothing.
 use mathlib.Core.Path.{_≡_, refl, sym, ap, _∙_, subst}
-use mathlib.Core.Bool.{Bool, true, false, not, _||_}
-use mathlib.Core.List.{List, [], _∷_, _++_, map}
+use mathlib.Core.Bool.{Bool, true, false, not, _||_, or-true}
+use mathlib.Core.List.{List, [], _∷_, _++_, map, map-append}
 use mathlib.Core.Logic.{inl, inr}
 use mathlib.Core.Option.{none, some}
 use Prim.Native.Nat.{ℕ, zero, suc, _+_, _-_, _<_, _≤_, _^_}
@@ -11,6 +11,7 @@ use lib.Dec.{eqb, leb, ltb, leb→le}
 use lib.IntN.{ℤ, pos}
 use lib.ListN.{length, getD, getElem?, length-take, length-map, length-append}
 use lib.Signed.{mag}
+use Rattle.language.specs.Cases.{impossible, split}
 use Rattle.language.specs.Limits.{tableEntries, tableReadings}
 use Rattle.language.specs.Members.{row}
 use Rattle.language.specs.MembersLaws.{number-below}
@@ -21,8 +22,7 @@ use Rattle.meaning.specs.FormsLaws.{same-eq, same-self}
 use Rattle.meaning.specs.Evaluation.{awaited, Shown, shows}
 use Rattle.grammar.specs.KeptLimits.{InRange}
 use Rattle.model.specs.Lists.{All, member as isIn}
-use Rattle.model.specs.Cases.{impossible, split}
-use Rattle.model.specs.ListLaws.{nth-below, nth-has, nth-map, getD-nth, all-nth, map-append}
+use Rattle.model.specs.ListLaws.{nth-below, nth-has, nth-map, getD-nth, all-nth}
 use Rattle.model.specs.Model as Model
 use Rattle.model.specs.Forms.{below-held}
 use Rattle.model.specs.Invariant as Inv
@@ -67,7 +67,9 @@ kind-right _ (aCall m f a e) = let l = number-below m in lt-ltb (memberKind m) k
 
 -- a number in range has a key of 32 bits
 key-small : (key : ℕ) → InRange (numberOfKey key) → key < 2 ^ 32
-key-small key h = split (ltb key 2147483648) (λ e. let l = ltb-true key 2147483648 e in omega arith) (λ e. let l = leb→le (key - 2147483648) 2147483647 (rw e at (h .1 .le)) in let m = ltb-false key 2147483648 e in omega arith)
+key-small key h =
+    split (ltb key 2147483648) (λ e. let l = ltb-true key 2147483648 e in omega arith)
+    (λ e. let l = leb→le (key - 2147483648) 2147483647 (rw e at (h .1 .le)) in let m = ltb-false key 2147483648 e in omega arith)
 
 pub key-right : (n : Node) (φ : ℕ → Form) → Fine n → Shape (build n φ) → keyRight n ≡ true
 unfolding keyRight build
@@ -217,10 +219,6 @@ unfolding doneAt
 done-at [] j e h d = impossible (cc)
 done-at (x ∷ es) zero e h d = let q : x ≡ e = cc in rw q d
 done-at (x ∷ es) (suc j) e h d = done-at es j e h d
-
-or-true : (b : Bool) → (b || true) ≡ true
-or-true true = refl
-or-true false = refl
 
 not-zero : (k : ℕ) → eqb k 0 ≡ false → 1 ≤ k
 not-zero zero h = impossible (sym h)

@@ -2,7 +2,7 @@
 -- that it works out is kept as a packed value with the names of that value, and what the entry depends on was worked out before it.
 -- Assumes nothing.
 use mathlib.Core.Path.{_≡_, refl, sym, ap, _∙_, subst}
-use mathlib.Core.Bool.{true, false, not, _&&_, _||_, or-true}
+use mathlib.Core.Bool.{true, false, not, _&&_, _||_, or-true, and-eq-true-iff}
 use mathlib.Core.List.{List}
 use mathlib.Core.Logic.{_⊎_, inl, inr}
 use Prim.Native.Nat.{ℕ, zero, suc, _+_, _-_, _<_, _≤_}
@@ -12,9 +12,9 @@ use lib.Dec.{eqb, leb, ltb}
 use lib.IntN.{ℤ}
 use lib.ListN.{length, getD, set, replicate, length-set, length-take}
 use lib.Seq.{getD-set-same, getD-set-other}
+use Rattle.language.specs.Cases.{impossible, split}
 use Rattle.values.specs.Packing.{isPacked}
 use Rattle.model.specs.Lists.{All, countIf}
-use Rattle.model.specs.Cases.{impossible, split, both}
 use Rattle.layout.specs.Memory.{Memory, Node, Kept, Entry, fits, entryCount, readingCount, recordingOf, nodeAt, keptAt, entryAt, entriesFrom}
 use Rattle.layout.specs.Nodes.{arity, listed, kids, isName}
 use Rattle.table.specs.WellFormed.{keyRight, doneAt, allDone, settled, namesRight, keptRight}
@@ -120,7 +120,7 @@ module _ (m : Memory) (f : fits m ≡ true) (well : Well m) (sound : All IsReadi
 
   done-stays : (now then : List ℕ) → ((j : ℕ) → 1 ≤ valueAt now j → 1 ≤ valueAt then j) → (j : ℕ) → doneAt (entries now) j ≡ true → doneAt (entries then) j ≡ true
   done-stays now then h j d =
-      let b = both (ltb j c) _ (done-as now j ∙ d) in
+      let b = and-eq-true-iff (ltb j c) _ .0 (done-as now j ∙ d) in
       let l = ltb-true j c (b .0) in
       split (leb 4 (kindAt links j))
       (λ e. done-kept then j l (h j (leb-true 1 (valueAt now j) (rw e at (b .1)))))
@@ -169,15 +169,15 @@ module _ (m : Memory) (f : fits m ≡ true) (well : Well m) (sound : All IsReadi
     module _ (h : chosen links flags frame i ≡ true) where
       flagged : Flagged flags i
       unfolding chosen
-      flagged = eqb-true (getD flags i 0) 1 (both (eqb (getD flags i 0) 1) _ h .0)
+      flagged = eqb-true (getD flags i 0) 1 (and-eq-true-iff (eqb (getD flags i 0) 1) _ .0 h .0)
 
       works : leb 4 (kindAt links i) ≡ true
       unfolding chosen
-      works = both (leb 4 (kindAt links i)) _ (both (eqb (getD flags i 0) 1) _ h .1) .0
+      works = and-eq-true-iff (leb 4 (kindAt links i)) _ .0 (and-eq-true-iff (eqb (getD flags i 0) 1) _ .0 h .1) .0
 
       empty : valueAt now i ≡ 0
       unfolding chosen
-      empty = sym (g .work i most works) ∙ eqb-true (getD frame i 0) 0 (both (leb 4 (kindAt links i)) _ (both (eqb (getD flags i 0) 1) _ h .1) .1)
+      empty = sym (g .work i most works) ∙ eqb-true (getD frame i 0) 0 (and-eq-true-iff (leb 4 (kindAt links i)) _ .0 (and-eq-true-iff (eqb (getD flags i 0) 1) _ .0 h .1) .1)
 
       abbrev v : ℕ
       v = value frame i
@@ -243,7 +243,7 @@ module _ (m : Memory) (f : fits m ≡ true) (well : Well m) (sound : All IsReadi
       unfolding nodeAt
       linked link q b =
           let few = well .few in
-          let l = both (leb 1 link) _ b in
+          let l = and-eq-true-iff (leb 1 link) _ .0 b in
           let low : link - 1 < i = omega (arith, leb-true 1 link (l .0), leb-true link i (l .1)) in
           done-stays now then stays (link - 1) (g .done (link - 1) low (needed-link links n i link (omega arith) most q b flagged))
 
@@ -261,7 +261,7 @@ module _ (m : Memory) (f : fits m ≡ true) (well : Well m) (sound : All IsReadi
       unfolding keptOk
       right-apart j l q =
           let e : entryAt links then j ≡ entryAt links now j = same-entry j q in
-          let b = both (settled (entries now) (entryAt links now j)) _ (s .right j l) in
+          let b = and-eq-true-iff (settled (entries now) (entryAt links now j)) _ .0 (s .right j l) in
           subst (λ (x : Entry). (settled (entries then) x && keptRight r x) ≡ true) (sym e)
           (and-true _ _ (settled-later (entries now) (entries then) (done-stays now then stays) (entryAt links now j) (b .0)) (b .1))
 
@@ -324,9 +324,9 @@ module _ (m : Memory) (f : fits m ≡ true) (well : Well m) (sound : All IsReadi
   unfolding keptOk keptRight keptAt
   kept-cell j l =
       let x = valueAt (m .cells) j in
-      let k = both (settled (entries (m .cells)) (entryAt links (m .cells) j)) _ (well .kept j l) .1 in
-      let b = both (namesRight (keptAt (m .cells) j)) _ k .1 in
-      split (eqb x 0) (λ e. inl (eqb-true x 0 e)) (λ e. inr (both (leb 4 (nodeAt links (m .cells) j .kind)) _ (rw e at b) .1))
+      let k = and-eq-true-iff (settled (entries (m .cells)) (entryAt links (m .cells) j)) _ .0 (well .kept j l) .1 in
+      let b = and-eq-true-iff (namesRight (keptAt (m .cells) j)) _ .0 k .1 in
+      split (eqb x 0) (λ e. inl (eqb-true x 0 e)) (λ e. inr (and-eq-true-iff (leb 4 (nodeAt links (m .cells) j .kind)) _ .0 (rw e at b) .1))
 
   start-cell : (j : ℕ) → j < c → Cell r (startAt (length xs) links (m .cells) j)
   unfolding startAt

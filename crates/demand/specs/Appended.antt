@@ -1,7 +1,7 @@
 -- Entries appended to the memory: the entries held are the old ones and then the new, with nothing kept; everything else stays.
 -- Assumes nothing.
 use mathlib.Core.Path.{_≡_, refl, sym, ap, _∙_}
-use mathlib.Core.Bool.{true}
+use mathlib.Core.Bool.{true, and-eq-true-iff}
 use mathlib.Core.List.{List, [], _∷_, _++_, map, append-nil, append-assoc}
 use Prim.Native.Nat.{ℕ, zero, suc, _+_, _<_, _≤_}
 use native.Mathlib.Omega.{arith}
@@ -9,7 +9,6 @@ use borrow.Author.Tests.{leb-true, le-leb}
 use lib.Dec.{leb}
 use lib.ListN.{length}
 use Rattle.language.specs.Limits.{tableEntries, tableReadings}
-use Rattle.meaning.specs.FormsLaws.{and-left, and-right}
 use Rattle.layout.specs.Links.{tableLinks, tableCells}
 use Rattle.layout.specs.Memory.{Memory, Node, Entry, fits, entryCount, readingCount, entriesFrom, entriesOf}
 use Rattle.table.specs.Bind.{append, appendAll}
@@ -25,13 +24,13 @@ pub record Lengths (m : Memory) : Type 0 where
 pub lengths : (m : Memory) → fits m ≡ true → Lengths m
 unfolding fits
 lengths m h =
-    let r = and-right (leb tableReadings (length (m .readings))) _ h in
-    let l = and-right (leb 2 (length (m .heads))) _ r in
+    let r = and-eq-true-iff (leb tableReadings (length (m .readings))) _ .0 h .1 in
+    let l = and-eq-true-iff (leb 2 (length (m .heads))) _ .0 r .1 in
     record {
-      readings = leb-true _ _ (and-left _ _ h);
-      heads = leb-true _ _ (and-left _ _ r);
-      links = leb-true _ _ (and-left _ _ l);
-      cells = leb-true _ _ (and-right (leb tableLinks (length (m .links))) _ l);
+      readings = leb-true _ _ (and-eq-true-iff _ _ .0 h .0);
+      heads = leb-true _ _ (and-eq-true-iff _ _ .0 r .0);
+      links = leb-true _ _ (and-eq-true-iff _ _ .0 l .0);
+      cells = leb-true _ _ (and-eq-true-iff (leb tableLinks (length (m .links))) _ .0 l .1);
     }
 
 pub long-enough : (m : Memory) → Lengths m → fits m ≡ true

@@ -7,9 +7,9 @@ use native.Mathlib.Omega.{arith}
 use borrow.Author.Tests.{lt-ltb, le-ltb}
 use lib.Dec.{ltb}
 use lib.ListN.{length, getD}
+use Rattle.language.specs.Cases.{impossible, split}
 use Rattle.meaning.specs.Forms.{Form}
 use Rattle.model.specs.Lists.{member, index}
-use Rattle.model.specs.Cases.{impossible, split}
 use Rattle.model.specs.Graph.{among, formAt, AllPlaced, decode}
 use Rattle.model.specs.Binder as Binder
 use Rattle.layout.specs.Memory.{Node}

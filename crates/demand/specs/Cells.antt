@@ -1,6 +1,6 @@
 -- The cells of what a form shows pass the tests of refusal 4, and show it again. Assumes nothing.
 use mathlib.Core.Path.{_≡_, refl, sym, ap, _∙_, subst}
-use mathlib.Core.Bool.{Bool, true, false, _&&_, _||_}
+use mathlib.Core.Bool.{Bool, true, false, _&&_, _||_, cond}
 use mathlib.Core.List.{List, [], _∷_}
 use mathlib.Core.Option.{some}
 use Prim.Native.Nat.{ℕ, _<_, _≤_}
@@ -10,25 +10,25 @@ use lib.Dec.{eqb}
 use lib.IntN.{ℤ, pos}
 use lib.ListN.{length, getD}
 use lib.Signed.{mag}
+use Rattle.language.specs.Cases.{impossible, split, by-cond}
 use Rattle.language.specs.Members.{row}
 use Rattle.language.specs.declared.members.Member.{Member}
 use Rattle.values.specs.declared.Value.{Value}
 use Rattle.values.specs.declared.Value.the-variants.{Number, Window, Function, Delayed, Missing}
-use Rattle.values.specs.Values.{pick, wrongKind}
+use Rattle.values.specs.Values.{wrongKind}
 use Rattle.values.specs.Apply.{isKind, isMissing, isDelayed, rule0, rule1, apply0, apply1}
 use Rattle.values.specs.Keepable.{Storable, Keepable}
 use Rattle.values.specs.Packing.{packOf, unpackOf, isPacked, functionCell, delayedCell, isFunctionCell, isDelayedCell}
 use Rattle.values.specs.PackingLaws.{round, packed-above, kept-passes}
 use Rattle.meaning.specs.Forms.{Form, number, variable, unbound, readings, ask, call, function, nameOf}
-use Rattle.meaning.specs.FormsLaws.{within-self, no-way}
+use Rattle.meaning.specs.FormsLaws.{within-self}
 use Rattle.meaning.specs.Evaluation.{valueOf, nowhere, lookup, evaluate, hasName, awaited, Shown, aNumber, aWindow, aFunction, aDelay, aReason, shownAs, shows}
-use Rattle.model.specs.Cases.{impossible, split}
 use Rattle.layout.specs.Memory.{Kept as Cells}
 use Rattle.layout.specs.Nodes.{isName, wordNumber}
 use Rattle.table.specs.WellFormed.{namesRight}
 use Rattle.bridge.specs.Proper.{Has}
 use Rattle.demand.specs.Holds.{keptFor, markOf, shownBy}
-use Rattle.demand.specs.Delays.{isPlain, plain-pick, plain-rule0, plain-rule1}
+use Rattle.demand.specs.Delays.{isPlain, plain-kind, plain-rule0, plain-rule1}
 use Rattle.demand.specs.Fitting.{Deep, shown-fits, name-of, delayed-awaits}
 
 pub record Keeps (n : ℕ) (v : Shown) : Type 0 where
@@ -93,25 +93,26 @@ missing-fun Function h = impossible h
 missing-fun Delayed h = impossible h
 missing-fun (Missing r) h = refl
 
-fun-pick : (b : Bool) (v w : Value) → (b ≡ true → isFun v ≡ false) → isFun w ≡ false → isFun (pick b v w) ≡ false
-fun-pick true v w p q = p refl
-fun-pick false v w p q = q
+abbrev NoFun : Value → Type 0
+NoFun v = isFun v ≡ false
 
-fun0 : (m : Member) (xs : List ℤ) (v : Value) → isFun (apply0 m xs v) ≡ false
+kind-fun : (b : Bool) (v : Value) → isPlain v ≡ true → NoFun (cond b v (Missing wrongKind))
+kind-fun b v p = plain-fun (cond b v (Missing wrongKind)) (plain-kind b v p)
+
+fun0 : (m : Member) (xs : List ℤ) (v : Value) → NoFun (apply0 m xs v)
 unfolding apply0
 fun0 m xs v =
-    fun-pick (isMissing v) v (pick (isDelayed v) Delayed (pick (isKind v (row m .receiver)) (rule0 m xs v) (Missing wrongKind))) (missing-fun v)
-    (fun-pick (isDelayed v) Delayed (pick (isKind v (row m .receiver)) (rule0 m xs v) (Missing wrongKind)) (λ e. refl)
-    (plain-fun (pick (isKind v (row m .receiver)) (rule0 m xs v) (Missing wrongKind)) (plain-pick (isKind v (row m .receiver)) (rule0 m xs v) (Missing wrongKind) (plain-rule0 m xs v) refl)))
+    by-cond NoFun (isMissing v) v _ (missing-fun v)
+    (λ _. by-cond NoFun (isDelayed v) Delayed _ (λ e. refl)
+    (λ _. kind-fun (isKind v (row m .receiver)) (rule0 m xs v) (plain-rule0 m xs v)))
 
-fun1 : (m : Member) (xs : List ℤ) (v w : Value) (run : ℤ → Value) → isFun (apply1 m xs v w run) ≡ false
+fun1 : (m : Member) (xs : List ℤ) (v w : Value) (run : ℤ → Value) → NoFun (apply1 m xs v w run)
 unfolding apply1
 fun1 m xs v w run =
-    let r = pick (isKind v (row m .receiver) && isKind w (row m .argument)) (rule1 m xs v w run) (Missing wrongKind) in
-    fun-pick (isMissing v) v (pick (isMissing w) w (pick (isDelayed v || isDelayed w) Delayed r)) (missing-fun v)
-    (fun-pick (isMissing w) w (pick (isDelayed v || isDelayed w) Delayed r) (missing-fun w)
-    (fun-pick (isDelayed v || isDelayed w) Delayed r (λ e. refl)
-    (plain-fun r (plain-pick (isKind v (row m .receiver) && isKind w (row m .argument)) (rule1 m xs v w run) (Missing wrongKind) (plain-rule1 m xs v w run) refl))))
+    by-cond NoFun (isMissing v) v _ (missing-fun v)
+    (λ _. by-cond NoFun (isMissing w) w _ (missing-fun w)
+    (λ _. by-cond NoFun (isDelayed v || isDelayed w) Delayed _ (λ e. refl)
+    (λ _. kind-fun (isKind v (row m .receiver) && isKind w (row m .argument)) (rule1 m xs v w run) (plain-rule1 m xs v w run))))
 
 function-name : (xs : List ℤ) (f : Form) → Deep f → isFun (valueOf (evaluate xs nowhere f)) ≡ true → isName (nameOf f) ≡ true
 unfolding evaluate valueOf lookup nameOf
@@ -126,12 +127,12 @@ function-name xs (function x b) d h = d (function x b) (within-self (function x 
 -- a name is not 0
 pub name-some : (y : ℕ) → isName y ≡ true → eqb y 0 ≡ false
 unfolding isName wordNumber
-name-some y h = ne-eqb y 0 (λ e. no-way (rw e at h))
+name-some y h = ne-eqb y 0 (λ e. impossible (rw e at h))
 
 -- one name or two
 keeps-delay : (n : ℕ) (xs : List ℕ) → length xs ≤ 2 → (y : ℕ) → Has y xs → ((z : ℕ) → Has z xs → isName z ≡ true) → Keepable n Delayed → Keeps n (aDelay xs)
 unfolding namesRight hasName
-keeps-delay n [] l y h g k = no-way h
+keeps-delay n [] l y h g k = impossible h
 keeps-delay n (a ∷ []) l y h g k =
     let p = g a (rw (eq-eqb a a refl)) in
     let y = name-some a p in

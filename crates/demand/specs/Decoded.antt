@@ -1,14 +1,15 @@
 -- The entries of any well-formed cache stand for forms, no two of them for the same form. Assumes nothing.
 use mathlib.Core.Path.{_≡_, refl, sym, ap, _∙_}
-use mathlib.Core.Bool.{Bool, true, false, not}
+use mathlib.Core.Bool.{Bool, true, not, and-eq-true-iff}
 use mathlib.Core.List.{List, [], _∷_}
 use mathlib.Core.Option.{some}
 use Prim.Native.Nat.{ℕ, zero, suc, _+_, _-_, _<_}
 use native.Mathlib.Omega.{arith}
+use borrow.Author.Tests.{not-true}
 use lib.ListN.{getElem?}
+use Rattle.language.specs.Cases.{impossible, split}
 use Rattle.meaning.specs.Forms.{Form, readings, same}
 use Rattle.model.specs.Lists.{member, Distinct}
-use Rattle.model.specs.Cases.{impossible, split, both}
 use Rattle.model.specs.ListLaws.{nth-below, nth-has, getD-nth, Equality, nth-index, index-nth}
 use Rattle.model.specs.Graph.{among, formAt, Placed, AllPlaced, Stands, decodes}
 use Rattle.layout.specs.Memory.{Memory, Node, entryCount, nodeAt, entriesOf, nodesOf}
@@ -65,11 +66,9 @@ has-same n (m ∷ ns) = split (sameNode m n) (λ e. rw e) (λ e. rw e (has-same 
 nodes-distinct : (ns : List Node) → distinct ns ≡ true → Distinct sameNode ns
 unfolding distinct
 nodes-distinct [] h = tt
-nodes-distinct (n ∷ ns) h = (has-same n ns ∙ not-true (hasNode n ns) (both (not (hasNode n ns)) _ h .0), nodes-distinct ns (both (not (hasNode n ns)) _ h .1))
-  where
-    not-true : (b : Bool) → not b ≡ true → b ≡ false
-    not-true true e = impossible e
-    not-true false e = refl
+nodes-distinct (n ∷ ns) h =
+    let p = and-eq-true-iff (not (hasNode n ns)) _ .0 h in
+    (has-same n ns ∙ not-true (hasNode n ns) (p .0), nodes-distinct ns (p .1))
 
 -- ---- nodes that differ stand for forms that differ
 

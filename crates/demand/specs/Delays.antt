@@ -1,17 +1,17 @@
 -- When a member is delayed: exactly where a dependency is and none is missing. So a form that is delayed awaits a name. Assumes nothing.
 use mathlib.Core.Path.{_≡_, refl, sym, _∙_}
-use mathlib.Core.Bool.{Bool, true, false, _&&_, _||_}
+use mathlib.Core.Bool.{Bool, true, false, _&&_, _||_, cond}
 use mathlib.Core.List.{List}
 use lib.IntN.{ℤ}
+use Rattle.language.specs.Cases.{impossible, split, by-cond}
 use Rattle.language.specs.Members.{row}
 use Rattle.language.specs.declared.members.Member.{Member}
 use Rattle.values.specs.declared.Value.{Value}
 use Rattle.values.specs.declared.Value.the-variants.{Number, Window, Function, Delayed, Missing}
-use Rattle.values.specs.Values.{pick, wrongKind}
+use Rattle.values.specs.Values.{wrongKind}
 use Rattle.values.specs.Apply.{isKind, isMissing, isDelayed, rule0, rule1, apply0, apply1}
 use Rattle.values.specs.KeepableLaws.{Closed, Given}
 use Rattle.values.specs.KeepableApply.{closed-rule0, closed-rule1}
-use Rattle.model.specs.Cases.{impossible, split}
 
 -- results of rules: neither delayed nor a function
 abbrev pub isPlain : Value → Bool
@@ -21,11 +21,7 @@ isPlain Function = false
 isPlain Delayed = false
 isPlain (Missing r) = true
 
-pub plain-pick : (b : Bool) (v w : Value) → isPlain v ≡ true → isPlain w ≡ true → isPlain (pick b v w) ≡ true
-plain-pick true v w p q = p
-plain-pick false v w p q = q
-
-abbrev Plain : Value → Type 0
+abbrev pub Plain : Value → Type 0
 Plain v = isPlain v ≡ true
 
 plain : Closed Plain
@@ -59,6 +55,13 @@ missing-not Function h = impossible h
 missing-not Delayed h = impossible h
 missing-not (Missing r) h = refl
 
+-- a plain value, or the reason for a wrong kind, is plain
+pub plain-kind : (b : Bool) (v : Value) → Plain v → Plain (cond b v (Missing wrongKind))
+plain-kind b v p = by-cond Plain b v (Missing wrongKind) (λ e. p) (λ e. refl)
+
+kind-not : (b : Bool) (v : Value) → Plain v → isDelayed (cond b v (Missing wrongKind)) ≡ false
+kind-not b v p = plain-not (cond b v (Missing wrongKind)) (plain-kind b v p)
+
 -- delayed: only by a dependency
 pub delayed0 : (m : Member) (xs : List ℤ) (v : Value) → isDelayed (apply0 m xs v) ≡ true → isDelayed v ≡ true
 unfolding apply0
@@ -67,7 +70,7 @@ delayed0 m xs v h =
     (λ e.
     split (isMissing v)
     (λ x. impossible (sym (missing-not v x) ∙ rw x at h))
-    (λ x. impossible (sym (plain-not (pick (isKind v (row m .receiver)) (rule0 m xs v) (Missing wrongKind)) (plain-pick (isKind v (row m .receiver)) (rule0 m xs v) (Missing wrongKind) (plain-rule0 m xs v) refl)) ∙ rw (x, e) at h)))
+    (λ x. impossible (sym (kind-not (isKind v (row m .receiver)) (rule0 m xs v) (plain-rule0 m xs v)) ∙ rw (x, e) at h)))
 
 pub delayed1 : (m : Member) (xs : List ℤ) (v w : Value) (run : ℤ → Value) → isDelayed (apply1 m xs v w run) ≡ true → (isDelayed v || isDelayed w) ≡ true
 unfolding apply1
@@ -79,4 +82,6 @@ delayed1 m xs v w run h =
     (λ x.
     split (isMissing w)
     (λ y. impossible (sym (missing-not w y) ∙ rw (x, y) at h))
-    (λ y. impossible (sym (plain-not (pick (isKind v (row m .receiver) && isKind w (row m .argument)) (rule1 m xs v w run) (Missing wrongKind)) (plain-pick (isKind v (row m .receiver) && isKind w (row m .argument)) (rule1 m xs v w run) (Missing wrongKind) (plain-rule1 m xs v w run) refl)) ∙ rw (x, y, e) at h))))
+    (λ y.
+    let k = kind-not (isKind v (row m .receiver) && isKind w (row m .argument)) (rule1 m xs v w run) (plain-rule1 m xs v w run) in
+    impossible (sym k ∙ rw (x, y, e) at h))))

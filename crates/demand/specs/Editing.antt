@@ -1,7 +1,7 @@
 -- An edit of a cache that was opened and kept answers as the model does and leaves what the model holds. Assumes nothing.
 use mathlib.Core.Path.{_≡_, refl, sym, ap, _∙_, subst}
 use mathlib.Core.Bool.{true, false, not}
-use mathlib.Core.List.{List, [], _∷_, _++_, map}
+use mathlib.Core.List.{List, [], _∷_, _++_, map, map-append}
 use mathlib.Core.Logic.{inl}
 use mathlib.Core.Option.{some}
 use Prim.Native.Nat.{ℕ, _-_, _<_}
@@ -10,6 +10,7 @@ use borrow.Author.Tests.{ltb-false, leb-true, leb-false, lt-ltb, le-ltb}
 use lib.Dec.{leb, ltb}
 use lib.ListN.{length, getD, drop, take, length-map, length-append}
 use lib.Seq.{drop-at}
+use Rattle.language.specs.Cases.{impossible, split}
 use Rattle.language.specs.Limits.{textBytes, textParts, tableEntries}
 use Rattle.grammar.specs.Grammar.{Expression}
 use Rattle.grammar.specs.KeptLimits.{KeepsLimits}
@@ -19,8 +20,7 @@ use Rattle.grammar.specs.Theorems.{text-read-plainly}
 use Rattle.meaning.specs.Forms.{Form, readings, same}
 use Rattle.meaning.specs.Binding.{formOf, formsByPlace, formsInOrder}
 use Rattle.model.specs.Lists.{All, index, insertAll, Distinct}
-use Rattle.model.specs.Cases.{impossible, split}
-use Rattle.model.specs.ListLaws.{nth-has, nth-below, getD-nth, map-append, all-append}
+use Rattle.model.specs.ListLaws.{nth-has, nth-below, getD-nth, all-append}
 use Rattle.model.specs.Model as Model
 use Rattle.model.specs.Model.{Answer, refused, edited}
 use Rattle.model.specs.Entries.{forms-holdAll, holdAll-as}
@@ -124,7 +124,8 @@ module _ (m : Memory) (placed : AllPlaced formulas nodes 0 (nodesOf (entriesOf m
     numbered j h =
         let l = length-forms (R .records) in
         let x = nth-has (formsOf (R .records)) j (omega arith) in
-        Binder.number-is formulas nodes relinkBy graph-laws (formula-laws .tests) relinks (asBound b) (formsOf (R .records)) gs fitted j (formIn (R .records) j) (x .1 ∙ ap some (sym (getD-nth (formsOf (R .records)) j (x .0) readings (x .1))))
+        Binder.number-is formulas nodes relinkBy graph-laws (formula-laws .tests) relinks (asBound b) (formsOf (R .records)) gs fitted j
+        (formIn (R .records) j) (x .1 ∙ ap some (sym (getD-nth (formsOf (R .records)) j (x .0) readings (x .1))))
         ∙ ap (index same (formIn (R .records) j)) (sym new-forms)
 
     all-numbered : (ps : List ℕ) → All (λ (p : ℕ). p < length (R .records)) ps → map (λ (j : ℕ). getD (b .numbers) j 0) ps ≡ map (Model.numberOf formulas es) (map (formIn (R .records)) ps)

@@ -1,15 +1,16 @@
 -- What a form of a text shows can be kept: its number, window or reason is in range, and it awaits one or two names where it is delayed.
 -- Assumes nothing.
 use mathlib.Core.Path.{_≡_, refl, sym}
-use mathlib.Core.Bool.{Bool, true, false, cond, not, _&&_}
+use mathlib.Core.Bool.{Bool, true, false, cond, _&&_}
 use mathlib.Core.List.{List}
 use Prim.Native.Nat.{ℕ, _<_, _≤_}
 use native.Mathlib.Omega.{arith}
-use borrow.Author.Tests.{eqb-true, eq-eqb}
+use borrow.Author.Tests.{eqb-true, eq-eqb, not-false}
 use lib.Dec.{eqb, leb→le}
 use lib.IntN.{ℤ, pos, negsuc}
 use lib.ListN.{length, getD}
 use lib.Signed.{mag}
+use Rattle.language.specs.Cases.{impossible, split, either, or-right}
 use Rattle.language.specs.declared.members.Member.{Member}
 use Rattle.grammar.specs.KeptLimits.{InRange}
 use Rattle.values.specs.declared.Value.{Value}
@@ -18,9 +19,8 @@ use Rattle.values.specs.Apply.{isDelayed, apply0, apply1}
 use Rattle.values.specs.Keepable.{Keepable}
 use Rattle.values.specs.KeepableApply.{kept-apply0, kept-apply1}
 use Rattle.meaning.specs.Forms.{Form, number, variable, unbound, readings, ask, call, function, same, within}
-use Rattle.meaning.specs.FormsLaws.{no-way, either, or-right, same-self, within-self}
+use Rattle.meaning.specs.FormsLaws.{same-self, within-self}
 use Rattle.meaning.specs.Evaluation.{Result, plain, runs, valueOf, runOf, Environment, nowhere, bind, lookup, settled, functionOf, evaluate, hasName, awaited}
-use Rattle.model.specs.Cases.{impossible, split}
 use Rattle.layout.specs.Nodes.{isName}
 use Rattle.bridge.specs.Proper.{Proper, Has, joined-cases, joined-left, joined-right, has-without, has-kept}
 use Rattle.demand.specs.Delays.{delayed0, delayed1}
@@ -56,10 +56,6 @@ pub record Awaits (f : Form) (ρ : Environment) : Type 0 where
   pub free : Has name (awaited f)
   pub unset : isDelayed (lookup ρ name) ≡ true
 
-un-not : (b : Bool) → not b ≡ false → b ≡ true
-un-not true h = refl
-un-not false h = impossible (sym h)
-
 not-both : {A : Type 0} (a b : Bool) → (a && b) ≡ false → (a ≡ false → A) → (b ≡ false → A) → A
 not-both true b h p q = q h
 not-both false b h p q = p refl
@@ -76,7 +72,7 @@ under x b ρ a =
 unsettled : (f : Form) (ρ : Environment) → settled ρ f ≡ false → Awaits f ρ
 unfolding settled awaited hasName
 unsettled (number z) ρ h = impossible (sym h)
-unsettled (variable x) ρ h = record { name = x; free = rw (eq-eqb x x refl); unset = un-not (isDelayed (lookup ρ x)) h }
+unsettled (variable x) ρ h = record { name = x; free = rw (eq-eqb x x refl); unset = not-false (isDelayed (lookup ρ x)) h }
 unsettled (unbound x) ρ h = impossible (sym h)
 unsettled readings ρ h = impossible (sym h)
 unsettled (ask m f) ρ h = let a = unsettled f ρ h in record { name = a .name; free = a .free; unset = a .unset }
@@ -115,10 +111,10 @@ module _ (xs : List ℤ) where
 -- the awaited names are those of variables in the form
 awaited-within : (y : ℕ) (f : Form) → Has y (awaited f) → within (variable y) f ≡ true
 unfolding awaited within hasName
-awaited-within y (number z) h = no-way h
-awaited-within y (variable x) h = split (eqb y x) (λ e. rw (eqb-true y x e) (same-self (variable x))) (λ e. no-way (rw e at h))
-awaited-within y (unbound x) h = no-way h
-awaited-within y readings h = no-way h
+awaited-within y (number z) h = impossible h
+awaited-within y (variable x) h = split (eqb y x) (λ e. rw (eqb-true y x e) (same-self (variable x))) (λ e. impossible (rw e at h))
+awaited-within y (unbound x) h = impossible h
+awaited-within y readings h = impossible h
 awaited-within y (ask m f) h = or-right (same (variable y) (ask m f)) _ (awaited-within y f h)
 awaited-within y (call m f a) h =
     or-right (same (variable y) (call m f a)) _

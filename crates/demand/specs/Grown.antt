@@ -2,12 +2,13 @@
 -- yet, and has nothing kept. Assumes nothing.
 use mathlib.Core.Path.{_≡_, refl, sym, ap, _∙_, subst}
 use mathlib.Core.Bool.{true, false}
-use mathlib.Core.List.{List, [], _∷_, _++_, map, append-nil, append-assoc}
+use mathlib.Core.List.{List, [], _∷_, _++_, map, append-nil, append-assoc, map-append}
 use Prim.Native.Nat.{ℕ, _+_, _<_, _≤_}
 use native.Mathlib.Omega.{arith}
 use borrow.Author.Tests.{ltb-false}
 use lib.ListN.{length, drop, length-append}
 use lib.Seq.{drop-at}
+use Rattle.language.specs.Cases.{split}
 use Rattle.language.specs.Limits.{tableEntries}
 use Rattle.grammar.specs.Grammar.{Expression}
 use Rattle.grammar.specs.KeptLimits.{KeepsLimits}
@@ -17,8 +18,7 @@ use Rattle.grammar.specs.Theorems.{text-read-plainly}
 use Rattle.meaning.specs.Forms.{Form, same}
 use Rattle.meaning.specs.Binding.{formOf, formsByPlace, formsInOrder}
 use Rattle.model.specs.Lists.{All, member, insert, insertAll, Distinct}
-use Rattle.model.specs.Cases.{split}
-use Rattle.model.specs.ListLaws.{nth-below, nth-old, nth-seam, map-append}
+use Rattle.model.specs.ListLaws.{nth-below, nth-old, nth-seam}
 use Rattle.model.specs.Graph.{formAt, Placed, AllPlaced, decode-snoc, decodes}
 use Rattle.model.specs.Binder as Binder
 use Rattle.layout.specs.Memory.{Memory, Node, Entry, fits, entryCount, entriesOf, nodesOf}

@@ -10,8 +10,8 @@ use borrow.Author.Tests.{eq-eqb, ne-eqb, eqb-true, eqb-false, le-leb}
 use lib.Dec.{eqb}
 use lib.ListN.{length, getD, getElem?, set, replicate, length-set, length-replicate}
 use lib.Seq.{getD-set-same, getD-set-other}
+use Rattle.language.specs.Cases.{split}
 use Rattle.model.specs.Lists.{member}
-use Rattle.model.specs.Cases.{split}
 use Rattle.model.specs.ListLaws.{nth-map}
 use Rattle.model.specs.Graph.{among, linksAt, decodes}
 use Rattle.model.specs.Sweep.{spread, sweep, needed}

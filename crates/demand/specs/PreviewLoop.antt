@@ -1,7 +1,7 @@
 -- The loop of a preview over the table: each flagged entry that is to be worked out is kept as what its form shows, lowest number first, up
 -- to the allowance. That is the model's loop over the entries held. Assumes nothing.
 use mathlib.Core.Path.{_≡_, refl, sym, ap, _∙_}
-use mathlib.Core.Bool.{Bool, true, false, cond, not, _&&_}
+use mathlib.Core.Bool.{Bool, true, false, cond, not, _&&_, and-eq-true-iff}
 use mathlib.Core.List.{List, [], _∷_}
 use mathlib.Core.Logic.{_⊎_, inl, inr}
 use mathlib.Core.Option.{none, some}
@@ -12,11 +12,11 @@ use lib.Dec.{eqb, leb, ltb}
 use lib.IntN.{ℤ}
 use lib.ListN.{length, getD, set, getElem?, length-set}
 use lib.Seq.{getD-set-same, getD-set-other}
+use Rattle.language.specs.Cases.{split}
 use Rattle.values.specs.Packing.{packOf}
 use Rattle.meaning.specs.Forms.{Form, readings, works, nameOf}
 use Rattle.meaning.specs.Evaluation.{valueOf, nowhere, evaluate, awaited, Shown, shows}
 use Rattle.model.specs.Lists.{isSome}
-use Rattle.model.specs.Cases.{split, both}
 use Rattle.model.specs.Language.{Language}
 use Rattle.model.specs.Model as Model
 use Rattle.model.specs.Previews as Previews
@@ -61,7 +61,8 @@ module _ (L : Language) (flag : ℕ → Bool) (value : List (Model.Entry L) → 
   upward-skip k p zero es h = sym (upward-none k (suc p) es)
   upward-skip k p (suc a) es h = rw h
 
-  upward-take : (k p a b : ℕ) (es : List (Model.Entry L)) → Previews.chosen L flag p (getElem? es p) ≡ true → a ≡ suc b → upward L flag value (suc k) p a es ≡ upward L flag value k (suc p) b (markAt L p (value es p) es)
+  upward-take : (k p a b : ℕ) (es : List (Model.Entry L)) → Previews.chosen L flag p (getElem? es p) ≡ true → a ≡ suc b
+      → upward L flag value (suc k) p a es ≡ upward L flag value k (suc p) b (markAt L p (value es p) es)
   unfolding upward
   upward-take k p a b es h q = rw (q, h)
 
@@ -78,14 +79,16 @@ pub held-nth : (links : List ℕ) (fs : List Form) (c : ℕ) (cells : List ℕ) 
     → getElem? (held links fs c cells) i ≡ some (record { form = formAt fs i; mark = markOf (keptAt cells i) })
 held-nth links fs c cells i l h = let z : 0 + i ≡ i = omega arith in rw z at (joined-nth fs links cells 0 c i l h)
 
-joined-same : (fs : List Form) (links cells now : List ℕ) (p k : ℕ) → ((j : ℕ) → p ≤ j → keptAt now j ≡ keptAt cells j) → withMarks fs (entriesFrom links now p k) ≡ withMarks fs (entriesFrom links cells p k)
+joined-same : (fs : List Form) (links cells now : List ℕ) (p k : ℕ) → ((j : ℕ) → p ≤ j → keptAt now j ≡ keptAt cells j)
+    → withMarks fs (entriesFrom links now p k) ≡ withMarks fs (entriesFrom links cells p k)
 unfolding withMarks entriesFrom
 joined-same [] links cells now p k h = refl
 joined-same (f ∷ fs) links cells now p zero h = refl
 joined-same (f ∷ fs) links cells now p (suc k) h = λ t. record { form = f; mark = markOf (h p (omega arith) t) } ∷ joined-same fs links cells now (suc p) k (λ j l. h j (omega arith)) t
 
 -- one of them is marked
-joined-mark : (fs : List Form) (links cells now : List ℕ) (p k i : ℕ) (v : Shown) → length fs ≡ k → i < k → markOf (keptAt now (p + i)) ≡ some v → ((j : ℕ) → (j ≡ p + i → ⊥) → keptAt now j ≡ keptAt cells j)
+joined-mark : (fs : List Form) (links cells now : List ℕ) (p k i : ℕ) (v : Shown) → length fs ≡ k → i < k → markOf (keptAt now (p + i)) ≡ some v
+    → ((j : ℕ) → (j ≡ p + i → ⊥) → keptAt now j ≡ keptAt cells j)
     → withMarks fs (entriesFrom links now p k) ≡ markAt formulas i v (withMarks fs (entriesFrom links cells p k))
 unfolding withMarks entriesFrom markAt
 joined-mark [] links cells now p k i v l h e o = absurd (omega arith)
@@ -196,11 +199,11 @@ module _ (links cells waits flags : List ℕ) (xs : List ℤ) (fs : List Form) (
     module _ (h : chosen links flags frame i ≡ true) where
       flagged : flag i ≡ true
       unfolding chosen
-      flagged = sym (ready .told i) ∙ both (eqb (getD flags i 0) 1) _ h .0
+      flagged = sym (ready .told i) ∙ and-eq-true-iff (eqb (getD flags i 0) 1) _ .0 h .0
 
       kind : 4 ≤ kindAt links i
       unfolding chosen
-      kind = leb-true 4 (kindAt links i) (both (leb 4 (kindAt links i)) _ (both (eqb (getD flags i 0) 1) _ h .1) .0)
+      kind = leb-true 4 (kindAt links i) (and-eq-true-iff (leb 4 (kindAt links i)) _ .0 (and-eq-true-iff (eqb (getD flags i 0) 1) _ .0 h .1) .0)
 
       abbrev v : ℕ
       v = cellAt xs fs i
@@ -284,7 +287,12 @@ module _ (links cells waits flags : List ℕ) (xs : List ℤ) (fs : List Form) (
       (split (ltb count a)
       (λ q.
       let less = ltb-true count a q in
-      rw (q, value-right i now frame (omega arith) s g p, upward-take formulas flag value k i (a - count) (a - suc count) (held links fs c now) (sym same ∙ p) (omega arith), ← marked i now frame (omega arith) s g p)
+      rw (
+        q,
+        value-right i now frame (omega arith) s g p,
+        upward-take formulas flag value k i (a - count) (a - suc count) (held links fs c now) (sym same ∙ p) (omega arith),
+        ← marked i now frame (omega arith) s g p,
+      )
       (loop a k (suc i) _ _ (suc count) (omega arith) (omega arith) (stored i now frame (omega arith) s g p) (framed i now frame (omega arith) s g p)))
       (λ q. let most = ltb-false count a q in let z : a - count ≡ 0 = omega arith in rw (q, z) (record { stored = s; entries = sym (upward-none formulas flag value (suc k) i (held links fs c now)) }))))
       (λ p.

@@ -12,10 +12,10 @@ use lib.Dec.{eqb, leb, ltb}
 use lib.IntN.{ℤ, pos}
 use lib.ListN.{length, getD, getElem?, replicate, length-take, length-map}
 use lib.Signed.{mag}
+use Rattle.language.specs.Cases.{impossible, split}
 use Rattle.meaning.specs.Forms.{Form, readings, works, nameOf, same, dependency, within}
 use Rattle.meaning.specs.Evaluation.{awaited, shows}
 use Rattle.model.specs.Lists.{All, countIf, index}
-use Rattle.model.specs.Cases.{impossible, split}
 use Rattle.model.specs.ListLaws.{nth-has, nth-map, getD-nth, all-nth, member-nth, nth-index, index-nth, on-count}
 use Rattle.model.specs.Model as Model
 use Rattle.model.specs.Forms.{below-held, reach-down}
@@ -195,7 +195,8 @@ module _ (m : Memory) (o : Ok m) (i : Invariant formulas formula-laws (holds m))
   -- what is flagged lies at or below entry n, and so do its dependencies
   reached : (j : ℕ) → j < entryCount m → flag j ≡ within (φ j) (φ n)
   reached j h =
-      swept formulas fs (linksAt formulas nodes ns) (formula-laws .tests) (linked formulas nodes graph-laws ns fs stands) n (φ n) (form-nth n inside) (rw held-forms at (i .distinct)) j (φ j) (form-nth j h)
+      swept formulas fs (linksAt formulas nodes ns) (formula-laws .tests) (linked formulas nodes graph-laws ns fs stands) n (φ n) (form-nth n inside)
+      (rw held-forms at (i .distinct)) j (φ j) (form-nth j h)
 
   closed : (j d : ℕ) → j ≤ n → Link (m .links) j d → flag j ≡ true → flag d ≡ true
   unfolding nodeAt
@@ -300,7 +301,11 @@ module _ (m : Memory) (o : Ok m) (i : Invariant formulas formula-laws (holds m))
     unfolding worked
     left =
         let l = loop (m .links) (m .cells) awaits flags xs fs (entryCount m) n flag ready a (suc n) 0 (m .cells) frame 0 (omega arith) (omega arith) stored framed in
-        rw (sub-zero a, works-as-model formulas formula-laws nodes graph-laws (holds m) i ns stands-held n f form-held (suc n) (omega arith) room (λ (l : List (Model.Entry formulas)) (p : ℕ). shownAt xs fs p) values a) at l
+        rw (
+          sub-zero a,
+          works-as-model formulas formula-laws nodes graph-laws (holds m) i ns stands-held n f form-held (suc n) (omega arith) room
+              (λ (l : List (Model.Entry formulas)) (p : ℕ). shownAt xs fs p) values a,
+        ) at l
 
     count-is : w .count ≡ min a (Model.left formulas f es)
     unfolding worked

@@ -9,8 +9,8 @@ use native.Mathlib.Omega.{arith}
 use borrow.Author.Tests.{ltb-true, ltb-false}
 use lib.Dec.{ltb}
 use lib.ListN.{length, getElem?, length-map}
+use Rattle.language.specs.Cases.{impossible, split}
 use Rattle.meaning.specs.Forms.{Form, readings}
-use Rattle.model.specs.Cases.{impossible, split}
 use Rattle.model.specs.ListLaws.{nth-has, getD-nth}
 use Rattle.model.specs.Graph.{formAt, Placed, AllPlaced, Stands, decodes}
 use Rattle.model.specs.Model as Model
@@ -57,7 +57,8 @@ module _ (ns : List Node) (fs gs : List Form) (p : Stands formulas nodes ns fs) 
       each i =
           let s = p .size in
           let t = q .size in
-          split (ltb i (length ns)) (λ e. alike (suc i) i (omega arith) (ltb-true i (length ns) e)) (λ e. let l = ltb-false i (length ns) e in beyond fs i (omega arith) ∙ sym (beyond gs i (omega arith)))
+          split (ltb i (length ns)) (λ e. alike (suc i) i (omega arith) (ltb-true i (length ns) e))
+          (λ e. let l = ltb-false i (length ns) e in beyond fs i (omega arith) ∙ sym (beyond gs i (omega arith)))
 
 -- every number's node is placed: all are
 pub placed-all : (i : ℕ) (ns : List Node) → ((j : ℕ) (n : Node) → getElem? ns j ≡ some n → Placed formulas nodes (i + j) n) → AllPlaced formulas nodes i ns

@@ -1,7 +1,7 @@
 -- The frame that a preview begins with, the cells that it keeps for a value, and what an entry shows from its cells: of a leaf from the
 -- entry itself, of a member or a function from what is kept. Assumes nothing.
 use mathlib.Core.Path.{_≡_, refl, sym, ap, _∙_}
-use mathlib.Core.Bool.{true, false}
+use mathlib.Core.Bool.{true, false, and-eq-true-iff, cond}
 use mathlib.Core.List.{List}
 use mathlib.Core.Option.{none, some}
 use Prim.Native.Nat.{ℕ, zero, suc, _+_, _%_, _<_, _≤_}
@@ -12,6 +12,7 @@ use lib.Dec.{leb, ltb, eqb}
 use lib.IntN.{ℤ}
 use lib.ListN.{length, getD, set, replicate, length-set, length-replicate, length-take}
 use lib.Seq.{getD-set-same, getD-set-other}
+use Rattle.language.specs.Cases.{impossible, split}
 use Rattle.values.specs.declared.Value.{Value}
 use Rattle.values.specs.declared.Value.the-variants.{Number, Window, Function, Delayed, Missing}
 use Rattle.values.specs.Shown.{shownNumbers}
@@ -20,9 +21,7 @@ use Rattle.values.specs.Packing.{packOf, unpackOf}
 use Rattle.values.specs.PackingLaws.{round}
 use Rattle.values.specs.Ranges.{down-range}
 use Rattle.meaning.specs.Forms.{Form, readings, nameOf}
-use Rattle.meaning.specs.FormsLaws.{and-left, and-right}
 use Rattle.meaning.specs.Evaluation.{valueOf, nowhere, lookup, evaluate, awaited, Shown, aNumber, aWindow, aFunction, aDelay, aReason, shownAs, shows}
-use Rattle.model.specs.Cases.{impossible, split}
 use Rattle.model.specs.ListLaws.{getD-nth}
 use Rattle.model.specs.Invariant.{Invariant}
 use Rattle.model.specs.Graph.{formAt, decodes}
@@ -41,7 +40,7 @@ use Rattle.table.specs.Waits.{slotA, slotB}
 use Rattle.table.specs.NodeKinds.{Fine, aNumber, aVariable, anUnbound, theReadings, aFunction, anAsk, aCall}
 use Rattle.evaluator.specs.Frames.{leafOf, startAt, startFrom}
 use Rattle.scheduler.specs.declared.works.View.{View}
-use Rattle.scheduler.specs.Works.{nameFor, otherFor, view, pickV, showOf}
+use Rattle.scheduler.specs.Works.{nameFor, otherFor, view, showOf}
 use Rattle.refine.specs.Shows.{viewOf, slotNames, kept-shows}
 use Rattle.interface.specs.Answers.{shownOf}
 use Rattle.demand.specs.Holds.{shownBy, shownIn, markOf, holds, keptFor, Ok}
@@ -149,7 +148,7 @@ record Leaf (xs : List ℤ) (n : Node) (f : Form) : Type 0 where
   value : leafOf (length xs) (n .kind) (n .key) ≡ packOf (valueOf (evaluate xs nowhere f))
   held : Values.Storable (valueOf (evaluate xs nowhere f))
   shown : (u : View) → (let s = shownNumbers (valueOf (evaluate xs nowhere f)) in
-      shownOf (pickV (eqb (n .kind) 1) (view s (n .key) 0) (pickV (ltb (n .kind) 4) (view s 0 0) u)) ≡ shows xs f)
+      shownOf (cond (eqb (n .kind) 1) (view s (n .key) 0) (cond (ltb (n .kind) 4) (view s 0 0) u)) ≡ shows xs f)
 
 leaf : (xs : List ℤ) (n : Node) (φ : ℕ → Form) → length xs ≤ 1024 → Fine n → keyRight n ≡ true → n .kind < 4 → Leaf xs n (build n φ)
 unfolding leafOf build evaluate valueOf lookup awaited shows shownOf keyRight
@@ -176,8 +175,8 @@ module _ (m : Memory) (o : Ok m) (i : Invariant formulas formula-laws (holds m))
   unfolding entriesRight
   key-right =
       let w = sym (well-is (m .readings) (m .heads) (m .links) (m .cells)) ∙ accepted m o i in
-      let r = and-right (leb (readingCount m) 1024) _ (and-right (leb (entryCount m) 512) _ w) in
-      right-key j node (right-at (m .links) (m .cells) (entryCount m) j (and-left _ _ r) inside)
+      let r = and-eq-true-iff (leb (readingCount m) 1024) _ .0 (and-eq-true-iff (leb (entryCount m) 512) _ .0 w .1) .1 in
+      right-key j node (right-at (m .links) (m .cells) (entryCount m) j (and-eq-true-iff _ _ .0 r .0) inside)
 
   leaf-at : Leaf (recordingOf m) node (getD fs j readings)
   unfolding nodeAt

@@ -11,7 +11,7 @@ use lib.ListN.{length}
 use borrow.Author.Tests.{leb-false, eqb-true, eqb-false}
 use Rattle.language.specs.Names.{isLong}
 use Rattle.grammar.specs.Tokens.{Located}
-pub use Rattle.grammar.specs.TokensLaws.{by-test}
+use Rattle.grammar.specs.TokensLaws.{by-test}
 use Rattle.descent.specs.Cursor.{Cursor, wordKind, openKind, equalsKind, arrowKind, headKind, behindHead, isAt, isOutside}
 use Rattle.descent.specs.Cursor.{lambdasIn, atPart, atLet, atLambda, atName, atNumber, atMark, atLetName, atLambdaName, atMember, atCallOpen}
 use Rattle.descent.specs.Cursor.{pass, passPart, passName, passMember, refuse, judge, next, need, letHead, lambdaHead, callHead}

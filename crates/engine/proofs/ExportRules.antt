@@ -10,10 +10,10 @@ use borrow.Author.Tests.{ltb-false}
 use lib.Dec.{leb, ltb}
 use lib.IntN.{ℤ}
 use lib.ListN.{length}
+use Rattle.language.specs.Cases.{split}
 use Rattle.language.specs.Limits.{textBytes, textParts}
 use Rattle.grammar.specs.Reading.{Reading, tree, refused as refusedAt}
 use Rattle.grammar.specs.Machine.{readText}
-use Rattle.model.specs.Cases.{split}
 use Rattle.model.specs.Model.{refused, opened, edited, notYet, finished}
 use Rattle.layout.specs.Memory.{Memory, fits}
 use Rattle.table.specs.WellFormed.{wellFormed}

@@ -1,7 +1,7 @@
 -- A member on two numbers: whatever the member, it comes to onNumbers, which gives the wrong kind for a member that is used on windows. So
 -- a call on two cells that hold numbers tests no kinds. Assumes nothing.
 use mathlib.Core.Path.{_≡_, refl, sym, ap, _∙_}
-use mathlib.Core.Bool.{true, _&&_}
+use mathlib.Core.Bool.{true, _&&_, cond, and-eq-true-iff}
 use mathlib.Core.List.{List}
 use Prim.Native.Nat.{ℕ, _<_}
 use borrow.Author.Needs.{needs}
@@ -20,20 +20,19 @@ use Rattle.values.specs.declared.Value.the-variants.{Number, Missing}
 use Rattle.values.specs.declared.apply.Applied.the-variants.{Done}
 use Rattle.values.specs.Rules.{Rule, twoNumbers, window, windowNumber, windowRuns, rule, byNumbers, onNumbers}
 use Rattle.values.specs.RulesLaws.{receiverOf, argumentOf, receiver-kind, argument-kind}
-use Rattle.values.specs.Applied.{choose, ruled1, applied1}
+use Rattle.values.specs.Applied.{ruled1, applied1}
 use Rattle.values.specs.Packing.{windowCell}
 use Rattle.values.specs.PackingLaws.{numberIn, unpack-number}
-use Rattle.meaning.specs.FormsLaws.{and-left, and-right}
 use Rattle.evaluator.specs.Applying.{boundedOf, callOf}
 
 pub both-numbers : (a b : ℕ) → (ltb a windowCell && ltb b windowCell) ≡ true → (a < windowCell) × (b < windowCell)
-both-numbers a b e = (ltb-true a windowCell (and-left _ (ltb b windowCell) e), ltb-true b windowCell (and-right (ltb a windowCell) _ e))
+both-numbers a b e = (ltb-true a windowCell (and-eq-true-iff _ (ltb b windowCell) .0 e .0), ltb-true b windowCell (and-eq-true-iff (ltb a windowCell) _ .0 e .1))
 
 pub two-numbers : (m : Member) (xs : List ℤ) (x y : ℤ) → applied1 m xs (Number x) (Number y) ≡ Done (onNumbers m x y)
 unfolding applied1 ruled1 onNumbers
 two-numbers m xs x y = rw (receiver-kind m, argument-kind m) (by (rule m))
   where
-    by : (r : Rule) → choose (eqb 1 (kindNumber (receiverOf r))) (choose (eqb 1 (kindNumber (argumentOf r))) (Done (byNumbers r x y)) (Done (Missing 2))) (Done (Missing 2)) ≡ Done (byNumbers r x y)
+    by : (r : Rule) → cond (eqb 1 (kindNumber (receiverOf r))) (cond (eqb 1 (kindNumber (argumentOf r))) (Done (byNumbers r x y)) (Done (Missing 2))) (Done (Missing 2)) ≡ Done (byNumbers r x y)
     by (twoNumbers f) = refl
     by (window f) = refl
     by (windowNumber f) = refl

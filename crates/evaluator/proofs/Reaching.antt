@@ -70,7 +70,9 @@ gather-end links waits v j at flags list h inv = let q : j ≡ 0 = omega arith i
 pub gather-begin : (links waits : List ℕ) (v body : ℕ) (list : List ℕ) (r : Bool) → length list ≡ tableEntries → r ≡ moves waits v body → r ≡ true
     → gatherFrom links waits v (body + 1) (set (replicate tableEntries 0) body 1) (drop tableEntries list) ≡ gathered links waits v body
 unfolding gathered
-gather-begin links waits v body list r l e t = rw (sym e ∙ t, add-one) (ap (gatherFrom links waits v (suc body) (set (replicate tableEntries 0) body 1)) (drop-of-length-le list {i = tableEntries} (omega arith)))
+gather-begin links waits v body list r l e t =
+    rw (sym e ∙ t, add-one)
+    (ap (gatherFrom links waits v (suc body) (set (replicate tableEntries 0) body 1)) (drop-of-length-le list {i = tableEntries} (omega arith)))
 
 pub gather-none : (links waits : List ℕ) (v body : ℕ) (list : List ℕ) (r : Bool) → length list ≡ tableEntries → r ≡ moves waits v body → r ≡ false
     → drop tableEntries list ≡ gathered links waits v body

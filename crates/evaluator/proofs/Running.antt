@@ -113,7 +113,8 @@ module _ (g : Graph) (body : ℕ) (list : List ℕ) (at v c : ℕ) (before begin
   unfolding fillOf
   works-end h = record { same = λ f l. begun-same f l ∙ ap (λ (js : List ℕ). fillOf (applyAt g f) (body + 1) js frame) (drop-of-length-le list {i = k} (omega arith)); value = refl }
 
-pub works-again : (g : Graph) (body : ℕ) (list : List ℕ) (at : ℕ) (begins frame : List ℕ) (k r : ℕ) → length list ≡ tableEntries → Works g body list at begins frame k → k < tableEntries → getD list k 0 < body + 1
+pub works-again : (g : Graph) (body : ℕ) (list : List ℕ) (at : ℕ) (begins frame : List ℕ) (k r : ℕ) → length list ≡ tableEntries
+    → Works g body list at begins frame k → k < tableEntries → getD list k 0 < body + 1
     → Applies g frame (getD list k 0) r → Works g body list at begins (set frame (getD list k 0) r) (k + 1)
 unfolding fillOf
 works-again g body list at begins frame k r size work h m a =

@@ -2,7 +2,7 @@
 -- what awaits its variable is worked out again. A function's body is judged with its own variable delayed, whatever a run around it has set.
 -- Assumes nothing: these are definitions. What they come to is in refine's Meaning.
 use mathlib.Core.Path.{_≡_}
-use mathlib.Core.Bool.{Bool, true, false, cond}
+use mathlib.Core.Bool.{true, false, cond}
 use mathlib.Core.List.{List, [], _∷_}
 use Prim.Native.Nat.{ℕ, zero, suc, _+_, _-_, _≤_, _<_}
 use lib.Dec.{leb, ltb, eqb}
@@ -16,7 +16,7 @@ use Rattle.values.specs.declared.Value.the-variants.{Number, Window, Function, 
 use Rattle.values.specs.declared.apply.Applied.{Applied}
 use Rattle.values.specs.declared.apply.Applied.the-variants.{Done, Run}
 use Rattle.values.specs.declared.runs.Tally.{Tally}
-use Rattle.values.specs.Values.{pick, wrongKind}
+use Rattle.values.specs.Values.{wrongKind}
 use Rattle.values.specs.Windows.{readingsIn}
 use Rattle.values.specs.Apply.{apply0}
 use Rattle.values.specs.Applied.{applied1}
@@ -41,7 +41,7 @@ graph links waits xs = record { links = links; waits = waits; xs = xs }
 
 -- a receiver: a window that ends beyond 16 bits, which no recording has, is of the wrong kind
 unfoldable pub boundedOf : Value → Value
-boundedOf (Window s l) = pick (leb (s + l) 65535) (Window s l) (Missing wrongKind)
+boundedOf (Window s l) = cond (leb (s + l) 65535) (Window s l) (Missing wrongKind)
 boundedOf (Number z) = Number z
 boundedOf Function = Function
 boundedOf Delayed = Delayed
@@ -64,22 +64,18 @@ doneOf c = record { done = true; value = c; kind = numberKind; start = 0; length
 abbrev pub taskOf : ℕ → ℕ → ℕ → ℕ → ℕ → Task
 taskOf kind s l body v = record { done = false; value = 0; kind = kind; start = s; length = l; body = body; variable = v }
 
-abbrev pub pickT : Bool → Task → Task → Task
-pickT true a b = a
-pickT false a b = b
-
 unfoldable pub judgeOf : List ℕ → List ℕ → ℕ → ℕ → ℕ → Task
 judgeOf waits frame i body a =
-    pickT (leb 1 (ownOf (getD waits body 0) (getD waits i 0)))
-    (pickT (leb (ownOf (getD waits body 0) (getD waits i 0)) tableEntries) (taskOf functionKind 0 0 body (ownOf (getD waits body 0) (getD waits i 0))) (doneOf wrongCell))
+    cond (leb 1 (ownOf (getD waits body 0) (getD waits i 0)))
+    (cond (leb (ownOf (getD waits body 0) (getD waits i 0)) tableEntries) (taskOf functionKind 0 0 body (ownOf (getD waits body 0) (getD waits i 0))) (doneOf wrongCell))
     (doneOf (functionOf frame (getD waits i 0) a))
 
 -- the runs of the function that entry f is
 unfoldable pub runOf : List ℕ → List ℕ → ℕ → ℕ → ℕ → ℕ → Task
 runOf links waits f kind s l =
-    pickT (eqb (kindAt links f) functionKind)
-    (pickT (isBelow (firstAt links f) f)
-    (pickT (leb (ownOf (getD waits (firstAt links f - 1) 0) (getD waits f 0)) tableEntries)
+    cond (eqb (kindAt links f) functionKind)
+    (cond (isBelow (firstAt links f) f)
+    (cond (leb (ownOf (getD waits (firstAt links f - 1) 0) (getD waits f 0)) tableEntries)
     (taskOf kind s l (firstAt links f - 1) (ownOf (getD waits (firstAt links f - 1) 0) (getD waits f 0)))
     (doneOf wrongCell))
     (doneOf wrongCell))
@@ -94,10 +90,10 @@ planOf g frame i =
     let kind : ℕ = kindAt (g .links) i in
     let first : ℕ = firstAt (g .links) i in
     let second : ℕ = secondAt (g .links) i in
-    pickT (ltb kind functionKind) (doneOf (getD frame i 0))
-    (pickT (isBelow first i)
-    (pickT (eqb kind functionKind) (judgeOf (g .waits) frame i (first - 1) (getD frame (first - 1) 0))
-    (pickT (isBelow second i)
+    cond (ltb kind functionKind) (doneOf (getD frame i 0))
+    (cond (isBelow first i)
+    (cond (eqb kind functionKind) (judgeOf (g .waits) frame i (first - 1) (getD frame (first - 1) 0))
+    (cond (isBelow second i)
     (followOf (g .links) (g .waits) (second - 1) kind (callOf (memberOfKind kind) (g .xs) (getD frame (first - 1) 0) (getD frame (second - 1) 0)))
     (doneOf (askOf (memberOfKind kind) (g .xs) (getD frame (first - 1) 0)))))
     (doneOf wrongCell))

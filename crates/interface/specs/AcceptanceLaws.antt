@@ -9,6 +9,7 @@ use borrow.Author.Tests.{le-leb}
 use lib.Dec.{leb}
 use lib.IntN.{ℤ}
 use lib.ListN.{length}
+use Rattle.language.specs.Cases.{impossible}
 use Rattle.language.specs.Limits.{textBytes, textParts, tableReadings}
 use Rattle.grammar.specs.Grammar.{Expression}
 use Rattle.grammar.specs.Reading.{tree, refused as refusedAt, tokensOf}
@@ -16,7 +17,6 @@ use Rattle.grammar.specs.ReadingLaws.{refusal-range}
 use Rattle.grammar.specs.Places.{place-inside}
 use Rattle.grammar.specs.Machine.{readText}
 use Rattle.grammar.specs.Theorems.{text-read-plainly, text-refused}
-use Rattle.model.specs.Cases.{impossible}
 use Rattle.model.specs.Model.{refused, opened}
 use Rattle.layout.specs.Memory.{Memory, fits, entryCount}
 use Rattle.table.specs.WellFormed.{wellFormed}

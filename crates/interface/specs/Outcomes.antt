@@ -1,17 +1,17 @@
 -- Each call's answer, case by case, with what is known in each: the tests of Calls in their order. Assumes nothing.
 use mathlib.Core.Path.{_≡_, refl}
-use mathlib.Core.Bool.{true, false, _&&_}
+use mathlib.Core.Bool.{true, false, _&&_, and-eq-true-iff}
 use mathlib.Core.List.{List}
 use Prim.Native.Nat.{ℕ, _≤_, _<_}
 use borrow.Author.Tests.{leb-true, ltb-true, ltb-false}
 use lib.Dec.{leb, ltb}
 use lib.IntN.{ℤ}
 use lib.ListN.{length}
+use Rattle.language.specs.Cases.{split}
 use Rattle.language.specs.Limits.{textBytes, textParts, tableEntries, tableReadings}
 use Rattle.grammar.specs.Grammar.{Expression}
 use Rattle.grammar.specs.Reading.{Reading, tree, refused as refusedAt}
 use Rattle.grammar.specs.Machine.{readText}
-use Rattle.model.specs.Cases.{split, both}
 use Rattle.model.specs.Model.{refused, opened, edited}
 use Rattle.layout.specs.Memory.{Memory, fits, entryCount, readingCount}
 use Rattle.table.specs.WellFormed.{wellFormed}
@@ -69,7 +69,7 @@ edit-outcome m places text =
     (λ p. split (fits m && leb textParts (length places))
     (λ q. split (wellFormed m)
     (λ w.
-    let b = both (fits m) _ q in
+    let b = and-eq-true-iff (fits m) _ .0 q in
     let ready : Ready m places text =
     record { short = ltb-false textBytes (length text) p; whole = b .0; room = leb-true textParts (length places) (b .1); well = w } in
     read-outcome m places text ready (readText text) refl (rw (p, q, w)))

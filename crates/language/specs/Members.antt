@@ -1,5 +1,5 @@
 -- 01, "Members": the table of the members, a row for each, in 01's order. Assumes nothing: these are definitions.
-use mathlib.Core.Bool.{Bool, true, false, _&&_}
+use mathlib.Core.Bool.{Bool, true, false, _&&_, cond}
 use mathlib.Core.List.{List, [], _∷_, _++_}
 use Prim.Native.Nat.{ℕ, zero, suc, _-_}
 use Prim.Native.String.{String}
@@ -106,13 +106,9 @@ sameBytes [] (b ∷ w) = false
 sameBytes (a ∷ v) [] = false
 sameBytes (a ∷ v) (b ∷ w) = eqb a b && sameBytes v w
 
-abbrev pub pickFound : Bool → Found → Found → Found
-pickFound true a b = a
-pickFound false a b = b
-
 unfoldable pub namedIn : List Member → List ℕ → Found
 namedIn [] w = Unknown
-namedIn (m ∷ ms) w = pickFound (sameBytes w (row m .name)) (Is m) (namedIn ms w)
+namedIn (m ∷ ms) w = cond (sameBytes w (row m .name)) (Is m) (namedIn ms w)
 
 -- the member of a name
 unfoldable pub memberOf : List ℕ → Found

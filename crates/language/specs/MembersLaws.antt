@@ -1,9 +1,10 @@
 -- The member table: each member has one number and one name, both are its own.
 -- Assumes nothing.
 use mathlib.Core.Path.{_≡_, refl, sym, ap, _∙_}
-use mathlib.Core.Bool.{Bool, true, false, _&&_, and-eq-true-iff}
+use mathlib.Core.Bool.{Bool, true, false, _&&_, and-eq-true-iff, cond}
 use mathlib.Core.List.{List, [], _∷_, map}
 use mathlib.Core.Logic.{_↔_}
+use mathlib.Mathlib.Data.Bool.Basic.{eq-false-eq-not-eq-true}
 use Prim.Native.Nat.{ℕ, zero, suc, _+_, _-_, _≤_, _<_}
 use native.Mathlib.Nat.{add-zero, zero-add, add-suc, suc-add}
 use native.Mathlib.Numerals.{add-one}
@@ -13,7 +14,7 @@ use lib.ListN.{length, getD, take, drop, replicate, drop-of-length-le, length-ta
 use lib.Seq.{take-at, getD-take, ext-getD}
 use borrow.Author.Tests.{ne-eqb, eqb-true, eq-eqb, leb-true}
 use Rattle.language.specs.Names.{bytes}
-use Rattle.language.specs.Members.{row, members, memberNumber, foundIn, memberAt, sameBytes, pickFound, namedIn, memberOf, nameOf, padded}
+use Rattle.language.specs.Members.{row, members, memberNumber, foundIn, memberAt, sameBytes, namedIn, memberOf, nameOf, padded}
 use Rattle.language.specs.declared.members.Member.{Member}
 use Rattle.language.specs.declared.members.Member.the-variants.{Add, Sub, Mul, Div, Gt, Eq, Skip, Take, Count, Sum, Min, Max, At, CountWhere, LongestRun, SumBy}
 use Rattle.language.specs.declared.members.Name.{Name}
@@ -123,12 +124,8 @@ same-equal (a ∷ v) (b ∷ w) e =
 pub same-bytes : (v w : List ℕ) → (sameBytes v w ≡ true) ↔ (v ≡ w)
 same-bytes v w = (same-equal v w, λ e. rw e (same-refl w))
 
-refuted : (b : Bool) → (b ≡ true → ⊥) → b ≡ false
-refuted true h = absurd (h refl)
-refuted false h = refl
-
 pub other-bytes : (v w : List ℕ) → (v ≡ w → ⊥) → sameBytes v w ≡ false
-other-bytes v w h = refuted (sameBytes v w) (λ e. h (same-equal v w e))
+other-bytes v w h = eq-false-eq-not-eq-true (sameBytes v w) .0 (λ e. h (same-equal v w e))
 
 isMember : Member → Found → Bool
 isMember m (Is k) = eqb (memberNumber k) (memberNumber m)
@@ -143,7 +140,7 @@ pub name-found : (m : Member) → memberOf (row m .name) ≡ Is m
 unfolding isMember memberOf namedIn sameBytes row bytes
 name-found m = is-member m (memberOf (row m .name)) (each (λ k. isMember k (memberOf (row k .name))) refl m)
 
-picked : (b : Bool) (k m : Member) (f : Found) (w : List ℕ) → sameBytes w (row k .name) ≡ b → (f ≡ Is m → w ≡ row m .name) → pickFound b (Is k) f ≡ Is m → w ≡ row m .name
+picked : (b : Bool) (k m : Member) (f : Found) (w : List ℕ) → sameBytes w (row k .name) ≡ b → (f ≡ Is m → w ≡ row m .name) → cond b (Is k) f ≡ Is m → w ≡ row m .name
 picked true k m f w s h e = cc (same-equal w (row k .name) s)
 picked false k m f w s h e = h e
 
@@ -159,7 +156,7 @@ name-own w m e = named-in members w m e
 -- ---- the search for a name, row by row
 
 rest-row : (ms : List Member) (n : ℕ) (w : List ℕ) → n < length ms
-    → namedIn (drop n ms) w ≡ pickFound (sameBytes w (nameOf (foundIn ms n))) (foundIn ms n) (namedIn (drop (suc n) ms) w)
+    → namedIn (drop n ms) w ≡ cond (sameBytes w (nameOf (foundIn ms n))) (foundIn ms n) (namedIn (drop (suc n) ms) w)
 unfolding namedIn
 rest-row [] n w h = absurd (omega arith)
 rest-row (m ∷ ms) zero w h = refl

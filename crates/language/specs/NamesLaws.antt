@@ -1,7 +1,7 @@
 -- What packing keeps: a word's number is below 256 to the word's length, and two words of bytes from 1 to 255 have one number only if
 -- they are one word. So a name may be kept as its number. Assumes nothing.
 use mathlib.Core.Path.{_≡_, refl, sym, ap}
-use mathlib.Core.Bool.{Bool, true, false, _||_, and-eq-true-iff}
+use mathlib.Core.Bool.{true, and-eq-true-iff}
 use mathlib.Core.List.{List, [], _∷_}
 use mathlib.Core.Logic.{_↔_}
 use Prim.Native.Nat.{ℕ, suc, _+_, _*_, _^_, _≤_, _<_}
@@ -13,6 +13,7 @@ use lib.Dec.{leb, lit<}
 use lib.ListN.{length, getD, drop, drop-of-length-le}
 use lib.Seq.{drop-cons}
 use borrow.Author.Tests.{eqb-true, eq-eqb, leb-true}
+use Rattle.language.specs.Cases.{either}
 use Rattle.language.specs.Names.{between, isLetter, isDigit, inWord, packOnto, packed, sameName}
 
 -- every byte of a word is such
@@ -105,10 +106,6 @@ pub same-name : (v w : List ℕ) → Each NameByte v → Each NameByte w → (sa
 same-name v w hv hw = (λ e. packed-injective v w hv hw (eqb-true (packed v) (packed w) e), λ e. eq-eqb (packed v) (packed w) (ap packed e))
 
 -- letters and digits are bytes of names
-or-elim : {P : Type 0} (a b : Bool) → (a ≡ true → P) → (b ≡ true → P) → (a || b) ≡ true → P
-or-elim true b f g e = f refl
-or-elim false b f g e = g e
-
 name-between : (lo hi b : ℕ) → 0 < lo → hi < 256 → between lo hi b ≡ true → NameByte b
 name-between lo hi b l h e =
     let both = and-eq-true-iff (leb lo b) (leb b hi) .0 e in
@@ -116,6 +113,6 @@ name-between lo hi b l h e =
 
 pub word-byte : (b : ℕ) → inWord b ≡ true → NameByte b
 word-byte b e =
-    or-elim (isLetter b) (isDigit b)
-    (or-elim (between 65 90 b) (between 97 122 b) (name-between 65 90 b (lit< tt) (lit< tt)) (name-between 97 122 b (lit< tt) (lit< tt)))
-    (name-between 48 57 b (lit< tt) (lit< tt)) e
+    either (isLetter b) (isDigit b) e
+    (λ l. either (between 65 90 b) (between 97 122 b) l (name-between 65 90 b (lit< tt) (lit< tt)) (name-between 97 122 b (lit< tt) (lit< tt)))
+    (name-between 48 57 b (lit< tt) (lit< tt))

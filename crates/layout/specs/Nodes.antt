@@ -1,5 +1,5 @@
 -- 01, "Binding": the kinds of entries, their dependencies, and the form that an entry stands for. Assumes nothing: these are definitions.
-use mathlib.Core.Bool.{Bool, true, false, cond, not, _&&_, _||_}
+use mathlib.Core.Bool.{Bool, false, cond, not, _&&_, _||_}
 use mathlib.Core.List.{List, [], _∷_}
 use Prim.Native.Nat.{ℕ, zero, suc, _+_, _-_, _/_, _%_}
 use lib.Dec.{ltb, leb, eqb}
@@ -40,13 +40,9 @@ memberKind m = firstMember + memberNumber m
 abbrev pub kindCount : ℕ
 kindCount = firstMember + length members
 
-abbrev pub pickFound : Bool → Found → Found → Found
-pickFound true a b = a
-pickFound false a b = b
-
 -- the member of a kind, if it is one
 unfoldable pub memberOfKind : ℕ → Found
-memberOfKind k = pickFound (ltb k firstMember) Unknown (memberAt (k - firstMember))
+memberOfKind k = cond (ltb k firstMember) Unknown (memberAt (k - firstMember))
 
 abbrev pub memberArity : Found → ℕ
 memberArity (Is m) = suc (row m .arguments)
@@ -77,22 +73,18 @@ sameNode a b = eqb (a .kind) (b .kind) && (eqb (a .key) (b .key) && (eqb (a .fir
 abbrev pub numberOfKey : ℕ → ℤ
 numberOfKey key = pos key -ℤ pos 2147483648
 
-abbrev pub pickForm : Bool → Form → Form → Form
-pickForm true f g = f
-pickForm false f g = g
-
 abbrev pub memberForm : Found → Form → Form → Form
-memberForm (Is m) f a = pickForm (eqb (row m .arguments) 0) (ask m f) (call m f a)
+memberForm (Is m) f a = cond (eqb (row m .arguments) 0) (ask m f) (call m f a)
 memberForm Unknown f a = readings
 
 -- the form of an entry, from the forms of its dependencies by number
 unfoldable pub build : Node → (ℕ → Form) → Form
 build n φ =
-    pickForm (eqb (n .kind) numberKind) (number (numberOfKey (n .key)))
-    (pickForm (eqb (n .kind) variableKind) (variable (n .key))
-    (pickForm (eqb (n .kind) unboundKind) (unbound (n .key))
-    (pickForm (eqb (n .kind) readingsKind) readings
-    (pickForm (eqb (n .kind) functionKind) (function (n .key) (φ (n .first - 1)))
+    cond (eqb (n .kind) numberKind) (number (numberOfKey (n .key)))
+    (cond (eqb (n .kind) variableKind) (variable (n .key))
+    (cond (eqb (n .kind) unboundKind) (unbound (n .key))
+    (cond (eqb (n .kind) readingsKind) readings
+    (cond (eqb (n .kind) functionKind) (function (n .key) (φ (n .first - 1)))
     (memberForm (memberOfKind (n .kind)) (φ (n .first - 1)) (φ (n .second - 1)))))))
 
 -- a number that is a packed name: a letter, then letters and digits, at most so many bytes in all

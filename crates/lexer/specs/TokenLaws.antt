@@ -1,7 +1,7 @@
 -- The token at the front of some bytes: it takes at least one of them and no more than there are, and its kind and its bytes say which
 -- token it is. Assumes nothing.
 use mathlib.Core.Path.{_≡_, refl, ap}
-use mathlib.Core.Bool.{Bool, true, false, cond, _&&_}
+use mathlib.Core.Bool.{Bool, true, false, cond, and-eq-true-iff}
 use mathlib.Core.List.{List, [], _∷_}
 use Prim.Native.Nat.{ℕ, zero, suc, _≤_}
 use native.Mathlib.Omega.{arith}
@@ -41,12 +41,8 @@ module _ (b : ℕ) (bs : List ℕ) where
       }
 
   -- ---- numbers without a sign
-  both : (t u : Bool) → (t && u) ≡ true → t ≡ true
-  both true u e = refl
-  both false u e = e
-
   digit-no-minus : isDigit b ≡ true → eqb b 45 ≡ false
-  digit-no-minus e = ne-eqb b 45 (λ q. omega (arith, leb-true 48 b (both (leb 48 b) (leb b 57) e)))
+  digit-no-minus e = ne-eqb b 45 (λ q. omega (arith, leb-true 48 b (and-eq-true-iff (leb 48 b) (leb b 57) .0 e .0)))
 
   digits-which : isDigit b ≡ true → (n : ℕ) → 1 ≤ n → valueOf (take n (b ∷ bs)) ≡ pos (decimal (take n (b ∷ bs)))
   unfolding valueOf

@@ -7,7 +7,7 @@ use Prim.Native.Nat.{ℕ}
 use borrow.Author.Tests.{eqb-true, eqb-false}
 use lib.Dec.{eqb}
 use lib.IntN.{ℤ, pos}
-pub use Rattle.language.specs.Cases.{split}
+use Rattle.language.specs.Cases.{split}
 use Rattle.values.specs.declared.Value.{Value}
 use Rattle.values.specs.declared.Value.the-variants.{Number, Delayed}
 use Rattle.values.specs.Apply.{isDelayed}

@@ -1,24 +1,16 @@
 -- The test `same` is equality of forms, and what lies within a form is the form itself or lies within a dependency. Assumes nothing.
 use mathlib.Core.Path.{_≡_, refl, ap}
 use mathlib.Core.Logic.{_⊎_, inl, inr}
-use mathlib.Core.Bool.{Bool, true, _&&_, _||_, and-eq-true-iff}
+use mathlib.Core.Bool.{true, _||_, and-eq-true-iff}
 use Prim.Native.Nat.{ℕ, zero, suc}
 use borrow.Author.Tests.{eqb-true, eq-eqb}
 use lib.IntN.{ℤ, pos, negsuc}
-use Rattle.language.specs.Cases.{impossible}
-pub use Rattle.language.specs.Cases.{impossible as no-way, either, or-right}
+use Rattle.language.specs.Cases.{impossible, either, or-right}
 use Rattle.language.specs.Members.{memberNumber}
 use Rattle.language.specs.MembersLaws.{number-injective}
 use Rattle.language.specs.declared.members.Member.{Member}
 use Rattle.values.specs.Values.{sameℤ}
 use Rattle.meaning.specs.Forms.{Form, number, variable, unbound, readings, ask, call, function, sameMember, shapeOf, integerOf, nameOf, memberOf, firstOf, secondOf, same, dependency, within}
-
--- the two halves of a true `&&`
-pub and-left : (a b : Bool) → (a && b) ≡ true → a ≡ true
-and-left a b h = and-eq-true-iff a b .0 h .0
-
-pub and-right : (a b : Bool) → (a && b) ≡ true → b ≡ true
-and-right a b h = and-eq-true-iff a b .0 h .1
 
 -- pieces
 sameℤ-eq : (a b : ℤ) → sameℤ a b ≡ true → a ≡ b

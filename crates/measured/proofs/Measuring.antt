@@ -1,7 +1,7 @@
 -- The measured functions' paths: where the arguments are in range the engine's function is called, and otherwise nothing is done.
 -- Assumes nothing.
 use mathlib.Core.Path.{_≡_, refl, sym, ap, _∙_}
-use mathlib.Core.Bool.{Bool, true, false, _&&_}
+use mathlib.Core.Bool.{Bool, true, false, _&&_, and-eq-true-iff}
 use mathlib.Core.List.{List}
 use Prim.Native.Nat.{ℕ, _-_, _≤_, _<_}
 use native.Mathlib.Omega.{arith}
@@ -10,7 +10,6 @@ use lib.Dec.{leb, ltb}
 use lib.IntN.{ℤ}
 use lib.ListN.{length, getD}
 use lib.Seq.{getD-take}
-use Rattle.meaning.specs.FormsLaws.{and-left, and-right}
 use Rattle.layout.specs.Memory.{nodeAt}
 use Rattle.table.specs.WellFormed.{distinct}
 use Rattle.table.specs.Bind.{Bound}
@@ -40,19 +39,19 @@ module _ (links cells : List ℕ) (count n : ℕ) (can : Bool) (told : can ≡ c
   all so = sym told ∙ so
 
   within : can ≡ true → (leb 1 n && leb n 128) ≡ true
-  within so = and-left (leb 1 n && leb n 128) _ (and-right (leb count 512) _ (all so))
+  within so = and-eq-true-iff (leb 1 n && leb n 128) _ .0 (and-eq-true-iff (leb count 512) _ .0 (all so) .1) .0
 
   pub bind-count : can ≡ true → count ≤ 512
-  bind-count so = leb-true _ _ (and-left (leb count 512) _ (all so))
+  bind-count so = leb-true _ _ (and-eq-true-iff (leb count 512) _ .0 (all so) .0)
 
   pub bind-some : can ≡ true → 1 ≤ n
-  bind-some so = leb-true _ _ (and-left (leb 1 n) _ (within so))
+  bind-some so = leb-true _ _ (and-eq-true-iff (leb 1 n) _ .0 (within so) .0)
 
   pub bind-few : can ≡ true → n ≤ 128
-  bind-few so = leb-true _ _ (and-right (leb 1 n) _ (within so))
+  bind-few so = leb-true _ _ (and-eq-true-iff (leb 1 n) _ .0 (within so) .1)
 
   pub bind-apart : can ≡ true → distinct (numbered (nodeAt links cells) 0 count) ≡ true
-  bind-apart so = and-right (leb 1 n && leb n 128) _ (and-right (leb count 512) _ (all so))
+  bind-apart so = and-eq-true-iff (leb 1 n && leb n 128) _ .0 (and-eq-true-iff (leb count 512) _ .0 (all so) .1) .1
 
   pub bind-done : can ≡ true → (records : List ℕ) (total : ℕ) (numbers fresh : List ℕ) → BoundAll links cells count records n total numbers fresh
       → (last : ℕ) → last ≡ getD numbers (n - 1) 0 → (r : ℕ) → r ≡ boundNumber total last → r ≡ bindNumber links cells count records n
@@ -74,11 +73,11 @@ module _ (xs : List ℤ) (links cells : List ℕ) (n allowance : ℕ) (can : Boo
   pub work-lent : can ≡ true → Lent xs cells n
   work-lent so =
       let all : canWork xs cells n ≡ true = sym told ∙ so in
-      let rest : (leb 2048 (length cells) && ltb n 512) ≡ true = and-right (leb (length xs) 1024) _ all in
+      let rest : (leb 2048 (length cells) && ltb n 512) ≡ true = and-eq-true-iff (leb (length xs) 1024) _ .0 all .1 in
       record {
-        few = leb-true _ _ (and-left (leb (length xs) 1024) _ all);
-        room = leb-true _ _ (and-left (leb 2048 (length cells)) _ rest);
-        entry = ltb-true _ _ (and-right (leb 2048 (length cells)) _ rest);
+        few = leb-true _ _ (and-eq-true-iff (leb (length xs) 1024) _ .0 all .0);
+        room = leb-true _ _ (and-eq-true-iff (leb 2048 (length cells)) _ .0 rest .0);
+        entry = ltb-true _ _ (and-eq-true-iff (leb 2048 (length cells)) _ .0 rest .1);
       }
 
   pub work-done : can ≡ true → (after : List ℕ) (count : ℕ) (left : Bool) → Works xs links cells n allowance after count left

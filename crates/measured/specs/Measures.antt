@@ -1,7 +1,7 @@
 -- What the measured functions answer, as one number, and what they leave in lent memory. Where the arguments are out of range the answer is 0
 -- and nothing is written. Assumes nothing: these are definitions.
 use mathlib.Core.Path.{_≡_}
-use mathlib.Core.Bool.{Bool, true, false, cond, _&&_}
+use mathlib.Core.Bool.{Bool, false, cond, _&&_}
 use mathlib.Core.List.{List, []}
 use Prim.Native.Nat.{ℕ, _+_, _*_, _-_, _%_}
 use lib.Dec.{leb, ltb}
@@ -56,12 +56,8 @@ packedWork count left = cond left (2 * count + 1) (2 * count)
 abbrev pub canWork : List ℤ → List ℕ → ℕ → Bool
 canWork xs cells n = leb (length xs) 1024 && (leb 2048 (length cells) && ltb n 512)
 
-abbrev pub pickWork : Bool → Work → Work → Work
-pickWork true a b = a
-pickWork false a b = b
-
 unfoldable pub workMeasured : List ℤ → List ℕ → List ℕ → ℕ → ℕ → Work
-workMeasured xs links cells n allowance = pickWork (canWork xs cells n) (worked xs links cells n allowance) (workOf cells 0 false)
+workMeasured xs links cells n allowance = cond (canWork xs cells n) (worked xs links cells n allowance) (workOf cells 0 false)
 
 pub record Worked (xs : List ℤ) (links cells : List ℕ) (n allowance : ℕ) (after : List ℕ) (r : ℕ) : Type 0 where
   pub answer : r ≡ packedWork (workMeasured xs links cells n allowance .count) (workMeasured xs links cells n allowance .left)

@@ -6,7 +6,6 @@ pub mod Model
 pub mod Since
 pub mod Runs
 -- What is asked of a language, and the theory of the model alone.
-pub mod Cases
 pub mod ListLaws
 pub mod Laws
 pub mod Forms

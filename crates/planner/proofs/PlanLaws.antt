@@ -154,7 +154,8 @@ module _ (readings : List ℤ) (heads links cells : List ℕ) (count : ℕ) (hel
 
   fresh-are : drop (entryCount m) (b .nodes) ≡ numbered (freshAt F) 0 (total - entryCount m)
   fresh-are =
-      ap (drop (getD heads 0 0)) (ap (λ (x : Bound). x .nodes) bound-is) ∙ ap (λ (k : ℕ). drop k (bindAll (bound (numbered (nodeAt links cells) 0 count) []) (numbered (recordAt R) 0 size) .nodes)) held
+      ap (drop (getD heads 0 0)) (ap (λ (x : Bound). x .nodes) bound-is)
+      ∙ ap (λ (k : ℕ). drop k (bindAll (bound (numbered (nodeAt links cells) 0 count) []) (numbered (recordAt R) 0 size) .nodes)) held
       ∙ sym (bound-waits links cells count R size total N F all) ∙ ap (λ (k : ℕ). numbered (freshAt F) 0 (total - k)) (sym held)
 
   answer-is : readAnswer m (readText text) ≡ editedAs m Z b

@@ -7,6 +7,7 @@ use mathlib.Core.List.{List, [], _∷_}
 use Prim.Native.Nat.{ℕ}
 use lib.Dec.{eqb}
 use lib.IntN.{ℤ, pos}
+use Rattle.language.specs.Cases.{or-right, impossible, split}
 use Rattle.language.specs.declared.members.Member.{Member}
 use Rattle.values.specs.declared.Value.{Value}
 use Rattle.values.specs.declared.Value.the-variants.{Number, Window, Function, Delayed, Missing}
@@ -15,9 +16,8 @@ use Rattle.meaning.specs.Forms.{Form, number, variable, unbound, readings, ask,
 use Rattle.meaning.specs.Evaluation.{Result, valueOf, runOf, Environment, nowhere, bind, lookup, settled, functionOf, evaluate, putFor}
 use Rattle.meaning.specs.Evaluation.{hasName, joined, without, awaited, aDelay, aReason, shownAs, shows}
 use Rattle.meaning.specs.EvaluationLaws.{evaluate-put}
-use Rattle.model.specs.Cases.{impossible, split}
 use Rattle.table.specs.AwaitsLaws.{has-joined}
-use Rattle.refine.specs.Free.{or-right, settled-no, has-without}
+use Rattle.refine.specs.Free.{settled-no, has-without}
 use Rattle.demand.specs.Fitting.{delayed-awaits}
 
 -- ---- the names awaited

@@ -8,8 +8,8 @@ use borrow.Author.Tests.{ltb-true, ltb-false, lt-ltb, le-ltb}
 use lib.Dec.{ltb}
 use lib.ListN.{set}
 use lib.Seq.{getD-set-other}
+use Rattle.language.specs.Cases.{split}
 use Rattle.scheduler.specs.Works.{chosen, workFrom}
-use Rattle.refine.specs.Free.{split}
 
 -- the entries to be worked out, of k from i on
 unfoldable pub chosenIn : List ℕ → List ℕ → List ℕ → ℕ → ℕ → ℕ

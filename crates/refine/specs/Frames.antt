@@ -2,7 +2,7 @@
 -- Assumes nothing.
 use mathlib.Core.Path.{_≡_, refl, sym, ap, _∙_, subst}
 use mathlib.Core.Logic.{_⊎_, inl, inr, ⊎-elim}
-use mathlib.Core.Bool.{Bool, true, false, cond, not}
+use mathlib.Core.Bool.{Bool, true, false, cond, not, and-eq-true-iff}
 use mathlib.Core.List.{List, [], _∷_, map}
 use Prim.Native.Nat.{ℕ, suc, _+_, _-_, _≤_, _<_}
 use native.Mathlib.Omega.{arith}
@@ -13,6 +13,7 @@ use lib.IntN.{ℤ}
 use lib.ListN.{length, getD, set, length-set}
 use lib.Seq.{getD-set-same, getD-set-other}
 use lib.Signed.{mag}
+use Rattle.language.specs.Cases.{split}
 use Rattle.values.specs.declared.Value.{Value}
 use Rattle.values.specs.declared.Value.the-variants.{Number}
 use Rattle.values.specs.declared.runs.Tally.{Tally}
@@ -27,7 +28,7 @@ use Rattle.table.specs.Waits.{awaits}
 use Rattle.evaluator.specs.Reach.{moves, gathered}
 use Rattle.evaluator.specs.Frames.{bound}
 use Rattle.evaluator.specs.Applying.{Go, fillOf, setOf, overOf}
-use Rattle.refine.specs.Free.{decEq, free, never, split, both, free-variable, unbound-same}
+use Rattle.refine.specs.Free.{decEq, free, never, free-variable, unbound-same}
 use Rattle.refine.specs.Tables.{EntryAt, is-number, is-variable, is-unbound, is-readings, is-function, is-ask, is-call, Good, PlainValue, Plain, kept-entry, Sees, here, down, sees-free, sees-below, sees-trans}
 use Rattle.refine.specs.Sweeps.{In, Rising, rising-above, list-moves, list-rises, list-low, list-top, list-down}
 
@@ -79,7 +80,7 @@ module _ (links cells waits : List ℕ) (xs : List ℤ) (n : ℕ) (φ : ℕ → 
 
       moves-free : (m : ℕ) → m < n → moves waits v m ≡ true → (free x (φ m) ≡ true) × (m ≡ j₀ → ⊥)
       moves-free m h e =
-          let p = both (awaits (getD waits m 0) v) (not (eqb (m + 1) v)) e in
+          let p = and-eq-true-iff (awaits (getD waits m 0) v) (not (eqb (m + 1) v)) .0 e in
           (sym (good .awaited m j₀ h var-n var-k) ∙ p .0, λ q. never (p .1) (rw (eq-eqb (m + 1) v (omega arith))))
 
       free-moves : (m : ℕ) → m < n → free x (φ m) ≡ true → (m ≡ j₀ → ⊥) → moves waits v m ≡ true

@@ -1,11 +1,12 @@
 -- The free names of a form: what it comes to depends on the environment at these alone. Assumes nothing.
 use mathlib.Core.Path.{_≡_, refl, sym, ap, _∙_, subst}
-use mathlib.Core.Bool.{Bool, true, false, not, _&&_, _||_, false≢true}
+use mathlib.Core.Bool.{Bool, true, false, not, _&&_, _||_, false≢true, and-eq-true-iff}
 use mathlib.Core.List.{List, [], _∷_}
 use Prim.Native.Nat.{ℕ}
-use borrow.Author.Tests.{eq-eqb, ne-eqb, eqb-true, eqb-false}
+use borrow.Author.Tests.{eq-eqb, ne-eqb, eqb-true, eqb-false, not-false}
 use lib.Dec.{eqb}
 use lib.IntN.{ℤ, pos}
+use Rattle.language.specs.Cases.{split, either, or-right}
 use Rattle.language.specs.declared.members.Member.{Member}
 use Rattle.values.specs.declared.Value.{Value}
 use Rattle.values.specs.declared.Value.the-variants.{Number, Delayed}
@@ -19,25 +20,6 @@ free y f = hasName y (awaited f)
 
 pub never : {A : Type 0} {b : Bool} → b ≡ true → b ≡ false → A
 never p q = absurd (false≢true (sym q ∙ p))
-
-pub split : {A : Type 0} (b : Bool) → (b ≡ true → A) → (b ≡ false → A) → A
-split true t f = t refl
-split false t f = f refl
-
-pub either : (a b : Bool) {A : Type 0} → (a || b) ≡ true → (a ≡ true → A) → (b ≡ true → A) → A
-either true b e f g = f refl
-either false b e f g = g e
-
-pub both : (a b : Bool) → (a && b) ≡ true → (a ≡ true) × (b ≡ true)
-both true b e = (refl, e)
-both false b e = absurd (false≢true e)
-
-pub or-left : (a b : Bool) → a ≡ true → (a || b) ≡ true
-or-left a b e = rw e
-
-pub or-right : (a b : Bool) → b ≡ true → (a || b) ≡ true
-or-right true b e = refl
-or-right false b e = e
 
 pub decEq : (m n : ℕ) → Dec (m ≡ n)
 decEq m n = split (eqb m n) (λ p. yes (eqb-true m n p)) (λ p. no (eqb-false m n p))
@@ -89,7 +71,10 @@ settled-same ρ σ (unbound x) h = refl
 settled-same ρ σ readings h = refl
 settled-same ρ σ (ask m f) h = settled-same ρ σ f (asked ρ σ m f h)
 settled-same ρ σ (call m f a) h =
-    rw (settled-same ρ σ f (λ y e. h y (free-call y m f a ∙ or-left (free y f) (free y a) e)), settled-same ρ σ a (λ y e. h y (free-call y m f a ∙ or-right (free y f) (free y a) e)))
+    rw (
+      settled-same ρ σ f (λ y e. h y (free-call y m f a ∙ rw e)),
+      settled-same ρ σ a (λ y e. h y (free-call y m f a ∙ or-right (free y f) (free y a) e)),
+    )
 settled-same ρ σ (function x b) h = settled-same (bind x (Number (pos 0)) ρ) (bind x (Number (pos 0)) σ) b (under ρ σ x (Number (pos 0)) b h)
 
 pub evaluate-same : (xs : List ℤ) (ρ σ : Environment) (f : Form) → Agree ρ σ f → evaluate xs ρ f ≡ evaluate xs σ f
@@ -100,7 +85,10 @@ evaluate-same xs ρ σ (unbound x) h = refl
 evaluate-same xs ρ σ readings h = refl
 evaluate-same xs ρ σ (ask m f) h = rw (evaluate-same xs ρ σ f (asked ρ σ m f h))
 evaluate-same xs ρ σ (call m f a) h =
-    rw (evaluate-same xs ρ σ f (λ y e. h y (free-call y m f a ∙ or-left (free y f) (free y a) e)), evaluate-same xs ρ σ a (λ y e. h y (free-call y m f a ∙ or-right (free y f) (free y a) e)))
+    rw (
+      evaluate-same xs ρ σ f (λ y e. h y (free-call y m f a ∙ rw e)),
+      evaluate-same xs ρ σ a (λ y e. h y (free-call y m f a ∙ or-right (free y f) (free y a) e)),
+    )
 evaluate-same xs ρ σ (function x b) h =
     λ i. functionOf
     (valueOf (evaluate-same xs (bind x Delayed ρ) (bind x Delayed σ) b (under ρ σ x Delayed b h) i))
@@ -125,7 +113,7 @@ settled-no ρ (call m f a) y e h =
     (λ p. rw (settled-no ρ f y p h))
     (λ p. split (settled ρ f) (λ q. rw (q, settled-no ρ a y p h)) (λ q. rw q))
 settled-no ρ (function x b) y e h =
-    let p = both (not (eqb x y)) (free y b) (sym (free-function y x b) ∙ e) in
+    let p = and-eq-true-iff (not (eqb x y)) (free y b) .0 (sym (free-function y x b) ∙ e) in
     split (eqb x y) (λ q. never (p .0) (rw q)) (λ q. settled-no (bind x (Number (pos 0)) ρ) b y (p .1) (rw q h))
 
 pub record Waits (ρ : Environment) (f : Form) : Type 0 where
@@ -133,21 +121,20 @@ pub record Waits (ρ : Environment) (f : Form) : Type 0 where
   pub isFree : free name f ≡ true
   pub unset : isDelayed (lookup ρ name) ≡ true
 
-not-not : (b : Bool) → not b ≡ false → b ≡ true
-not-not true e = refl
-not-not false e = absurd (false≢true (sym e))
-
 pub settled-find : (ρ : Environment) (f : Form) → settled ρ f ≡ false → Waits ρ f
 unfolding settled lookup awaited hasName
 settled-find ρ (number z) e = never refl e
-settled-find ρ (variable x) e = record { name = x; isFree = free-variable x x ∙ eq-eqb x x refl; unset = not-not _ e }
+settled-find ρ (variable x) e = record { name = x; isFree = free-variable x x ∙ eq-eqb x x refl; unset = not-false _ e }
 settled-find ρ (unbound x) e = never refl e
 settled-find ρ readings e = never refl e
 settled-find ρ (ask m f) e = let w = settled-find ρ f e in record { name = w .name; isFree = w .isFree; unset = w .unset }
 settled-find ρ (call m f a) e =
     split (settled ρ f)
-    (λ q. let w = settled-find ρ a (rw q at e) in record { name = w .name; isFree = free-call (w .name) m f a ∙ or-right (free (w .name) f) (free (w .name) a) (w .isFree); unset = w .unset })
-    (λ q. let w = settled-find ρ f q in record { name = w .name; isFree = free-call (w .name) m f a ∙ or-left (free (w .name) f) (free (w .name) a) (w .isFree); unset = w .unset })
+    (λ q.
+    let w = settled-find ρ a (rw q at e) in
+    let r = or-right (free (w .name) f) (free (w .name) a) (w .isFree) in
+    record { name = w .name; isFree = free-call (w .name) m f a ∙ r; unset = w .unset })
+    (λ q. let w = settled-find ρ f q in record { name = w .name; isFree = free-call (w .name) m f a ∙ rw (w .isFree); unset = w .unset })
 settled-find ρ (function x b) e =
     let w = settled-find (bind x (Number (pos 0)) ρ) b e in
     split (eqb x (w .name))

@@ -2,8 +2,9 @@
 -- Assumes nothing.
 use mathlib.Core.Path.{_≡_, refl, sym, ap, _∙_, subst}
 use mathlib.Core.Logic.{inl, inr}
-use mathlib.Core.Bool.{Bool, true, false, cond, not, _&&_}
+use mathlib.Core.Bool.{Bool, true, false, cond, not, _&&_, and-eq-true-iff}
 use mathlib.Core.List.{List, [], _∷_, map}
+use mathlib.Mathlib.Data.Bool.Basic.{or-inl}
 use Prim.Native.Nat.{ℕ, zero, suc, _+_, _-_, _≤_, _<_}
 use native.Mathlib.Omega.{arith}
 use native.Mathlib.Decide.{decLt}
@@ -12,17 +13,17 @@ use lib.Dec.{eqb, leb}
 use lib.IntN.{ℤ, pos, natAbs, _+ℤ_}
 use lib.ListN.{length, getD, take, drop}
 use lib.Signed.{mag}
-use Rattle.language.specs.Members.{row, memberNumber}
-use Rattle.language.specs.MembersLaws.{number-found}
+use Rattle.table.specs.NodeKinds.{member-found}
+use Rattle.language.specs.Cases.{split, either, or-right, by-cond}
+use Rattle.language.specs.Members.{row}
 use Rattle.language.specs.declared.members.Member.{Member}
-use Rattle.language.specs.declared.members.Found.the-variants.{Is}
 use Rattle.values.specs.declared.Value.{Value}
 use Rattle.values.specs.declared.Value.the-variants.{Number, Window, Function, Delayed, Missing}
 use Rattle.values.specs.declared.apply.Applied.{Applied}
 use Rattle.values.specs.declared.apply.Applied.the-variants.{Done, Run}
 use Rattle.values.specs.declared.runs.Tally.{Tally}
 use Rattle.values.specs.Apply.{isKind, apply0, isMissing, isDelayed}
-use Rattle.values.specs.Applied.{choose, ruledWindow, ruled1, applied1, completed}
+use Rattle.values.specs.Applied.{ruledWindow, ruled1, applied1, completed}
 use Rattle.values.specs.ApplyLaws.{completed-is}
 use Rattle.values.specs.Keepable.{Keepable}
 use Rattle.values.specs.Packing.{packOf, unpackOf, functionCell, delayedCell, missingCell}
@@ -41,17 +42,10 @@ use Rattle.table.specs.Waits.{slotA, slotB, hasSlot, awaits, ownOf}
 use Rattle.evaluator.specs.Reach.{gathered}
 use Rattle.evaluator.specs.Frames as Code
 use Rattle.evaluator.specs.Applying.{graph, Go, boundedOf, askOf, callOf, doneOf, taskOf, judgeOf, runOf as taskRun, followOf, planOf, fillOf, overOf, concludeOf, finishOf, applyAt}
-use Rattle.refine.specs.Free.{free, never, split, both, either, or-left, or-right, decEq, free-variable, free-call, free-function, unbound-same, settled-no, settled-find}
+use Rattle.refine.specs.Free.{free, never, decEq, free-variable, free-call, free-function, unbound-same, settled-no, settled-find}
 use Rattle.refine.specs.Tables.{EntryAt, is-number, is-variable, is-unbound, is-readings, is-function, is-ask, is-call, Good, PlainValue, Plain, plain-lookup, kept-entry, Link, Sees, here, down, sees-free, sees-below}
 use Rattle.refine.specs.Kinds.{isFunction, ask-none, call-none}
 use Rattle.refine.specs.Frames.{Right, GoRight, Small, turn, set-value, over-right}
-
--- ---- the member of a member's kind
-member-kind : (m : Member) → memberOfKind (memberKind m) ≡ Is m
-unfolding memberOfKind
-member-kind m =
-    let e : memberKind m - 5 ≡ memberNumber m = omega arith in
-    rw (le-ltb (memberKind m) 5 (omega arith), e) (number-found m)
 
 -- ---- cells of values that can be kept
 module _ (n : ℕ) (few : n ≤ 1024) where
@@ -78,7 +72,8 @@ module _ (n : ℕ) (few : n ≤ 1024) where
   bounded-kept (Missing r) k = refl
 
   -- a function's cell, from its body's value and whether it awaits a variable that has none
-  function-cell : (frame : List ℕ) (w : ℕ) (v : Value) (s : Bool) (g : ℤ → Result) → Keepable n v → Code.isOpen frame w ≡ not s → Code.functionOf frame w (packOf v) ≡ packOf (valueOf (functionOf v s g))
+  function-cell : (frame : List ℕ) (w : ℕ) (v : Value) (s : Bool) (g : ℤ → Result) → Keepable n v → Code.isOpen frame w ≡ not s
+      → Code.functionOf frame w (packOf v) ≡ packOf (valueOf (functionOf v s g))
   unfolding Code.functionOf valueOf
   function-cell frame w v s g k o = rw (missing-cell v k, o) (by v s)
     where
@@ -97,10 +92,6 @@ module _ (n : ℕ) (few : n ≤ 1024) where
 abbrev RunsOn : Value → Applied → Type 0
 RunsOn w (Done u) = Unit {0}
 RunsOn w (Run s l) = w ≡ Function
-
-chosen : (w : Value) (b : Bool) (x y : Applied) → RunsOn w x → RunsOn w y → RunsOn w (choose b x y)
-chosen w true x y p q = p
-chosen w false x y p q = q
 
 on-window : (m : Member) (xs : List ℤ) (s l : ℕ) (w : Value) → RunsOn w (ruledWindow m xs s l w)
 unfolding ruledWindow
@@ -121,11 +112,12 @@ on-rule m xs (Missing r) w = tt
 runs-function : (m : Member) (xs : List ℤ) (v w : Value) → RunsOn w (applied1 m xs v w)
 unfolding applied1
 runs-function m xs v w =
-    chosen w (isMissing v) _ _ tt
-    (chosen w (isMissing w) _ _ tt
-    (chosen w (isDelayed v) _ _ tt
-    (chosen w (isDelayed w) _ _ tt
-    (chosen w (isKind v (row m .receiver)) _ _ (chosen w (isKind w (row m .argument)) _ _ (on-rule m xs v w) tt) tt))))
+    by-cond (RunsOn w) (isMissing v) _ _ (λ h. tt)
+    (λ h. by-cond (RunsOn w) (isMissing w) _ _ (λ h. tt)
+    (λ h. by-cond (RunsOn w) (isDelayed v) _ _ (λ h. tt)
+    (λ h. by-cond (RunsOn w) (isDelayed w) _ _ (λ h. tt)
+    (λ h. by-cond (RunsOn w) (isKind v (row m .receiver)) _ _
+    (λ h. by-cond (RunsOn w) (isKind w (row m .argument)) _ _ (λ h. on-rule m xs v w) (λ h. tt)) (λ h. tt)))))
 
 function-runs : (v : Value) (s : Bool) (g : ℤ → Result) → valueOf (functionOf v s g) ≡ Function → functionOf v s g ≡ runs g
 unfolding valueOf
@@ -154,13 +146,26 @@ module _ (links waits : List ℕ) (xs : List ℤ) (frame : List ℕ) (i : ℕ) w
       → planOf (graph links waits xs) frame i ≡ doneOf (packOf (apply0 m xs (unpackOf (getD frame d 0))))
   unfolding planOf askOf
   plan-ask m d k f s l =
-      rw (k, f, s, le-ltb (memberKind m) 4 (omega arith), le-leb 1 (suc d) (omega arith), le-leb (suc d) i l, ne-eqb (memberKind m) 4 (λ e. omega arith), member-kind m, back d)
+      rw (k, f, s, le-ltb (memberKind m) 4 (omega arith), le-leb 1 (suc d) (omega arith), le-leb (suc d) i l, ne-eqb (memberKind m) 4 (λ e. omega arith), member-found m, back d)
 
   plan-call : (m : Member) (d a : ℕ) → kindAt links i ≡ memberKind m → firstAt links i ≡ suc d → secondAt links i ≡ suc a → d < i → a < i
       → planOf (graph links waits xs) frame i ≡ followOf links waits a (memberKind m) (applied1 m xs (boundedOf (unpackOf (getD frame d 0))) (unpackOf (getD frame a 0)))
   unfolding planOf callOf
   plan-call m d a k f s l l′ =
-      rw (k, f, s, le-ltb (memberKind m) 4 (omega arith), le-leb 1 (suc d) (omega arith), le-leb (suc d) i l, ne-eqb (memberKind m) 4 (λ e. omega arith), le-leb 1 (suc a) (omega arith), le-leb (suc a) i l′, member-kind m, back d, back a)
+      rw (
+        k,
+        f,
+        s,
+        le-ltb (memberKind m) 4 (omega arith),
+        le-leb 1 (suc d) (omega arith),
+        le-leb (suc d) i l,
+        ne-eqb (memberKind m) 4 (λ e. omega arith),
+        le-leb 1 (suc a) (omega arith),
+        le-leb (suc a) i l′,
+        member-found m,
+        back d,
+        back a,
+      )
 
   plan-function : (b : ℕ) → kindAt links i ≡ 4 → firstAt links i ≡ suc b → b < i → planOf (graph links waits xs) frame i ≡ judgeOf waits frame i b (getD frame b 0)
   unfolding planOf
@@ -225,7 +230,7 @@ module _ (links cells waits : List ℕ) (xs : List ℤ) (n : ℕ) (φ : ℕ → 
       by (is-unbound _ q) again = never (rw q at e) refl
       by (is-readings _ q) again = never (rw q at e) refl
       by (is-function b _ f l q) again =
-          lift i b y (l, inl f) e (again b l (both (not (eqb (keyAt cells i) y)) (free y (φ b)) (sym (free-function y (keyAt cells i) (φ b)) ∙ (rw q at e)) .1))
+          lift i b y (l, inl f) e (again b l (and-eq-true-iff (not (eqb (keyAt cells i) y)) (free y (φ b)) .0 (sym (free-function y (keyAt cells i) (φ b)) ∙ (rw q at e)) .1))
       by (is-ask m d _ f _ l q) again = lift i d y (l, inl f) e (again d l (rw q at e))
       by (is-call m d a _ f s l l′ q) again =
           either (free y (φ d)) (free y (φ a)) (sym (free-call y m (φ d) (φ a)) ∙ (rw q at e))
@@ -266,10 +271,10 @@ module _ (links cells waits : List ℕ) (xs : List ℤ) (n : ℕ) (φ : ℕ → 
         let a : free (keyAt cells j) (φ b) ≡ true = sym (good .awaited b j b-n jn (s .kind)) ∙ rw (le-leb 1 (suc j) (omega arith), q′) in
         let d : eqb x (keyAt cells j) ≡ false = ne-eqb x (keyAt cells j) (λ z. other j (s .is) jn (s .kind) (sym z)) in
         let w : awaits wi (suc j) ≡ true = good .awaited i j i-n jn (s .kind) ∙ free-outer (keyAt cells j) ∙ rw (d, a) in
-        subst (λ (k : ℕ). hasSlot wi k ≡ true) (sym (s .is)) (both (leb 1 (suc j)) (hasSlot wi (suc j)) w .1)
+        subst (λ (k : ℕ). hasSlot wi k ≡ true) (sym (s .is)) (and-eq-true-iff (leb 1 (suc j)) (hasSlot wi (suc j)) .0 w .1)
 
     hold-a : hasSlot wb (slotA wb) ≡ true
-    hold-a = or-left (eqb (slotA wb) (slotA wb)) (eqb (slotB wb) (slotA wb)) (eq-eqb (slotA wb) (slotA wb) refl)
+    hold-a = rw (eq-eqb (slotA wb) (slotA wb) refl)
 
     hold-b : hasSlot wb (slotB wb) ≡ true
     hold-b = or-right (eqb (slotA wb) (slotB wb)) (eqb (slotB wb) (slotB wb)) (eq-eqb (slotB wb) (slotB wb) refl)
@@ -302,7 +307,9 @@ module _ (links cells waits : List ℕ) (xs : List ℤ) (n : ℕ) (φ : ℕ → 
         let j : ℕ = s .at in
         let low = sees-below links φ b j (s .sees) in
         let jn : j < n = omega arith in
-        let hb : hasSlot wb (suc j) ≡ true = both (leb 1 (suc j)) (hasSlot wb (suc j)) (good .awaited b j b-n jn (s .kind) ∙ subst (λ (m : ℕ). free m (φ b) ≡ true) (sym (s .key)) e) .1 in
+        let hb : hasSlot wb (suc j) ≡ true =
+        and-eq-true-iff (leb 1 (suc j)) (hasSlot wb (suc j)) .0
+        (good .awaited b j b-n jn (s .kind) ∙ subst (λ (m : ℕ). free m (φ b) ≡ true) (sym (s .key)) e) .1 in
         let off : (leb 1 (suc j) && hasSlot wi (suc j)) ≡ false = good .awaited i j i-n jn (s .kind) ∙ free-outer (keyAt cells j) ∙ rw (eq-eqb x (keyAt cells j) (sym (s .key))) in
         let hi : hasSlot wi (suc j) ≡ false = split (hasSlot wi (suc j)) (λ r. never (rw (le-leb 1 (suc j) (omega arith), r)) off) (λ r. r) in
         record {
@@ -335,7 +342,8 @@ module _ (links cells waits : List ℕ) (xs : List ℤ) (n : ℕ) (φ : ℕ → 
         let w : φ j ≡ variable (keyAt cells j) = subst (λ (m : ℕ). φ m ≡ variable (keyAt cells j)) z (s .form) in
         let r : getD frame j 0 ≡ packOf (lookup ρ (keyAt cells j)) = below j h t ∙ ap (λ (f : Form). packOf (valueOf (evaluate xs ρ f))) w in
         let q : suc j - 1 ≡ j = omega arith in
-        rw (le-leb 1 (suc j) (omega arith), le-leb (suc j) 512 (omega (arith, good .most)), q, r) (delayed-cell (length xs) (good .few) (lookup ρ (keyAt cells j)) (plain-lookup ρ plain (keyAt cells j)))
+        rw (le-leb 1 (suc j) (omega arith), le-leb (suc j) 512 (omega (arith, good .most)), q, r)
+        (delayed-cell (length xs) (good .few) (lookup ρ (keyAt cells j)) (plain-lookup ρ plain (keyAt cells j)))
 
     unset-none : (v : ℕ) → v < 1 → Code.isUnset frame v ≡ false
     unfolding Code.isUnset
@@ -348,7 +356,7 @@ module _ (links cells waits : List ℕ) (xs : List ℤ) (n : ℕ) (φ : ℕ → 
         w = getD waits i 0
 
         a : hasSlot (getD waits i 0) (slotA (getD waits i 0)) ≡ true
-        a = or-left (eqb (slotA (getD waits i 0)) (slotA (getD waits i 0))) (eqb (slotB (getD waits i 0)) (slotA (getD waits i 0))) (eq-eqb (slotA (getD waits i 0)) (slotA (getD waits i 0)) refl)
+        a = rw (eq-eqb (slotA (getD waits i 0)) (slotA (getD waits i 0)) refl)
 
         b : hasSlot (getD waits i 0) (slotB (getD waits i 0)) ≡ true
         b = or-right (eqb (slotA (getD waits i 0)) (slotB (getD waits i 0))) (eqb (slotB (getD waits i 0)) (slotB (getD waits i 0))) (eq-eqb (slotB (getD waits i 0)) (slotB (getD waits i 0)) refl)
@@ -364,7 +372,9 @@ module _ (links cells waits : List ℕ) (xs : List ℤ) (n : ℕ) (φ : ℕ → 
                 | yes r ↦ r
                 | no r ↦ let z : j ≡ i = omega (arith, s .below) in absurd (omega (arith, k, subst (λ (m : ℕ). kindAt links m ≡ 1) z (s .kind)))
               ] in
-              let fr : free (keyAt cells j) (φ i) ≡ true = sym (good .awaited i j i-n jn (s .kind)) ∙ rw (le-leb 1 (suc j) (omega arith), subst (λ (m : ℕ). hasSlot (getD waits i 0) m ≡ true) (s .is) h) in
+              let fr : free (keyAt cells j) (φ i) ≡ true =
+              sym (good .awaited i j i-n jn (s .kind))
+              ∙ rw (le-leb 1 (suc j) (omega arith), subst (λ (m : ℕ). hasSlot (getD waits i 0) m ≡ true) (s .is) h) in
               ap (Code.isUnset frame) (s .is) ∙ unset-is j ji (s .kind) fr ∙ split (isDelayed (lookup ρ (keyAt cells j))) (λ d. never e (settled-no ρ (φ i) (keyAt cells j) fr d)) (λ d. d)
         ]
 
@@ -379,10 +389,11 @@ module _ (links cells waits : List ℕ) (xs : List ℤ) (n : ℕ) (φ : ℕ → 
               | no r ↦ let z : j ≡ i = omega arith in absurd (omega (arith, k, subst (λ (m : ℕ). kindAt links m ≡ 1) z (s .kind)))
             ] in
             let fr : free (keyAt cells j) (φ i) ≡ true = subst (λ (m : ℕ). free m (φ i) ≡ true) (sym (s .key)) (u .isFree) in
-            let h : hasSlot (getD waits i 0) (suc j) ≡ true = both (leb 1 (suc j)) (hasSlot (getD waits i 0) (suc j)) (good .awaited i j i-n (omega arith) (s .kind) ∙ fr) .1 in
+            let h : hasSlot (getD waits i 0) (suc j) ≡ true =
+            and-eq-true-iff (leb 1 (suc j)) (hasSlot (getD waits i 0) (suc j)) .0 (good .awaited i j i-n (omega arith) (s .kind) ∙ fr) .1 in
             let d : Code.isUnset frame (suc j) ≡ true = unset-is j ji (s .kind) fr ∙ subst (λ (m : ℕ). isDelayed (lookup ρ m) ≡ true) (sym (s .key)) (u .unset) in
             either (eqb (slotA (getD waits i 0)) (suc j)) (eqb (slotB (getD waits i 0)) (suc j)) h
-            (λ r. or-left _ _ (ap (Code.isUnset frame) (eqb-true _ _ r) ∙ d))
+            (λ r. or-inl _ _ (ap (Code.isUnset frame) (eqb-true _ _ r) ∙ d))
             (λ r. or-right (Code.isUnset frame (slotA (getD waits i 0))) _ (ap (Code.isUnset frame) (eqb-true _ _ r) ∙ d))
 
     module _ (go : Go) (f : ℕ) (right : GoRight links cells waits xs n φ go f) (i-f : i ≤ f) (len : length frame ≡ 512) where
@@ -433,9 +444,11 @@ module _ (links cells waits : List ℕ) (xs : List ℤ) (n : ℕ) (φ : ℕ → 
 
         conclude-right : (t : Tally) → t ≡ Tallies.gathered begun (map run (readingsIn xs s l)) → concludeOf (memberOfKind (memberKind m)) t ≡ packOf (ofRuns m (map run (readingsIn xs s l)))
         unfolding concludeOf
-        conclude-right t e = rw (member-kind m, e) (ap packOf (finished-is m (map run (readingsIn xs s l))))
+        conclude-right t e = rw (member-found m, e) (ap packOf (finished-is m (map run (readingsIn xs s l))))
 
-        finish-run : (v : ℕ) → finishOf (graph links waits xs) go frame i (taskOf (memberKind m) s l b v) ≡ concludeOf (memberOfKind (memberKind m)) (overOf go b (gathered links waits v b) v frame begun (readingsIn xs s l))
+        finish-run : (v : ℕ)
+            → finishOf (graph links waits xs) go frame i (taskOf (memberKind m) s l b v)
+            ≡ concludeOf (memberOfKind (memberKind m)) (overOf go b (gathered links waits v b) v frame begun (readingsIn xs s l))
         unfolding finishOf
         finish-run v = rw (ne-eqb (memberKind m) 4 (λ e. omega arith))
 
@@ -455,7 +468,8 @@ module _ (links cells waits : List ℕ) (xs : List ℤ) (n : ℕ) (φ : ℕ → 
                 let o = own-some a b a-n b-a ea e in
                 let j : ℕ = o .at in
                 let jn : j < n = omega (arith, o .low) in
-                let rest : (p : ℕ) → Sees links φ b p → free (keyAt cells j) (φ p) ≡ false → getD frame p 0 ≡ packOf (value p) = λ p t nf. sees-rest p t (subst (λ (k : ℕ). free k (φ p) ≡ false) (o .key) nf) in
+                let rest : (p : ℕ) → Sees links φ b p → free (keyAt cells j) (φ p) ≡ false → getD frame p 0 ≡ packOf (value p) =
+                λ p t nf. sees-rest p t (subst (λ (k : ℕ). free k (φ p) ≡ false) (o .key) nf) in
                 ap (finishOf (graph links waits xs) go frame i) (run-task links waits xs frame i (memberKind m) a b s l (suc j) ka fa b-a (o .is) (omega (arith, good .most)))
                 ∙ finish-run (suc j)
                 ∙ conclude-right _
@@ -489,7 +503,8 @@ module _ (links cells waits : List ℕ) (xs : List ℤ) (n : ℕ) (φ : ℕ → 
         ran s l r (is-function b ka fa ba e) =
             let q : evaluate xs ρ (φ a) ≡ runs (λ z. evaluate xs (bind (keyAt cells a) (Number z) ρ) (φ b)) =
             ap (evaluate xs ρ) e
-            ∙ function-runs (valueOf (evaluate xs (bind (keyAt cells a) Delayed ρ) (φ b))) (settled (bind (keyAt cells a) (Number (pos 0)) ρ) (φ b)) (λ z. evaluate xs (bind (keyAt cells a) (Number z) ρ) (φ b))
+            ∙ function-runs (valueOf (evaluate xs (bind (keyAt cells a) Delayed ρ) (φ b))) (settled (bind (keyAt cells a) (Number (pos 0)) ρ) (φ b))
+            (λ z. evaluate xs (bind (keyAt cells a) (Number z) ρ) (φ b))
             (ap (λ (g : Form). valueOf (evaluate xs ρ g)) (sym e) ∙ r) in
             run-right m a b s l (link .0) ka fa ba e link up ∙ sym (λ k. packOf (ofRuns m (map (λ z. runOf (q k) z) (readingsIn xs s l))))
 
@@ -502,9 +517,11 @@ module _ (links cells waits : List ℕ) (xs : List ℤ) (n : ℕ) (φ : ℕ → 
       call-right : (m : Member) (d a : ℕ) → kindAt links i ≡ memberKind m → firstAt links i ≡ suc d → secondAt links i ≡ suc a → d < i → a < i → φ i ≡ call m (φ d) (φ a) → done ≡ packOf (value i)
       unfolding evaluate valueOf
       call-right m d a k fs ss l l′ e =
-          let left : (y : ℕ) → free y (φ d) ≡ true → free y (φ i) ≡ true = λ y h. ap (free y) e ∙ free-call y m (φ d) (φ a) ∙ or-left (free y (φ d)) (free y (φ a)) h in
+          let left : (y : ℕ) → free y (φ d) ≡ true → free y (φ i) ≡ true = λ y h. ap (free y) e ∙ free-call y m (φ d) (φ a) ∙ rw h in
           let up : (y : ℕ) → free y (φ a) ≡ true → free y (φ i) ≡ true = λ y h. ap (free y) e ∙ free-call y m (φ d) (φ a) ∙ or-right (free y (φ d)) (free y (φ a)) h in
-          let od : boundedOf (unpackOf (getD frame d 0)) ≡ value d = ap boundedOf (opened d (omega arith) (see d (l, inl fs) left)) ∙ bounded-kept (length xs) (good .few) (value d) (kept d (omega arith) ρ plain) in
+          let od : boundedOf (unpackOf (getD frame d 0)) ≡ value d =
+          ap boundedOf (opened d (omega arith) (see d (l, inl fs) left))
+          ∙ bounded-kept (length xs) (good .few) (value d) (kept d (omega arith) ρ plain) in
           let oa : unpackOf (getD frame a 0) ≡ value a = opened a (omega arith) (see a (l′, inr ss) up) in
           ap (finishOf (graph links waits xs) go frame i) (plan-call links waits xs frame i m d a k fs ss l l′)
           ∙ (λ t. finishOf (graph links waits xs) go frame i (followOf links waits a (memberKind m) (applied1 m xs (od t) (oa t))))

@@ -6,6 +6,7 @@ use mathlib.Core.List.{List}
 use Prim.Native.Nat.{ℕ, suc, _≤_}
 use borrow.Author.Tests.{eqb-true}
 use lib.Dec.{eqb}
+use Rattle.language.specs.Cases.{split}
 use Rattle.values.specs.Packing.{functionCell, delayedCell}
 use Rattle.layout.specs.Nodes.{isName}
 use Rattle.table.specs.WellFormed.{namesRight}
@@ -14,7 +15,6 @@ use Rattle.table.specs.NodeKinds.{less-one}
 use Rattle.table.specs.Waits.{slotA, slotB}
 use Rattle.table.specs.WaitsLaws.{Variable, Holds, none, one, two, positive}
 use Rattle.scheduler.specs.Works.{slotName, nameFor, otherFor}
-use Rattle.refine.specs.Free.{split}
 
 module _ (links now : List ℕ) (i : ℕ) (names : (j : ℕ) → j ≤ i → kindAt links j ≡ 1 → isName (keyAt now j) ≡ true) where
   variable-name : {a : ℕ} → Variable links i a → isName (slotName now (suc a)) ≡ true

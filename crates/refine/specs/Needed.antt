@@ -1,7 +1,7 @@
 -- The flags of a preview over any table: a dependency of a flagged entry is flagged. The pass goes down, so that an entry's flag is final when
 -- its dependencies are flagged. Assumes nothing.
 use mathlib.Core.Path.{_≡_, refl, sym, _∙_}
-use mathlib.Core.Bool.{true}
+use mathlib.Core.Bool.{true, and-eq-true-iff}
 use mathlib.Core.List.{List}
 use mathlib.Core.Logic.{_⊎_, inl, inr}
 use Prim.Native.Nat.{ℕ, zero, suc, _-_, _≤_, _<_}
@@ -11,9 +11,10 @@ use borrow.Author.Tests.{eqb-false, leb-true}
 use lib.Dec.{leb, eqb}
 use lib.ListN.{length, getD, set, replicate, length-set, length-replicate}
 use lib.Seq.{getD-set-same, getD-set-other}
+use Rattle.language.specs.Cases.{split}
 use Rattle.layout.specs.Links.{firstAt, secondAt, isBelow}
 use Rattle.scheduler.specs.Works.{raised, needFrom, needOf}
-use Rattle.refine.specs.Free.{split, both, decEq}
+use Rattle.refine.specs.Free.{decEq}
 
 -- entry j is flagged
 abbrev pub Flagged : List ℕ → ℕ → Type 0
@@ -28,7 +29,7 @@ raised-above : (j link k : ℕ) (flags : List ℕ) → j ≤ k → getD (raised 
 unfolding raised
 raised-above j link k flags h =
     split (isBelow link j)
-    (λ e. let b = both (leb 1 link) _ e in rw e (getD-set-other flags (link - 1) k 1 0 (λ q. omega (arith, leb-true 1 link (b .0), leb-true link j (b .1)))))
+    (λ e. let b = and-eq-true-iff (leb 1 link) _ .0 e in rw e (getD-set-other flags (link - 1) k 1 0 (λ q. omega (arith, leb-true 1 link (b .0), leb-true link j (b .1)))))
     (λ e. rw e)
 
 raised-keeps : (j link k : ℕ) (flags : List ℕ) → j ≤ length flags → Flagged flags k → Flagged (raised j link flags) k
@@ -36,7 +37,7 @@ unfolding raised
 raised-keeps j link k flags h f =
     split (isBelow link j)
     (λ e.
-    let b = both (leb 1 link) _ e in
+    let b = and-eq-true-iff (leb 1 link) _ .0 e in
     rw e
     (elim (decEq k (link - 1)) [
       | yes q ↦ rw q (getD-set-same flags (link - 1) 1 0 (omega (arith, leb-true 1 link (b .0), leb-true link j (b .1))))
@@ -47,7 +48,7 @@ raised-keeps j link k flags h f =
 raised-link : (j link : ℕ) (flags : List ℕ) → j ≤ length flags → isBelow link j ≡ true → Flagged (raised j link flags) (link - 1)
 unfolding raised
 raised-link j link flags h e =
-    let b = both (leb 1 link) _ e in
+    let b = and-eq-true-iff (leb 1 link) _ .0 e in
     rw e (getD-set-same flags (link - 1) 1 0 (omega (arith, leb-true 1 link (b .0), leb-true link j (b .1))))
 
 -- the pass

@@ -11,6 +11,7 @@ use lib.Dec.{leb, ltb, eqb}
 use lib.IntN.{ℤ, pos}
 use lib.ListN.{length, getD, set, replicate}
 use lib.Signed.{mag}
+use Rattle.language.specs.Cases.{split, by-cond}
 use Rattle.language.specs.declared.members.Member.{Member}
 use Rattle.language.specs.declared.members.Found.{Found}
 use Rattle.language.specs.declared.members.Found.the-variants.{Is, Unknown}
@@ -29,7 +30,7 @@ use Rattle.values.specs.Tallies.{begun, stepped, gathered, finished}
 use Rattle.values.specs.TallyLaws.{finished-is}
 use Rattle.values.specs.WindowLaws.{readings-short}
 use Rattle.values.specs.Keepable.{Keepable}
-use Rattle.values.specs.KeepableLaws.{Readings, Each, picked, wrong, readings-of, readings-small, closed-runs}
+use Rattle.values.specs.KeepableLaws.{Readings, Each, wrong, readings-of, readings-small, closed-runs}
 use Rattle.values.specs.KeepableApply.{Settled, kept-closed, kept-apply0, kept-applied1}
 use Rattle.values.specs.Packing.{packOf, unpackOf, isPacked, windowCell, functionCell, delayedCell, missingCell, wrongCell}
 use Rattle.values.specs.PackingLaws.{unpack-number, round, test-number, kept-passes, passes-packs}
@@ -40,8 +41,7 @@ use Rattle.layout.specs.Links.{kindAt, firstAt, secondAt, isBelow}
 use Rattle.table.specs.Waits.{ownOf}
 use Rattle.evaluator.specs.Reach.{gathered as list}
 use Rattle.evaluator.specs.Frames.{leafOf, startAt, startFrom, bound, isOpen, functionOf}
-use Rattle.evaluator.specs.Applying.{Graph, Go, boundedOf, askOf, callOf, doneOf, taskOf, pickT, judgeOf, runOf, followOf, planOf, fillOf, setOf, overOf, concludeOf, finishOf, applyAt}
-use Rattle.refine.specs.Free.{split}
+use Rattle.evaluator.specs.Applying.{Graph, Go, boundedOf, askOf, callOf, doneOf, taskOf, judgeOf, runOf, followOf, planOf, fillOf, setOf, overOf, concludeOf, finishOf, applyAt}
 use Rattle.refine.specs.Kinds.{isFunction, concluded-none, ask-none, call-none}
 
 -- a cell that is empty, or a packed value that may be kept beside n readings; a frame of such cells
@@ -99,7 +99,7 @@ module _ (g : Graph) (n : ℕ) (short : n ≤ 65535) (small : (k : ℕ) → k < 
 
   bounded-kept : (v : Value) → Keepable n v → Keepable n (boundedOf v)
   unfolding boundedOf
-  bounded-kept (Window s l) k = picked (Keepable n) (kept-closed n short) (leb (s + l) 65535) _ _ (λ h. k) (λ h. kept-wrong)
+  bounded-kept (Window s l) k = by-cond (Keepable n) (leb (s + l) 65535) _ _ (λ h. k) (λ h. kept-wrong)
   bounded-kept (Number z) k = k
   bounded-kept Function k = k
   bounded-kept Delayed k = k
@@ -152,16 +152,12 @@ module _ (g : Graph) (n : ℕ) (short : n ≤ 65535) (small : (k : ℕ) → k < 
   planned-wrong : (kind : ℕ) → Planned kind (doneOf wrongCell)
   planned-wrong kind = planned-done kind wrongCell (right-wrong kind)
 
-  planned-pick : (kind : ℕ) (b : Bool) (p q : Task) → (b ≡ true → Planned kind p) → (b ≡ false → Planned kind q) → Planned kind (pickT b p q)
-  planned-pick kind true p q h k = h refl
-  planned-pick kind false p q h k = k refl
-
   module _ (frame : List ℕ) (cells : Cells n frame) where
     planned-judge : (i body a : ℕ) → Cell n a → Planned 4 (judgeOf (g .waits) frame i body a)
     unfolding judgeOf
     planned-judge i body a c =
-        planned-pick 4 (leb 1 (ownOf (getD (g .waits) body 0) (getD (g .waits) i 0))) _ _
-        (λ e. planned-pick 4 (leb (ownOf (getD (g .waits) body 0) (getD (g .waits) i 0)) 512) _ _
+        by-cond (Planned 4) (leb 1 (ownOf (getD (g .waits) body 0) (getD (g .waits) i 0))) _ _
+        (λ e. by-cond (Planned 4) (leb (ownOf (getD (g .waits) body 0) (getD (g .waits) i 0)) 512) _ _
         (λ h. planned-task 4 0 0 body _ no-window)
         (λ h. planned-wrong 4))
         (λ e. planned-done 4 _ (record { packed = function-packed n frame (getD (g .waits) i 0) a c; function = λ h. refl }))
@@ -170,9 +166,9 @@ module _ (g : Graph) (n : ℕ) (short : n ≤ 65535) (small : (k : ℕ) → k < 
     unfolding followOf runOf
     planned-follow f kind (Done v) k = planned-done kind (packOf v) (right-value n kind v (k .0) (k .1))
     planned-follow f kind (Run s l) k =
-        planned-pick kind (eqb (kindAt (g .links) f) 4) _ _
-        (λ e. planned-pick kind (isBelow (firstAt (g .links) f) f) _ _
-        (λ e. planned-pick kind (leb (ownOf (getD (g .waits) (firstAt (g .links) f - 1) 0) (getD (g .waits) f 0)) 512) _ _
+        by-cond (Planned kind) (eqb (kindAt (g .links) f) 4) _ _
+        (λ e. by-cond (Planned kind) (isBelow (firstAt (g .links) f) f) _ _
+        (λ e. by-cond (Planned kind) (leb (ownOf (getD (g .waits) (firstAt (g .links) f - 1) 0) (getD (g .waits) f 0)) 512) _ _
         (λ e. planned-task kind s l _ _ k)
         (λ e. planned-wrong kind))
         (λ e. planned-wrong kind))
@@ -184,11 +180,11 @@ module _ (g : Graph) (n : ℕ) (short : n ≤ 65535) (small : (k : ℕ) → k < 
         let kind : ℕ = kindAt (g .links) i in
         let first : ℕ = firstAt (g .links) i in
         let second : ℕ = secondAt (g .links) i in
-        planned-pick kind (ltb kind 4) _ _ (λ e. never (sym e ∙ high))
-        (λ e. planned-pick kind (isBelow first i) _ _
-        (λ e. planned-pick kind (eqb kind 4) _ _
+        by-cond (Planned kind) (ltb kind 4) _ _ (λ e. never (sym e ∙ high))
+        (λ e. by-cond (Planned kind) (isBelow first i) _ _
+        (λ e. by-cond (Planned kind) (eqb kind 4) _ _
         (λ e. subst (λ (k : ℕ). Planned k (judgeOf (g .waits) frame i (first - 1) (getD frame (first - 1) 0))) (sym (eqb-true kind 4 e)) (planned-judge i (first - 1) _ (cells (first - 1))))
-        (λ e. planned-pick kind (isBelow second i) _ _
+        (λ e. by-cond (Planned kind) (isBelow second i) _ _
         (λ e. planned-follow (second - 1) kind _ (follows-call (memberOfKind kind) _ _ (cells (first - 1)) (cells (second - 1))))
         (λ e. planned-done kind _ (right-ask kind (memberOfKind kind) _ (cells (first - 1))))))
         (λ e. planned-wrong kind))
@@ -249,11 +245,14 @@ module _ (g : Graph) (n : ℕ) (short : n ≤ 65535) (small : (k : ℕ) → k < 
         (λ e. rw e (split (eqb (p .kind) 4)
         (λ q. rw q
         (record {
-          packed = function-packed n frame (getD (g .waits) i 0) _ (begins (p .body + 1) js (p .variable) delayedCell frame c (kept-passes n Delayed (record { held = tt; inside = tt; reasoned = tt })) (p .body));
+          packed =
+              function-packed n frame (getD (g .waits) i 0) _
+              (begins (p .body + 1) js (p .variable) delayedCell frame c (kept-passes n Delayed (record { held = tt; inside = tt; reasoned = tt })) (p .body));
           function = λ z. sym (h .kind e) ∙ eqb-true (p .kind) 4 q;
         }))
         (λ q. rw q
-        (let t = tallied (p .body) js (p .variable) frame begun zs c (readings-of (Keepable n) (kept-closed n short) (g .xs) (p .start) (p .length) (readings-small (Keepable n) (kept-closed n short) (g .xs) small)) in
+        (let r = readings-small (Keepable n) (kept-closed n short) (g .xs) small in
+        let t = tallied (p .body) js (p .variable) frame begun zs c (readings-of (Keepable n) (kept-closed n short) (g .xs) (p .start) (p .length) r) in
         right-conclude kind (memberOfKind (p .kind)) (p .start) (p .length) _ (h .window)
         (record { values = t .values; same = t .same; kept = t .kept; few = omega (arith, t .few, readings-short (g .xs) (p .start) (p .length)) })))))
 
@@ -294,7 +293,8 @@ zeros r zero j = inl refl
 zeros r (suc n) zero = inl refl
 zeros r (suc n) (suc j) = zeros r n j
 
-pub start-cells : (r size : ℕ) (links cells : List ℕ) (k i : ℕ) (frame : List ℕ) → Cells r frame → ((j : ℕ) → j < i + k → Cell r (startAt size links cells j)) → Cells r (startFrom size links cells k i frame)
+pub start-cells : (r size : ℕ) (links cells : List ℕ) (k i : ℕ) (frame : List ℕ) → Cells r frame
+    → ((j : ℕ) → j < i + k → Cell r (startAt size links cells j)) → Cells r (startFrom size links cells k i frame)
 unfolding startFrom
 start-cells r size links cells zero i frame c h = c
 start-cells r size links cells (suc k) i frame c h =

@@ -52,12 +52,20 @@ module _ (n : ℕ) (cells : List ℕ) (i w : ℕ) (f : Form) (full : leb 1 (slot
       → view (shownNumbers (unpackOf (packOf v))) (nameFor cells i (packOf v) w) (otherFor cells (packOf v) w) ≡ viewOf (shownAs f v)
   unfolding viewOf nameFor otherFor
   kept-shows (Number z) k h g =
-      let a : eqb (packOf (Number z)) functionCell ≡ false = ne-eqb (packOf (Number z)) functionCell (λ (e : _≡_ {A = ℕ} (suc (natAbs (z +ℤ pos 2147483648))) 17179869184). omega (arith, up-size 2147483648 z (k .held))) in
-      let b : eqb (packOf (Number z)) delayedCell ≡ false = ne-eqb (packOf (Number z)) delayedCell (λ (e : _≡_ {A = ℕ} (suc (natAbs (z +ℤ pos 2147483648))) 25769803776). omega (arith, up-size 2147483648 z (k .held))) in
+      let a : eqb (packOf (Number z)) functionCell ≡ false =
+      ne-eqb (packOf (Number z)) functionCell
+      (λ (e : _≡_ {A = ℕ} (suc (natAbs (z +ℤ pos 2147483648))) 17179869184). omega (arith, up-size 2147483648 z (k .held))) in
+      let b : eqb (packOf (Number z)) delayedCell ≡ false =
+      ne-eqb (packOf (Number z)) delayedCell
+      (λ (e : _≡_ {A = ℕ} (suc (natAbs (z +ℤ pos 2147483648))) 25769803776). omega (arith, up-size 2147483648 z (k .held))) in
       rw (round (Number z) (k .held), a, b)
   kept-shows (Window s l) k h g =
-      let a : eqb (packOf (Window s l)) functionCell ≡ false = ne-eqb (packOf (Window s l)) functionCell (λ (e : _≡_ {A = ℕ} (8589934592 + (s * 65536 + l)) 17179869184). omega (arith, k .held .0, k .held .1)) in
-      let b : eqb (packOf (Window s l)) delayedCell ≡ false = ne-eqb (packOf (Window s l)) delayedCell (λ (e : _≡_ {A = ℕ} (8589934592 + (s * 65536 + l)) 25769803776). omega (arith, k .held .0, k .held .1)) in
+      let a : eqb (packOf (Window s l)) functionCell ≡ false =
+      ne-eqb (packOf (Window s l)) functionCell
+      (λ (e : _≡_ {A = ℕ} (8589934592 + (s * 65536 + l)) 17179869184). omega (arith, k .held .0, k .held .1)) in
+      let b : eqb (packOf (Window s l)) delayedCell ≡ false =
+      ne-eqb (packOf (Window s l)) delayedCell
+      (λ (e : _≡_ {A = ℕ} (8589934592 + (s * 65536 + l)) 25769803776). omega (arith, k .held .0, k .held .1)) in
       rw (round (Window s l) (k .held), a, b)
   kept-shows Function k h g = rw (round Function tt, g refl)
   kept-shows Delayed k h g =

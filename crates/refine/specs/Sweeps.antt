@@ -1,7 +1,7 @@
 -- The list that a run works out again: rising, of entries that move, and with every moving entry that the body sees. Assumes nothing.
 use mathlib.Core.Path.{_≡_, refl, sym, _∙_, subst}
 use mathlib.Core.Logic.{_⊎_, inl, inr, ⊎-elim}
-use mathlib.Core.Bool.{true, _&&_}
+use mathlib.Core.Bool.{true, _&&_, and-eq-true-iff}
 use mathlib.Core.List.{List, [], _∷_}
 use Prim.Native.Nat.{ℕ, zero, suc, _-_, _≤_, _<_}
 use native.Mathlib.Omega.{arith}
@@ -10,9 +10,10 @@ use borrow.Author.Tests.{eq-eqb, eqb-true, eqb-false, le-leb}
 use lib.Dec.{eqb}
 use lib.ListN.{length, getD, set, replicate, length-set, length-replicate}
 use lib.Seq.{getD-set-same, getD-set-other}
+use Rattle.language.specs.Cases.{split}
 use Rattle.layout.specs.Links.{firstAt, secondAt, isBelow}
 use Rattle.evaluator.specs.Reach.{moves, flagged, spread, gatherFrom, gathered}
-use Rattle.refine.specs.Free.{decEq, split, both}
+use Rattle.refine.specs.Free.{decEq}
 use Rattle.refine.specs.Tables.{Link}
 
 abbrev pub In : ℕ → List ℕ → Type 0
@@ -68,7 +69,7 @@ module _ (links waits : List ℕ) (v : ℕ) where
   flagged-moves j link flags all m e =
       split (isBelow link j && moves waits v (link - 1))
       (λ p. elim (decEq m (link - 1)) [
-        | yes q ↦ subst (λ (k : ℕ). moves waits v k ≡ true) (sym q) (both (isBelow link j) _ p .1)
+        | yes q ↦ subst (λ (k : ℕ). moves waits v k ≡ true) (sym q) (and-eq-true-iff (isBelow link j) _ .0 p .1)
         | no q ↦ all m (sym (getD-set-other flags (link - 1) m 1 0 q) ∙ (rw p at e))
       ])
       (λ p. all m (rw p at e))
@@ -132,7 +133,8 @@ module _ (links waits : List ℕ) (v : ℕ) where
         | no s ↦ let q : d ≡ j = omega (arith, u .0) in absurd (eqb-false _ _ t (subst (λ (x : ℕ). getD flags x 0 ≡ 1) q (u .1)))
       ]) (c p d i k m)) p d))
 
-  all-move : (j : ℕ) (flags acc : List ℕ) → ((m : ℕ) → getD flags m 0 ≡ 1 → moves waits v m ≡ true) → ((m : ℕ) → In m acc → moves waits v m ≡ true) → (m : ℕ) → In m (out j flags acc) → moves waits v m ≡ true
+  all-move : (j : ℕ) (flags acc : List ℕ) → ((m : ℕ) → getD flags m 0 ≡ 1 → moves waits v m ≡ true) → ((m : ℕ) → In m acc → moves waits v m ≡ true)
+      → (m : ℕ) → In m (out j flags acc) → moves waits v m ≡ true
   unfolding gatherFrom
   all-move zero flags acc f a m = a m
   all-move (suc j) flags acc f a m =

@@ -10,6 +10,7 @@ use lib.Dec.{eqb}
 use lib.IntN.{ℤ, pos}
 use lib.ListN.{length, getD}
 use lib.Signed.{mag}
+use Rattle.language.specs.Cases.{split}
 use Rattle.language.specs.declared.members.Member.{Member}
 use Rattle.values.specs.declared.Value.{Value}
 use Rattle.values.specs.declared.Value.the-variants.{Number, Window, Function, Delayed, Missing}
@@ -21,7 +22,7 @@ use Rattle.meaning.specs.Evaluation.{Result, plain, runs, valueOf, runOf, Envir
 use Rattle.layout.specs.Nodes.{memberKind, numberOfKey}
 use Rattle.layout.specs.Links.{kindAt, firstAt, secondAt, keyAt}
 use Rattle.table.specs.Waits.{slotA, slotB, hasSlot, awaits}
-use Rattle.refine.specs.Free.{free, split}
+use Rattle.refine.specs.Free.{free}
 
 -- what entry i is, with the form that it stands for
 pub data EntryAt (links cells : List ℕ) (φ : ℕ → Form) (i : ℕ) : Type 0 where
@@ -111,7 +112,8 @@ run-function n v s g z k = by v s
 
 module _ (links cells waits : List ℕ) (xs : List ℤ) (n : ℕ) (φ : ℕ → Form) (good : Good links cells waits xs n φ) where
   -- what every entry comes to can be kept, and so can what a run of it gives
-  mutual-kept : (k i : ℕ) → i < k → i < n → (ρ : Environment) → Plain ρ → Keepable (length xs) (valueOf (evaluate xs ρ (φ i))) × ((z : ℤ) → mag z < 2147483648 → Keepable (length xs) (runOf (evaluate xs ρ (φ i)) z))
+  mutual-kept : (k i : ℕ) → i < k → i < n → (ρ : Environment) → Plain ρ
+      → Keepable (length xs) (valueOf (evaluate xs ρ (φ i))) × ((z : ℤ) → mag z < 2147483648 → Keepable (length xs) (runOf (evaluate xs ρ (φ i)) z))
   unfolding evaluate valueOf runOf
   mutual-kept zero i h h′ ρ p = absurd (omega arith)
   mutual-kept (suc k) i h h′ ρ p = by (good .entries i h′) (λ j l σ q. mutual-kept k j (omega arith) (omega arith) σ q)
@@ -119,7 +121,8 @@ module _ (links cells waits : List ℕ) (xs : List ℤ) (n : ℕ) (φ : ℕ → 
       wrong : Keepable (length xs) (Missing 2)
       wrong = reason-kept (length xs) 2 (omega arith) (omega arith)
 
-      by : EntryAt links cells φ i → ((j : ℕ) → j < i → (σ : Environment) → Plain σ → Keepable (length xs) (valueOf (evaluate xs σ (φ j))) × ((z : ℤ) → mag z < 2147483648 → Keepable (length xs) (runOf (evaluate xs σ (φ j)) z)))
+      by : EntryAt links cells φ i
+          → ((j : ℕ) → j < i → (σ : Environment) → Plain σ → Keepable (length xs) (valueOf (evaluate xs σ (φ j))) × ((z : ℤ) → mag z < 2147483648 → Keepable (length xs) (runOf (evaluate xs σ (φ j)) z)))
           → Keepable (length xs) (valueOf (evaluate xs ρ (φ i))) × ((z : ℤ) → mag z < 2147483648 → Keepable (length xs) (runOf (evaluate xs ρ (φ i)) z))
       by (is-number _ l e) again = rw e (record { held = down-range 2147483648 (keyAt cells i) (omega arith); inside = tt; reasoned = tt }, λ z m. wrong)
       by (is-variable _ _ _ e) again = rw e (plain-kept (length xs) (lookup ρ (keyAt cells i)) (plain-lookup ρ p (keyAt cells i)), λ z m. wrong)
@@ -127,8 +130,12 @@ module _ (links cells waits : List ℕ) (xs : List ℤ) (n : ℕ) (φ : ℕ → 
       by (is-readings _ e) again = rw e (record { held = (omega arith, omega (arith, good .few)); inside = omega arith; reasoned = tt }, λ z m. wrong)
       by (is-function b _ _ l e) again =
           rw e (
-            function-kept (length xs) (valueOf (evaluate xs (bind (keyAt cells i) Delayed ρ) (φ b))) (settled (bind (keyAt cells i) (Number (pos 0)) ρ) (φ b)) (λ z. evaluate xs (bind (keyAt cells i) (Number z) ρ) (φ b)) (again b l (bind (keyAt cells i) Delayed ρ) (tt, p) .0),
-            λ z m. run-function (length xs) (valueOf (evaluate xs (bind (keyAt cells i) Delayed ρ) (φ b))) (settled (bind (keyAt cells i) (Number (pos 0)) ρ) (φ b)) (λ y. evaluate xs (bind (keyAt cells i) (Number y) ρ) (φ b)) z (again b l (bind (keyAt cells i) (Number z) ρ) (m, p) .0),
+            function-kept (length xs) (valueOf (evaluate xs (bind (keyAt cells i) Delayed ρ) (φ b)))
+                (settled (bind (keyAt cells i) (Number (pos 0)) ρ) (φ b)) (λ z. evaluate xs (bind (keyAt cells i) (Number z) ρ) (φ b))
+                (again b l (bind (keyAt cells i) Delayed ρ) (tt, p) .0),
+            λ z m. run-function (length xs) (valueOf (evaluate xs (bind (keyAt cells i) Delayed ρ) (φ b)))
+                (settled (bind (keyAt cells i) (Number (pos 0)) ρ) (φ b)) (λ y. evaluate xs (bind (keyAt cells i) (Number y) ρ) (φ b)) z
+                (again b l (bind (keyAt cells i) (Number z) ρ) (m, p) .0),
           )
       by (is-ask m d _ _ _ l e) again = rw e (kept-apply0 (length xs) (omega (arith, good .few)) m xs (good .small) (valueOf (evaluate xs ρ (φ d))) (again d l ρ p .0), λ z m. wrong)
       by (is-call m d a _ _ _ l l′ e) again =

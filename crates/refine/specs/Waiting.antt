@@ -2,7 +2,7 @@
 -- nodes, with the forms that they stand for, is one that working out can rely on. Assumes nothing.
 use mathlib.Core.Path.{_≡_, refl, sym, ap, _∙_}
 use mathlib.Core.Bool.{true, false}
-use mathlib.Core.List.{List, []}
+use mathlib.Core.List.{List}
 use Prim.Native.Nat.{ℕ, suc, _≤_, _<_}
 use native.Mathlib.Omega.{arith}
 use borrow.Author.Tests.{eqb-true, ltb-true, leb-false}
@@ -10,6 +10,7 @@ use lib.Dec.{leb, eqb}
 use lib.IntN.{ℤ, pos}
 use lib.ListN.{length, getD, replicate}
 use lib.Signed.{mag}
+use Rattle.language.specs.Cases.{either}
 use Rattle.meaning.specs.Forms.{Form}
 use Rattle.meaning.specs.Evaluation.{awaited}
 use Rattle.layout.specs.Memory.{Node, nodeAt}
@@ -23,7 +24,6 @@ use Rattle.table.specs.NodeKinds.{Fine, aNumber, aVariable, anUnbound, theReadi
 use Rattle.table.specs.AwaitsLaws.{namesOf}
 use Rattle.table.specs.AwaitedForms.{awaited-forms}
 use Rattle.table.specs.WaitsLaws.{Variable, Holds, none, one, two, positive, single, holds-of, found}
-use Rattle.refine.specs.Free.{either}
 use Rattle.refine.specs.Tables.{EntryAt, is-number, is-variable, is-unbound, is-readings, is-function, is-ask, is-call, Slot, Good}
 use Rattle.refine.specs.Shows.{slotNames}
 

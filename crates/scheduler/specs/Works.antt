@@ -88,14 +88,10 @@ pub record Works (xs : List ℤ) (links cells : List ℕ) (n allowance : ℕ) (a
 abbrev pub view : Shown → ℕ → ℕ → View
 view s name other = record { kind = s .kind; first = s .first; second = s .second; name = name; other = other }
 
-abbrev pub pickV : Bool → View → View → View
-pickV true a b = a
-pickV false a b = b
-
 -- from its kept cells, or of a leaf from the entry itself: a variable shows its own name
 unfoldable pub showOf : ℕ → List ℕ → List ℕ → ℕ → View
 showOf size links cells n =
     let s : Shown = shownNumbers (unpackOf (startAt size links cells n)) in
-    pickV (eqb (kindAt links n) variableKind) (view s (keyAt cells n) 0)
-    (pickV (ltb (kindAt links n) functionKind) (view s 0 0)
+    cond (eqb (kindAt links n) variableKind) (view s (keyAt cells n) 0)
+    (cond (ltb (kindAt links n) functionKind) (view s 0 0)
     (view s (nameAt cells n) (otherAt cells n)))

@@ -117,7 +117,9 @@ module _ (scope : List ℕ) (x : ℕ) where
       → D.lambdaIn scope x (b - 1) ≡ D.lambdaIn scope x depth
   unfolding D.lambdaIn
   lambda-next zero depth r h l e t = absurd (omega arith)
-  lambda-next (suc i) depth r h l e t = let n : suc i - 1 ≡ i = omega arith in rw n (neither (eqb (D.binderLink scope i) 0) (eqb x (D.binderName scope i)) (D.lambdaIn scope x i) (sym (rw n at e) ∙ t) ∙ h)
+  lambda-next (suc i) depth r h l e t =
+      let n : suc i - 1 ≡ i = omega arith in
+      rw n (neither (eqb (D.binderLink scope i) 0) (eqb x (D.binderName scope i)) (D.lambdaIn scope x i) (sym (rw n at e) ∙ t) ∙ h)
 
   pub lambda-none : (b depth : ℕ) → D.lambdaIn scope x b ≡ D.lambdaIn scope x depth → b ≤ 0 → false ≡ D.lambdaIn scope x depth
   unfolding D.lambdaIn

@@ -16,12 +16,13 @@ use Rattle.values.specs.declared.Value.the-variants.{Number}
 use Rattle.values.proofs.PackingRules.{pack-number}
 use Rattle.values.proofs.Signed.{wide}
 use Rattle.grammar.specs.Tokens.{when}
+use Rattle.grammar.specs.TokensLaws.{by-test}
 use Rattle.records.specs.Records.{numberKey}
 use Rattle.layout.specs.Memory.{node}
 use Rattle.descent.specs.Cursor as C
 use Rattle.descent.specs.Descent.{State, moved}
 use Rattle.descent.specs.Descent as D
-use Rattle.descent.specs.Moves.{by-test, not-refused, part-fits}
+use Rattle.descent.specs.Moves.{not-refused, part-fits}
 use Rattle.descent.specs.Paths.{then-stop, then-go}
 use Rattle.steps.specs.declared.cursor.Cursor.{Cursor}
 use Rattle.steps.specs.declared.scratch.Call.{Call}

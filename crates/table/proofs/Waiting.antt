@@ -1,6 +1,6 @@
 -- The steps of the rising pass over the awaited variables, each over plain numbers and lists. Assumes nothing.
-use mathlib.Core.Path.{_≡_, refl, sym, _∙_}
-use mathlib.Core.Bool.{Bool, true, false, _&&_, _||_, false≢true}
+use mathlib.Core.Path.{_≡_, sym, _∙_}
+use mathlib.Core.Bool.{Bool, true, false, _&&_, _||_, and-eq-true-iff}
 use mathlib.Core.List.{List}
 use Prim.Native.Nat.{ℕ, suc, _+_, _*_, _-_, _/_, _%_, _≤_, _<_}
 use native.Mathlib.Omega.{arith}
@@ -54,15 +54,11 @@ module _ (cells : List ℕ) (key w : ℕ) (r : Bool) (e : r ≡ isNamed cells ke
     without-none u = rw (sym e ∙ t, sym d ∙ u)
 
 -- a link that was tested
-both : (a b : Bool) → (a && b) ≡ true → (a ≡ true) × (b ≡ true)
-both true b h = (refl, h)
-both false b h = absurd (false≢true h)
-
 pub below-one : (link i : ℕ) (r : Bool) → r ≡ isBelow link i → r ≡ true → 1 ≤ link
-below-one link i r e t = leb-true 1 link (both (leb 1 link) (leb link i) (sym e ∙ t) .0)
+below-one link i r e t = leb-true 1 link (and-eq-true-iff (leb 1 link) (leb link i) .0 (sym e ∙ t) .0)
 
 pub below-most : (link i : ℕ) (r : Bool) → r ≡ isBelow link i → r ≡ true → link ≤ i
-below-most link i r e t = leb-true link i (both (leb 1 link) (leb link i) (sym e ∙ t) .1)
+below-most link i r e t = leb-true link i (and-eq-true-iff (leb 1 link) (leb link i) .0 (sym e ∙ t) .1)
 
 pub waits-below : (waits : List ℕ) (link i : ℕ) (r : Bool) → r ≡ isBelow link i → r ≡ true → getD waits (link - 1) 0 ≡ waitsOf waits link i
 waits-below waits link i r e t = rw (sym e ∙ t)

@@ -1,15 +1,14 @@
 -- How many dependencies an entry has: two at most, and a right node's links are given or 0 as its kind says. Assumes nothing.
 use mathlib.Core.Path.{_≡_}
-use mathlib.Core.Bool.{true}
+use mathlib.Core.Bool.{true, and-eq-true-iff}
 use Prim.Native.Nat.{ℕ, _≤_, _<_}
 use native.Mathlib.Omega.{arith}
 use borrow.Author.Tests.{eqb-true, eq-eqb, ne-eqb, lt-ltb}
 use lib.Dec.{leb, eqb}
+use Rattle.language.specs.Cases.{split}
 use Rattle.language.specs.MembersLaws.{few-arguments}
 use Rattle.language.specs.declared.members.Found.{Found}
 use Rattle.language.specs.declared.members.Found.the-variants.{Is, Unknown}
-use Rattle.meaning.specs.FormsLaws.{and-left, and-right}
-use Rattle.meaning.specs.EvaluationLaws.{split}
 use Rattle.layout.specs.Memory.{Node}
 use Rattle.layout.specs.Nodes.{memberOfKind, memberArity, arity}
 use Rattle.table.specs.WellFormed.{arityRight}
@@ -37,13 +36,13 @@ module _ (i : ℕ) (n : Node) (r : nodeRight i n ≡ true) where
   unfolding arityRight
   no-links e =
       let w = rw (eq-eqb (arity (n .kind)) 0 e) at (right-arity i n r) in
-      (eqb-true (n .first) 0 (and-left _ _ w), eqb-true (n .second) 0 (and-right (eqb (n .first) 0) _ w))
+      (eqb-true (n .first) 0 (and-eq-true-iff _ _ .0 w .0), eqb-true (n .second) 0 (and-eq-true-iff (eqb (n .first) 0) _ .0 w .1))
 
   pub no-second : arity (n .kind) ≡ 1 → n .second ≡ 0
   unfolding arityRight
   no-second e =
-      eqb-true (n .second) 0 (and-right (leb 1 (n .first)) _
-      (rw (ne-eqb (arity (n .kind)) 0 (λ q. omega arith), eq-eqb (arity (n .kind)) 1 e) at (right-arity i n r)))
+      eqb-true (n .second) 0 (and-eq-true-iff (leb 1 (n .first)) _ .0
+      (rw (ne-eqb (arity (n .kind)) 0 (λ q. omega arith), eq-eqb (arity (n .kind)) 1 e) at (right-arity i n r)) .1)
 
   pub a-second : 2 ≤ arity (n .kind) → 1 ≤ n .second
   a-second h = second-given i n r (omega (arith, arity-few (n .kind)))

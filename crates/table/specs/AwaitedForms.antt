@@ -7,13 +7,13 @@ use native.Mathlib.Omega.{arith}
 use borrow.Author.Tests.{eqb-true, eqb-false, ne-eqb}
 use lib.Dec.{eqb}
 use lib.ListN.{getD}
+use Rattle.language.specs.Cases.{split}
 use Rattle.language.specs.Members.{row}
 use Rattle.language.specs.MembersLaws.{few-arguments}
 use Rattle.language.specs.declared.members.Found.{Found}
 use Rattle.language.specs.declared.members.Found.the-variants.{Is, Unknown}
 use Rattle.meaning.specs.Forms.{Form}
 use Rattle.meaning.specs.Evaluation.{joined, awaited}
-use Rattle.meaning.specs.EvaluationLaws.{split}
 use Rattle.layout.specs.Memory.{Node}
 use Rattle.layout.specs.Nodes.{memberOfKind, memberArity, memberForm, arity, build}
 use Rattle.table.specs.WellFormed.{awaitedBy}

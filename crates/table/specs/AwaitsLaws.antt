@@ -1,6 +1,6 @@
 -- Laws of the names that entries await: lists of names put together, and the list of each entry by its number. Assumes nothing.
 use mathlib.Core.Path.{_≡_, refl, sym, ap, _∙_, subst}
-use mathlib.Core.Bool.{Bool, true, false, _&&_, _||_, false≢true}
+use mathlib.Core.Bool.{Bool, true, false, _&&_, _||_, false≢true, and-eq-true-iff, or-true}
 use mathlib.Core.List.{List, [], _∷_, _++_}
 use Prim.Native.Nat.{ℕ, zero, suc, _+_, _≤_, _<_}
 use native.Mathlib.Decide.{decLt}
@@ -9,9 +9,8 @@ use borrow.Author.Tests.{eqb-true, eq-eqb, leb-true}
 use lib.Dec.{eqb, leb}
 use lib.ListN.{length, getD, length-append, List·getD-append}
 use lib.Seq.{getD-at}
+use Rattle.language.specs.Cases.{split}
 use Rattle.meaning.specs.Evaluation.{hasName, joined}
-use Rattle.meaning.specs.FormsLaws.{and-left, and-right}
-use Rattle.meaning.specs.EvaluationLaws.{split}
 use Rattle.layout.specs.Memory.{Node}
 use Rattle.table.specs.WellFormed.{every, awaitedBy, awaitedAfter, awaitsFew}
 use Rattle.layout.specs.Numbered.{allFrom, numbered}
@@ -58,10 +57,6 @@ pub joined-all : (xs ys : List ℕ) → contains (joined xs ys) ys ≡ true
 unfolding hasName
 joined-all xs ys = each ys (λ y e. has-joined y xs ys ∙ rw e (or-true (hasName y xs)))
   where
-    or-true : (a : Bool) → (a || true) ≡ true
-    or-true true = refl
-    or-true false = refl
-
     each : (zs : List ℕ) → ((y : ℕ) → hasName y zs ≡ true → hasName y (joined xs ys) ≡ true) → contains (joined xs ys) zs ≡ true
     each [] h = refl
     each (z ∷ zs) h = rw (h z (rw (eq-eqb z z refl))) (each zs (λ y e. h y (rw e (or-true (eqb y z)))))
@@ -69,7 +64,7 @@ joined-all xs ys = each ys (λ y e. has-joined y xs ys ∙ rw e (or-true (hasNam
 pub joined-held : (xs ys : List ℕ) → contains xs ys ≡ true → joined xs ys ≡ xs
 unfolding joined
 joined-held xs [] h = refl
-joined-held xs (y ∷ ys) h = rw (and-left (hasName y xs) _ h) (joined-held xs ys (and-right (hasName y xs) _ h))
+joined-held xs (y ∷ ys) h = rw (and-eq-true-iff (hasName y xs) _ .0 h .0) (joined-held xs ys (and-eq-true-iff (hasName y xs) _ .0 h .1))
 
 joined-longer : (xs ys : List ℕ) → length xs ≤ length (joined xs ys)
 unfolding joined

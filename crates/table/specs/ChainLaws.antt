@@ -1,18 +1,17 @@
 -- Laws of nodes by number and of their hash chains. Assumes nothing.
 use mathlib.Core.Path.{_≡_, refl, sym, ap, _∙_, subst}
-use mathlib.Core.Bool.{Bool, true, false, cond, not, _&&_, _||_}
+use mathlib.Core.Bool.{Bool, true, false, cond, not, _&&_, _||_, and-eq-true-iff, or-true, or-false}
 use mathlib.Core.List.{List, [], _∷_, _++_}
 use Prim.Native.Nat.{ℕ, zero, suc, _+_, _-_, _≤_, _<_}
 use native.Mathlib.Decide.{decLt}
 use native.Mathlib.Nat.{add-zero}
 use native.Mathlib.Numerals.{add-one}
 use native.Mathlib.Omega.{arith}
-use borrow.Author.Tests.{eqb-true, eqb-false, eq-eqb, ne-eqb, lt-ltb}
+use borrow.Author.Tests.{eqb-true, eqb-false, eq-eqb, ne-eqb, lt-ltb, not-true}
 use lib.Dec.{eqb}
 use lib.ListN.{length, getD, set, replicate, length-set, length-append, length-replicate, getD-replicate}
 use lib.Seq.{getD-set-same, getD-set-other}
-use Rattle.meaning.specs.FormsLaws.{no-way, and-left, and-right}
-use Rattle.meaning.specs.EvaluationLaws.{split}
+use Rattle.language.specs.Cases.{impossible, split}
 use Rattle.layout.specs.Memory.{Node, nodeAt}
 use Rattle.layout.specs.Nodes.{sameNode}
 use Rattle.table.specs.WellFormed.{hasNode, distinct}
@@ -26,12 +25,12 @@ use Rattle.table.specs.Chain.{hashOf, latest, lastSame, newAt, Chained, 
 pub same-equal : (a b : Node) → sameNode a b ≡ true → a ≡ b
 unfolding sameNode
 same-equal a b h =
-    let r = and-right (eqb (a .kind) (b .kind)) _ h in
-    let s = and-right (eqb (a .key) (b .key)) _ r in
-    let k = eqb-true (a .kind) (b .kind) (and-left _ _ h) in
-    let y = eqb-true (a .key) (b .key) (and-left _ _ r) in
-    let f = eqb-true (a .first) (b .first) (and-left _ _ s) in
-    let g = eqb-true (a .second) (b .second) (and-right (eqb (a .first) (b .first)) _ s) in
+    let r = and-eq-true-iff (eqb (a .kind) (b .kind)) _ .0 h .1 in
+    let s = and-eq-true-iff (eqb (a .key) (b .key)) _ .0 r .1 in
+    let k = eqb-true (a .kind) (b .kind) (and-eq-true-iff _ _ .0 h .0) in
+    let y = eqb-true (a .key) (b .key) (and-eq-true-iff _ _ .0 r .0) in
+    let f = eqb-true (a .first) (b .first) (and-eq-true-iff _ _ .0 s .0) in
+    let g = eqb-true (a .second) (b .second) (and-eq-true-iff (eqb (a .first) (b .first)) _ .0 s .1) in
     λ i. record { kind = k i; key = y i; first = f i; second = g i }
 
 pub same-self : (a : Node) → sameNode a a ≡ true
@@ -42,7 +41,7 @@ pub same-sym : (a b : Node) → sameNode a b ≡ sameNode b a
 same-sym a b =
     split (sameNode a b)
     (λ p. rw p (sym (rw (same-equal a b p) (same-self b))))
-    (λ p. rw p (split (sameNode b a) (λ q. no-way (sym p ∙ (rw (same-equal b a q) (same-self a)))) (λ q. sym q)))
+    (λ p. rw p (split (sameNode b a) (λ q. impossible (sym p ∙ (rw (same-equal b a q) (same-self a)))) (λ q. sym q)))
 
 -- nodes by number
 module _ {A : Type 0} where
@@ -121,17 +120,17 @@ distinct-snoc m (a ∷ ms) = rw (has-snoc a m ms, distinct-snoc m ms, same-sym m
 pub find-none : (x : Node) (ms : List Node) → hasNode x ms ≡ false → find ms x ≡ length ms
 unfolding hasNode find
 find-none x [] h = refl
-find-none x (m ∷ ms) h = split (sameNode m x) (λ p. no-way (sym (rw p at h))) (λ p. rw p (ap suc (find-none x ms (rw p at h))))
+find-none x (m ∷ ms) h = split (sameNode m x) (λ p. impossible (sym (rw p at h))) (λ p. rw p (ap suc (find-none x ms (rw p at h))))
 
 find-snoc : (x m : Node) (ms : List Node) → hasNode x ms ≡ true → find (ms ++ (m ∷ [])) x ≡ find ms x
 unfolding hasNode find
-find-snoc x m [] h = no-way h
+find-snoc x m [] h = impossible h
 find-snoc x m (a ∷ ms) h = split (sameNode a x) (λ p. rw p) (λ p. rw p (ap suc (find-snoc x m ms (rw p at h))))
 
 find-new : (x m : Node) (ms : List Node) → hasNode x ms ≡ false → sameNode m x ≡ true → find (ms ++ (m ∷ [])) x ≡ length ms
 unfolding hasNode find
 find-new x m [] h q = rw q
-find-new x m (a ∷ ms) h q = split (sameNode a x) (λ p. no-way (sym (rw p at h))) (λ p. rw p (ap suc (find-new x m ms (rw p at h) q)))
+find-new x m (a ∷ ms) h q = split (sameNode a x) (λ p. impossible (sym (rw p at h))) (λ p. rw p (ap suc (find-new x m ms (rw p at h) q)))
 
 positive : (n : ℕ) → eqb (suc n) 0 ≡ false
 positive n = ne-eqb (suc n) 0 (λ e. omega arith)
@@ -140,15 +139,11 @@ module _ (ν : ℕ → Node) where
   pub has-last : (x : Node) (n : ℕ) → hasNode x (numbered ν 0 n) ≡ not (eqb (lastSame ν x n) 0)
   unfolding hasNode lastSame
   has-last x zero = rw (numbered-zero ν 0)
-  has-last x (suc n) = rw (numbered-last ν n, has-snoc x (ν n) (numbered ν 0 n)) (split (sameNode (ν n) x) (λ p. rw p (rw (positive n) (or-true (hasNode x (numbered ν 0 n))))) (λ p. rw p (or-false _ ∙ has-last x n)))
-    where
-      or-true : (b : Bool) → (b || true) ≡ true
-      or-true true = refl
-      or-true false = refl
-
-      or-false : (b : Bool) → (b || false) ≡ b
-      or-false true = refl
-      or-false false = refl
+  has-last x (suc n) =
+      rw (numbered-last ν n, has-snoc x (ν n) (numbered ν 0 n))
+      (split (sameNode (ν n) x)
+      (λ p. rw p (rw (positive n) (or-true (hasNode x (numbered ν 0 n)))))
+      (λ p. rw p (or-false _ ∙ has-last x n)))
 
   pub distinct-all : (n : ℕ) → distinct (numbered ν 0 n) ≡ allFrom (newAt ν) n 0
   unfolding distinct
@@ -166,28 +161,28 @@ module _ (ν : ℕ → Node) where
   find-last x zero d = rw (numbered-zero ν 0)
   find-last x (suc n) d =
       let e : (distinct (numbered ν 0 n) && not (hasNode (ν n) (numbered ν 0 n))) ≡ true = sym (distinct-snoc (ν n) (numbered ν 0 n)) ∙ sym (ap distinct (numbered-last ν n)) ∙ d in
-      let ih = find-last x n (and-left _ _ e) in
+      let ih = find-last x n (and-eq-true-iff _ _ .0 e .0) in
       let u = length-numbered ν 0 n in
       rw (numbered-last ν n)
       (split (sameNode (ν n) x)
       (λ p.
-      let w : hasNode x (numbered ν 0 n) ≡ false = subst (λ (y : Node). hasNode y (numbered ν 0 n) ≡ false) (same-equal (ν n) x p) (not-is _ (and-right (distinct (numbered ν 0 n)) _ e)) in
+      let new : hasNode (ν n) (numbered ν 0 n) ≡ false = not-true _ (and-eq-true-iff (distinct (numbered ν 0 n)) _ .0 e .1) in
+      let w : hasNode x (numbered ν 0 n) ≡ false = subst (λ (y : Node). hasNode y (numbered ν 0 n) ≡ false) (same-equal (ν n) x p) new in
       rw p (rw (positive n) (find-new x (ν n) (numbered ν 0 n) w p ∙ omega arith)))
       (λ p.
       rw p
       (split (hasNode x (numbered ν 0 n))
       (λ w. find-snoc x (ν n) (numbered ν 0 n) w ∙ ih ∙ some (lastSame ν x n) (sym (has-last x n) ∙ w))
-      (λ w. find-none x (numbered ν 0 n ++ (ν n ∷ [])) (has-snoc x (ν n) (numbered ν 0 n) ∙ rw (w, p)) ∙ length-append (numbered ν 0 n) (ν n ∷ []) ∙ none (lastSame ν x n) (sym (has-last x n) ∙ w) (omega arith)))))
+      (λ w.
+      find-none x (numbered ν 0 n ++ (ν n ∷ [])) (has-snoc x (ν n) (numbered ν 0 n) ∙ rw (w, p))
+      ∙ length-append (numbered ν 0 n) (ν n ∷ [])
+      ∙ none (lastSame ν x n) (sym (has-last x n) ∙ w) (omega arith)))))
     where
-      not-is : (b : Bool) → not b ≡ true → b ≡ false
-      not-is true h = sym h
-      not-is false h = refl
-
       some : (l : ℕ) → not (eqb l 0) ≡ true → cond (eqb l 0) n (l - 1) ≡ cond (eqb l 0) (suc n) (l - 1)
-      some l h = rw (not-is (eqb l 0) h)
+      some l h = rw (not-true (eqb l 0) h)
 
       none : (l : ℕ) → not (eqb l 0) ≡ false → {k : ℕ} → k ≡ suc n → k ≡ cond (eqb l 0) (suc n) (l - 1)
-      none l h e = split (eqb l 0) (λ p. rw p e) (λ p. no-way (sym (rw p at h)))
+      none l h e = split (eqb l 0) (λ p. rw p e) (λ p. impossible (sym (rw p at h)))
 
   pub last-le : (x : Node) (n : ℕ) → lastSame ν x n ≤ n
   unfolding lastSame
@@ -322,7 +317,7 @@ module _ (ν : ℕ → Node) (i : ℕ) (chain′ : List ℕ) (s : ℕ) (m : Node
       }
 
   pub entered-old : (s ≡ 0 → ⊥) → Entered ν i chain′ false
-  entered-old z = record { new = sym (rw (← qm) (rw (← qs) (ne-eqb s 0 z))); chained = λ t. no-way t }
+  entered-old z = record { new = sym (rw (← qm) (rw (← qs) (ne-eqb s 0 z))); chained = λ t. impossible t }
 
 -- a node entered without a test, and all of them
 pub chained-entered : (ν : ℕ → Node) (i : ℕ) (chain chain′ : List ℕ) (m : Node) (h : ℕ) → chain′ ≡ linked chain h i → h ≡ hashOf m → m ≡ ν i → Chained ν chain i → i < 640 → Chained ν chain′ (i + 1)

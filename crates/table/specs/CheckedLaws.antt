@@ -8,8 +8,8 @@ use borrow.Author.Tests.{eq-eqb, ne-eqb, le-leb, lt-leb, ltb-true, ltb-false}
 use lib.Dec.{eqb, ltb, leb}
 use lib.IntN.{ℤ}
 use lib.ListN.{getD}
+use Rattle.language.specs.Cases.{split}
 use Rattle.values.specs.Packing.{functionCell, delayedCell, isPacked}
-use Rattle.meaning.specs.EvaluationLaws.{split}
 use Rattle.layout.specs.Links.{kindAt, valueAt, nameAt, otherAt}
 use Rattle.layout.specs.Memory.{Node, Entry, nodeAt, keptAt, entryAt, entriesFrom, nodesOf}
 use Rattle.layout.specs.Nodes.{worksKind, arity, listed, kids, isName}

@@ -1,19 +1,18 @@
 -- Nodes by their kinds: a right node has what its kind has, and nothing else, and the form that it builds goes by that. Assumes nothing.
 use mathlib.Core.Path.{_≡_, refl, sym, _∙_, subst}
-use mathlib.Core.Bool.{Bool, true, false, _&&_}
+use mathlib.Core.Bool.{Bool, true, false, _&&_, and-eq-true-iff}
 use mathlib.Core.List.{List, [], _∷_}
 use Prim.Native.Nat.{ℕ, zero, suc, _+_, _-_, _≤_, _<_}
 use native.Mathlib.Omega.{arith}
 use borrow.Author.Tests.{eqb-true, eqb-false, ne-eqb, ltb-true, le-ltb}
 use lib.Dec.{eqb}
 use lib.ListN.{length}
+use Rattle.language.specs.Cases.{split}
 use Rattle.language.specs.Members.{row, members, memberNumber, foundIn, memberAt}
 use Rattle.language.specs.MembersLaws.{none-of, number-found, few-arguments}
 use Rattle.language.specs.declared.members.Member.{Member}
 use Rattle.language.specs.declared.members.Found.the-variants.{Is}
 use Rattle.meaning.specs.Forms.{Form, ask, call}
-use Rattle.meaning.specs.FormsLaws.{and-left, and-right}
-use Rattle.meaning.specs.EvaluationLaws.{split}
 use Rattle.layout.specs.Memory.{Node, node}
 use Rattle.layout.specs.Nodes.{numberKind, variableKind, unboundKind, readingsKind, functionKind, memberKind, memberOfKind, memberForm, arity, build}
 use Rattle.table.specs.WellFormed.{keyRight}
@@ -35,7 +34,7 @@ pub data Fine : Node → Type 0 where
 pub less-one : (n : ℕ) → suc n - 1 ≡ n
 less-one n = omega arith
 
-member-found : (m : Member) → memberOfKind (memberKind m) ≡ Is m
+pub member-found : (m : Member) → memberOfKind (memberKind m) ≡ Is m
 unfolding memberOfKind memberAt
 member-found m =
     let q : 5 + memberNumber m - 5 ≡ memberNumber m = omega arith in
@@ -73,9 +72,9 @@ inOrder j (m ∷ ms) = eqb (memberNumber m) j && inOrder (suc j) ms
 
 numbered : (ms : List Member) (j n : ℕ) → inOrder j ms ≡ true → n < length ms → Numbered ms j n
 numbered [] j n e h = absurd (omega arith)
-numbered (m ∷ ms) j zero e h = record { member = m; is = refl; number = omega (arith, eqb-true (memberNumber m) j (and-left _ _ e)) }
+numbered (m ∷ ms) j zero e h = record { member = m; is = refl; number = omega (arith, eqb-true (memberNumber m) j (and-eq-true-iff _ _ .0 e .0)) }
 numbered (m ∷ ms) j (suc n) e h =
-    let w = numbered ms (suc j) n (and-right (eqb (memberNumber m) j) _ e) (omega arith) in
+    let w = numbered ms (suc j) n (and-eq-true-iff (eqb (memberNumber m) j) _ .0 e .1) (omega arith) in
     record { member = w .member; is = w .is; number = omega (arith, w .number) }
 
 record OfKind (k : ℕ) : Type 0 where

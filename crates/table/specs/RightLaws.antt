@@ -1,6 +1,6 @@
 -- Laws of the tests of one entry, and of loops over numbers, each with a premise for every call and test on the code's way. Assumes nothing.
 use mathlib.Core.Path.{_≡_, refl, sym, _∙_}
-use mathlib.Core.Bool.{Bool, true, false, cond, not, _&&_, _||_}
+use mathlib.Core.Bool.{Bool, true, false, cond, not, _&&_, _||_, and-eq-true-iff}
 use mathlib.Core.List.{List, [], _∷_}
 use Prim.Native.Nat.{ℕ, zero, suc, _+_, _-_, _/_, _%_, _≤_, _<_}
 use native.Mathlib.Nat.{mod-eq-of-lt, sub-zero}
@@ -9,13 +9,12 @@ use native.Mathlib.Omega.{arith}
 use borrow.Author.Tests.{eq-eqb, ne-eqb, lt-ltb, le-ltb, leb-true}
 use lib.Dec.{eqb, leb, ltb}
 use lib.ListN.{length}
+use Rattle.language.specs.Cases.{split}
 use Rattle.language.specs.Names.{isLetter, inWord, packOnto, bytes, letWord, inWord!, dataWord}
 use Rattle.language.specs.Members.{row, memberAt, foundIn, members}
 use Rattle.language.specs.declared.members.Member.{Member}
 use Rattle.language.specs.declared.members.Found.{Found}
 use Rattle.language.specs.declared.members.Found.the-variants.{Is, Unknown}
-use Rattle.meaning.specs.FormsLaws.{and-left, and-right}
-use Rattle.meaning.specs.EvaluationLaws.{split}
 use Rattle.layout.specs.Links.{kindAt, firstAt, secondAt, keyAt}
 use Rattle.layout.specs.Memory.{Node, nodeAt, node}
 use Rattle.layout.specs.Nodes.{numberKind, variableKind, unboundKind, functionKind, firstMember, kindCount, memberOfKind, memberArity, arity, wordNumber, isName}
@@ -145,39 +144,39 @@ module _ (links cells : List ℕ) (i kind : ℕ) (qk : kind ≡ kindAt links i) 
 module _ (i : ℕ) (n : Node) (r : nodeRight i n ≡ true) where
   pub right-kind : kindKnown n ≡ true
   unfolding nodeRight
-  right-kind = and-left _ _ r
+  right-kind = and-eq-true-iff _ _ .0 r .0
 
   pub right-key : keyRight n ≡ true
   unfolding nodeRight
-  right-key = and-left _ _ (and-right (kindKnown n) _ r)
+  right-key = and-eq-true-iff _ _ .0 (and-eq-true-iff (kindKnown n) _ .0 r .1) .0
 
   pub right-arity : arityRight n ≡ true
   unfolding nodeRight
-  right-arity = and-left _ _ (and-right (keyRight n) _ (and-right (kindKnown n) _ r))
+  right-arity = and-eq-true-iff _ _ .0 (and-eq-true-iff (keyRight n) _ .0 (and-eq-true-iff (kindKnown n) _ .0 r .1) .1) .0
 
   right-lower : lower i n ≡ true
   unfolding nodeRight
-  right-lower = and-right (arityRight n) _ (and-right (keyRight n) _ (and-right (kindKnown n) _ r))
+  right-lower = and-eq-true-iff (arityRight n) _ .0 (and-eq-true-iff (keyRight n) _ .0 (and-eq-true-iff (kindKnown n) _ .0 r .1) .1) .1
 
   pub first-low : n .first ≤ i
-  first-low = leb-true (n .first) i (and-left _ _ right-lower)
+  first-low = leb-true (n .first) i (and-eq-true-iff _ _ .0 right-lower .0)
 
   pub second-low : n .second ≤ i
-  second-low = leb-true (n .second) i (and-right (leb (n .first) i) _ right-lower)
+  second-low = leb-true (n .second) i (and-eq-true-iff (leb (n .first) i) _ .0 right-lower .1)
 
   -- dependencies that there are
   pub first-given : (arity (n .kind) ≡ 0 → ⊥) → 1 ≤ n .first
   unfolding arityRight
   first-given u =
       split (eqb (arity (n .kind)) 1)
-      (λ p. leb-true 1 (n .first) (and-left _ _ (rw (ne-eqb (arity (n .kind)) 0 u, p) at right-arity)))
-      (λ p. leb-true 1 (n .first) (and-left _ _ (rw (ne-eqb (arity (n .kind)) 0 u, p) at right-arity)))
+      (λ p. leb-true 1 (n .first) (and-eq-true-iff _ _ .0 (rw (ne-eqb (arity (n .kind)) 0 u, p) at right-arity) .0))
+      (λ p. leb-true 1 (n .first) (and-eq-true-iff _ _ .0 (rw (ne-eqb (arity (n .kind)) 0 u, p) at right-arity) .0))
 
   pub second-given : arity (n .kind) ≡ 2 → 1 ≤ n .second
   unfolding arityRight
   second-given e =
-      leb-true 1 (n .second) (and-right (leb 1 (n .first)) _
-      (rw (ne-eqb (arity (n .kind)) 0 (λ q. omega arith), ne-eqb (arity (n .kind)) 1 (λ q. omega arith)) at right-arity))
+      leb-true 1 (n .second) (and-eq-true-iff (leb 1 (n .first)) _ .0
+      (rw (ne-eqb (arity (n .kind)) 0 (λ q. omega arith), ne-eqb (arity (n .kind)) 1 (λ q. omega arith)) at right-arity) .1)
 
   pub variable-named : n .kind ≡ variableKind → isName (n .key) ≡ true
   unfolding keyRight
@@ -187,8 +186,8 @@ module _ (i : ℕ) (n : Node) (r : nodeRight i n ≡ true) where
 pub all-at : (p : ℕ → Bool) (n i j : ℕ) → allFrom p n j ≡ true → i < n → p (j + i) ≡ true
 unfolding allFrom
 all-at p zero i j h l = absurd (omega arith)
-all-at p (suc n) zero j h l = let z : j + 0 ≡ j = omega arith in rw z (and-left _ _ h)
-all-at p (suc n) (suc i) j h l = let z : j + suc i ≡ suc j + i = omega arith in rw z (all-at p n i (suc j) (and-right (p j) _ h) (omega arith))
+all-at p (suc n) zero j h l = let z : j + 0 ≡ j = omega arith in rw z (and-eq-true-iff _ _ .0 h .0)
+all-at p (suc n) (suc i) j h l = let z : j + suc i ≡ suc j + i = omega arith in rw z (all-at p n i (suc j) (and-eq-true-iff (p j) _ .0 h .1) (omega arith))
 
 pub right-at : (links cells : List ℕ) (n i : ℕ) → allFrom (rightAt links cells) n 0 ≡ true → i < n → nodeRight i (nodeAt links cells i) ≡ true
 unfolding rightAt

@@ -1,7 +1,7 @@
 -- The pass over the awaited variables keeps to the definition. For right nodes, none of them twice, a name has one variable, so what the pass
 -- finds for an entry stands for the names that the entry awaits, and a join leaves a variable out just where these are over two. Assumes nothing.
 use mathlib.Core.Path.{_≡_, refl, sym, ap, _∙_}
-use mathlib.Core.Bool.{Bool, true, false, cond, _&&_, _||_}
+use mathlib.Core.Bool.{Bool, true, false, cond, _&&_, _||_, and-eq-true-iff}
 use mathlib.Core.List.{List, [], _∷_}
 use Prim.Native.Nat.{ℕ, zero, suc, _+_, _*_, _-_, _≤_, _<_}
 use native.Mathlib.Decide.{decLt}
@@ -10,10 +10,9 @@ use borrow.Author.Tests.{eqb-true, eqb-false, eq-eqb, ne-eqb, ltb-true, ltb-fals
 use lib.Dec.{leb, ltb, eqb, eqb·zero-suc, eqb·suc-zero}
 use lib.ListN.{length, getD, set, replicate, length-set, length-replicate}
 use lib.Seq.{getD-set-same, getD-set-other}
+use Rattle.language.specs.Cases.{impossible, split}
 use Rattle.meaning.specs.Evaluation.{hasName}
 use Rattle.meaning.specs.Evaluation as meaning
-use Rattle.meaning.specs.FormsLaws.{no-way, and-left, and-right}
-use Rattle.meaning.specs.EvaluationLaws.{split}
 use Rattle.layout.specs.Memory.{Node, nodeAt}
 use Rattle.layout.specs.Nodes.{arity, sameNode}
 use Rattle.table.specs.WellFormed.{distinct, awaitedBy, awaitsFew}
@@ -32,7 +31,7 @@ module _ (links cells : List ℕ) where
   waits-of : (ws us : List ℕ) (link i : ℕ) → ((j : ℕ) → j < i → getD ws j 0 ≡ getD us j 0) → waitsOf ws link i ≡ waitsOf us link i
   waits-of ws us link i same =
       split (isBelow link i)
-      (λ p. rw p (same (link - 1) (omega (arith, leb-true 1 link (and-left _ _ p), leb-true link i (and-right (leb 1 link) _ p)))))
+      (λ p. rw p (same (link - 1) (omega (arith, leb-true 1 link (and-eq-true-iff _ _ .0 p .0), leb-true link i (and-eq-true-iff (leb 1 link) _ .0 p .1)))))
       (λ p. rw p)
 
   waits-at : (ws us : List ℕ) (i : ℕ) → ((j : ℕ) → j < i → getD ws j 0 ≡ getD us j 0) → waitsAt links cells ws i ≡ waitsAt links cells us i
@@ -378,7 +377,7 @@ module _ (links cells : List ℕ) (n : ℕ) (most : n ≤ 512)
         by (over t k) = absurd (fine i h t k)
 
     test-is : (i : ℕ) → i < n → ((k : ℕ) → k < i → fewAt links ws k ≡ true) → fewAt links ws i ≡ leb (length (names i)) 2
-    test-is i h tests = outcome-test (step i h (found-first i (omega arith) (λ k q t l. no-way (sym t ∙ tests k q))))
+    test-is i h tests = outcome-test (step i h (found-first i (omega arith) (λ k q t l. impossible (sym t ∙ tests k q))))
 
     tests-are : allFrom (fewAt links ws) n 0 ≡ awaitsFew (numbered (nodeAt links cells) 0 n)
     tests-are = all-same (fewAt links ws) (λ i. leb (length (names i)) 2) n test-is ∙ sym (few-all (nodeAt links cells) n)

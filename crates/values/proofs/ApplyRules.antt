@@ -1,7 +1,7 @@
 -- What the proofs of `apply` cite, in the shape that `search` finds: the tests on the way, each with the equation of the call that made it,
 -- and the arm that was taken. Assumes nothing.
 use mathlib.Core.Path.{_≡_, refl, sym, ap, _∙_}
-use mathlib.Core.Bool.{Bool, true, false}
+use mathlib.Core.Bool.{Bool, true, false, cond}
 use mathlib.Core.List.{List, [], _∷_}
 use Prim.Native.Nat.{ℕ, _+_, _≤_}
 use borrow.Author.Needs.{needs}
@@ -22,7 +22,7 @@ use Rattle.values.specs.declared.apply.Applied.the-variants.{Done, Run}
 use Rattle.values.specs.Values.{kindOf, wrongKind}
 use Rattle.values.specs.Rules.{onNumbers, ofWindow, onWindow}
 use Rattle.values.specs.Apply.{isKind, rule0, ruleNumber, isMissing, isDelayed, apply0}
-use Rattle.values.specs.Applied.{choose, ruledWindow, ruled1, applied1}
+use Rattle.values.specs.Applied.{ruledWindow, ruled1, applied1}
 use Rattle.values.specs.Keepable.{Bounded}
 use Rattle.values.proofs.Value as Variants
 
@@ -139,7 +139,7 @@ module _ (m : Member) (xs : List ℤ) (v w : Value) (missing : Bool) (p : missin
         second-delayed h = simp (sym p ∙ present, sym p′ ∙ present′, sym q ∙ ready, sym q′ ∙ h)
 
         module _ (ready′ : delayed′ ≡ false) (k : Kind) (a : k ≡ row m .receiver) (right : Bool) (t : right ≡ isKind v k) where
-          by-kind : applied1 m xs v w ≡ choose right (choose (isKind w (row m .argument)) (ruled1 m xs v w) (Done (Missing wrongKind))) (Done (Missing wrongKind))
+          by-kind : applied1 m xs v w ≡ cond right (cond (isKind w (row m .argument)) (ruled1 m xs v w) (Done (Missing wrongKind))) (Done (Missing wrongKind))
           unfolding applied1
           by-kind = simp (sym p ∙ present, sym p′ ∙ present′, sym q ∙ ready, sym q′ ∙ ready′, ap (isKind v) (sym a) ∙ sym t)
 

@@ -1,6 +1,6 @@
 -- A member with one argument, up to the runs of a function: what it comes to, or the window to run the function over. Assumes nothing:
 -- these are definitions. That they come to apply1 is in ApplyLaws.
-use mathlib.Core.Bool.{Bool, true, false}
+use mathlib.Core.Bool.{cond}
 use mathlib.Core.List.{List, map}
 use Prim.Native.Nat.{ℕ}
 use lib.IntN.{ℤ}
@@ -14,10 +14,6 @@ use Rattle.values.specs.Values.{wrongKind}
 use Rattle.values.specs.Windows.{readingsIn}
 use Rattle.values.specs.Rules.{onWindow, ofRuns}
 use Rattle.values.specs.Apply.{isKind, ruleNumber, isMissing, isDelayed}
-
-abbrev pub choose : Bool → Applied → Applied → Applied
-choose true a b = a
-choose false a b = b
 
 unfoldable pub ruledWindow : Member → List ℤ → ℕ → ℕ → Value → Applied
 ruledWindow m xs s l (Number n) = Done (onWindow m xs s l n)
@@ -35,11 +31,11 @@ ruled1 m xs (Missing r) w = Done (Missing wrongKind)
 
 unfoldable pub applied1 : Member → List ℤ → Value → Value → Applied
 applied1 m xs v w =
-    choose (isMissing v) (Done v)
-    (choose (isMissing w) (Done w)
-    (choose (isDelayed v) (Done Delayed)
-    (choose (isDelayed w) (Done Delayed)
-    (choose (isKind v (row m .receiver)) (choose (isKind w (row m .argument)) (ruled1 m xs v w) (Done (Missing wrongKind)))
+    cond (isMissing v) (Done v)
+    (cond (isMissing w) (Done w)
+    (cond (isDelayed v) (Done Delayed)
+    (cond (isDelayed w) (Done Delayed)
+    (cond (isKind v (row m .receiver)) (cond (isKind w (row m .argument)) (ruled1 m xs v w) (Done (Missing wrongKind)))
     (Done (Missing wrongKind))))))
 
 -- with the results of the runs

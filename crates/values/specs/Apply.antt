@@ -1,6 +1,6 @@
 -- 01, "Members": a member on its dependencies. The reason of the first missing one; otherwise, with one delayed, delayed; otherwise
 -- the kinds are tested; then the rule. Assumes nothing: these are definitions.
-use mathlib.Core.Bool.{Bool, true, false, _&&_, _||_}
+use mathlib.Core.Bool.{Bool, true, false, _&&_, _||_, cond}
 use mathlib.Core.List.{List, map}
 use Prim.Native.Nat.{ℕ}
 use lib.Dec.{eqb}
@@ -10,7 +10,7 @@ use Rattle.language.specs.declared.members.Kind.{Kind}
 use Rattle.language.specs.declared.members.Member.{Member}
 use Rattle.values.specs.declared.Value.{Value}
 use Rattle.values.specs.declared.Value.the-variants.{Number, Window, Function, Delayed, Missing}
-use Rattle.values.specs.Values.{pick, kindOf, wrongKind}
+use Rattle.values.specs.Values.{kindOf, wrongKind}
 use Rattle.values.specs.Windows.{readingsIn}
 use Rattle.values.specs.Rules.{onNumbers, ofWindow, onWindow, ofRuns}
 
@@ -65,16 +65,16 @@ isDelayed (Missing r) = false
 -- a member with no argument
 unfoldable pub apply0 : Member → List ℤ → Value → Value
 apply0 m xs v =
-    pick (isMissing v) v
-    (pick (isDelayed v) Delayed
-    (pick (isKind v (row m .receiver)) (rule0 m xs v)
+    cond (isMissing v) v
+    (cond (isDelayed v) Delayed
+    (cond (isKind v (row m .receiver)) (rule0 m xs v)
     (Missing wrongKind)))
 
 -- a member with one argument
 unfoldable pub apply1 : Member → List ℤ → Value → Value → (ℤ → Value) → Value
 apply1 m xs v w run =
-    pick (isMissing v) v
-    (pick (isMissing w) w
-    (pick (isDelayed v || isDelayed w) Delayed
-    (pick (isKind v (row m .receiver) && isKind w (row m .argument)) (rule1 m xs v w run)
+    cond (isMissing v) v
+    (cond (isMissing w) w
+    (cond (isDelayed v || isDelayed w) Delayed
+    (cond (isKind v (row m .receiver) && isKind w (row m .argument)) (rule1 m xs v w run)
     (Missing wrongKind))))

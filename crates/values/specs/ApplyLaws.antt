@@ -1,7 +1,7 @@
 -- A member's value up to the runs, completed by them, is apply1. Both make the same tests in the same order, so they differ only in how the two
 -- delays and the two kinds are joined. Assumes nothing.
 use mathlib.Core.Path.{_≡_, refl}
-use mathlib.Core.Bool.{Bool, true, false, _&&_, _||_}
+use mathlib.Core.Bool.{Bool, true, false, _&&_, _||_, cond}
 use mathlib.Core.List.{List}
 use Prim.Native.Nat.{ℕ}
 use lib.IntN.{ℤ}
@@ -10,26 +10,25 @@ use Rattle.values.specs.declared.Value.{Value}
 use Rattle.values.specs.declared.Value.the-variants.{Number, Window, Function, Delayed, Missing}
 use Rattle.values.specs.declared.apply.Applied.{Applied}
 use Rattle.values.specs.declared.apply.Applied.the-variants.{Done}
-use Rattle.values.specs.Values.{pick}
 use Rattle.values.specs.Apply.{rule1, apply1}
-use Rattle.values.specs.Applied.{choose, ruledWindow, ruled1, applied1, completed}
+use Rattle.values.specs.Applied.{ruledWindow, ruled1, applied1, completed}
 
-pick-or : (a b : Bool) (v w : Value) → pick (a || b) v w ≡ pick a v (pick b v w)
-pick-or true b v w = refl
-pick-or false b v w = refl
+cond-or : (a b : Bool) (v w : Value) → cond (a || b) v w ≡ cond a v (cond b v w)
+cond-or true b v w = refl
+cond-or false b v w = refl
 
-pick-and : (a b : Bool) (v w : Value) → pick (a && b) v w ≡ pick a (pick b v w) w
-pick-and true b v w = refl
-pick-and false b v w = refl
+cond-and : (a b : Bool) (v w : Value) → cond (a && b) v w ≡ cond a (cond b v w) w
+cond-and true b v w = refl
+cond-and false b v w = refl
 
 module _ (m : Member) (xs : List ℤ) (run : ℤ → Value) where
   completed-done : (v : Value) → completed m xs run (Done v) ≡ v
   unfolding completed
   completed-done v = refl
 
-  completed-choose : (b : Bool) (x y : Applied) → completed m xs run (choose b x y) ≡ pick b (completed m xs run x) (completed m xs run y)
-  completed-choose true x y = refl
-  completed-choose false x y = refl
+  completed-cond : (b : Bool) (x y : Applied) → completed m xs run (cond b x y) ≡ cond b (completed m xs run x) (completed m xs run y)
+  completed-cond true x y = refl
+  completed-cond false x y = refl
 
   completed-window : (s l : ℕ) (w : Value) → completed m xs run (ruledWindow m xs s l w) ≡ rule1 m xs (Window s l) w run
   unfolding completed ruledWindow rule1
@@ -49,4 +48,4 @@ module _ (m : Member) (xs : List ℤ) (run : ℤ → Value) where
 
   pub completed-is : (v w : Value) → completed m xs run (applied1 m xs v w) ≡ apply1 m xs v w run
   unfolding applied1 apply1
-  completed-is v w = simp (completed-choose, completed-done, completed-rule, pick-or, pick-and)
+  completed-is v w = simp (completed-cond, completed-done, completed-rule, cond-or, cond-and)

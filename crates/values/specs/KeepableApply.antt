@@ -1,26 +1,26 @@
 -- A member on dependencies that have a property which the members' own results have comes to a value that has it: so windows stay inside the
 -- recording, and what may be kept stays so. By the tests of apply0 and apply1, in their order. Assumes nothing.
-use mathlib.Core.Bool.{Bool, true, false, _&&_, _||_}
+use mathlib.Core.Bool.{_&&_, _||_, cond}
 use mathlib.Core.List.{List, [], _∷_, map}
 use Prim.Native.Nat.{ℕ, suc, _≤_, _<_}
 use native.Mathlib.Omega.{arith}
 use lib.IntN.{ℤ, pos}
 use lib.ListN.{length, getD, length-map}
 use lib.Signed.{mag}
+use Rattle.language.specs.Cases.{by-cond}
 use Rattle.language.specs.Members.{row}
 use Rattle.language.specs.declared.members.Member.{Member}
 use Rattle.values.specs.declared.Value.{Value}
 use Rattle.values.specs.declared.Value.the-variants.{Number, Window, Function, Delayed, Missing}
 use Rattle.values.specs.declared.apply.Applied.{Applied}
 use Rattle.values.specs.declared.apply.Applied.the-variants.{Done, Run}
-use Rattle.values.specs.Values.{pick}
 use Rattle.values.specs.Windows.{readingsIn}
 use Rattle.values.specs.Apply.{isKind, rule0, rule1, isMissing, isDelayed, apply0, apply1}
-use Rattle.values.specs.Applied.{choose, ruledWindow, ruled1, applied1, completed}
+use Rattle.values.specs.Applied.{ruledWindow, ruled1, applied1, completed}
 use Rattle.values.specs.ApplyLaws.{completed-rule}
 use Rattle.values.specs.WindowLaws.{readings-short}
 use Rattle.values.specs.Keepable.{Keepable}
-use Rattle.values.specs.KeepableLaws.{Closed, Readings, Given, given, Each, picked, wrong, readings-of, readings-small, closed-numbers, closed-of, closed-on, closed-results}
+use Rattle.values.specs.KeepableLaws.{Closed, Readings, Given, given, Each, wrong, readings-of, readings-small, closed-numbers, closed-of, closed-on, closed-results}
 
 -- the property of what a member comes to, or of the window that it runs over
 abbrev pub Settled : (Value → Type 0) → Applied → Type 0
@@ -77,7 +77,7 @@ module _ (P : Value → Type 0) (C : Closed P) (m : Member) (xs : List ℤ) (R :
   -- ---- the tests before the rule
 
   module _ (D : P Delayed) where
-    missing-given : (v w : Value) → Given P v → P w → P (pick (isMissing v) v w)
+    missing-given : (v w : Value) → Given P v → P w → P (cond (isMissing v) v w)
     missing-given (Missing r) w p q = p
     missing-given (Number z) w p q = q
     missing-given (Window s l) w p q = q
@@ -88,29 +88,27 @@ module _ (P : Value → Type 0) (C : Closed P) (m : Member) (xs : List ℤ) (R :
     unfolding apply0
     closed-apply0 v p =
         missing-given v _ p
-        (picked P C (isDelayed v) _ _ (λ h. D)
-        (λ h. picked P C (isKind v (row m .receiver)) _ _ (λ h. closed-rule0 v p) (λ h. wrong P C)))
+        (by-cond P (isDelayed v) _ _ (λ h. D)
+        (λ h. by-cond P (isKind v (row m .receiver)) _ _ (λ h. closed-rule0 v p) (λ h. wrong P C)))
 
     pub closed-apply1 : (run : ℤ → Value) → ((x : ℤ) → P (Number x) → Given P (run x)) → (v w : Value) → Given P v → Given P w → P (apply1 m xs v w run)
     unfolding apply1
     closed-apply1 run F v w p q =
         missing-given v _ p
         (missing-given w _ q
-        (picked P C (isDelayed v || isDelayed w) _ _ (λ h. D)
-        (λ h. picked P C (isKind v (row m .receiver) && isKind w (row m .argument)) _ _ (λ h. closed-rule1 run F v w p) (λ h. wrong P C))))
-
-    chosen : (b : Bool) (x y : Applied) → Settled P x → Settled P y → Settled P (choose b x y)
-    chosen true x y p q = p
-    chosen false x y p q = q
+        (by-cond P (isDelayed v || isDelayed w) _ _ (λ h. D)
+        (λ h. by-cond P (isKind v (row m .receiver) && isKind w (row m .argument)) _ _ (λ h. closed-rule1 run F v w p) (λ h. wrong P C))))
 
     pub closed-applied1 : (v w : Value) → P v → P w → Settled P (applied1 m xs v w)
     unfolding applied1
     closed-applied1 v w p q =
-        chosen (isMissing v) _ _ p
-        (chosen (isMissing w) _ _ q
-        (chosen (isDelayed v) _ _ D
-        (chosen (isDelayed w) _ _ D
-        (chosen (isKind v (row m .receiver)) _ _ (chosen (isKind w (row m .argument)) _ _ (settled-rule v w (given P v p)) (wrong P C)) (wrong P C)))))
+        by-cond (Settled P) (isMissing v) _ _ (λ h. p)
+        (λ h. by-cond (Settled P) (isMissing w) _ _ (λ h. q)
+        (λ h. by-cond (Settled P) (isDelayed v) _ _ (λ h. D)
+        (λ h. by-cond (Settled P) (isDelayed w) _ _ (λ h. D)
+        (λ h. by-cond (Settled P) (isKind v (row m .receiver)) _ _
+        (λ h. by-cond (Settled P) (isKind w (row m .argument)) _ _ (λ h. settled-rule v w (given P v p)) (λ h. wrong P C))
+        (λ h. wrong P C)))))
 
 -- ---- what may be kept
 

@@ -12,12 +12,13 @@ use lib.IntN.{ℤ, pos, negsuc}
 use lib.ListN.{length, drop, getD, length-take, length-drop}
 use lib.Seq.{getD-take, getD-drop}
 use lib.Signed.{mag, ltZ}
+use Rattle.language.specs.Cases.{by-cond}
 use Rattle.language.specs.Limits.{leastNumber, mostNumber}
 use Rattle.language.specs.declared.members.Member.{Member}
 use Rattle.language.specs.declared.members.Member.the-variants.{Add, Sub, Mul, Div, Gt, Eq, Skip, Take, Count, Sum, Min, Max, At, CountWhere, LongestRun, SumBy}
 use Rattle.values.specs.declared.Value.{Value}
 use Rattle.values.specs.declared.Value.the-variants.{Number, Window, Function, Delayed, Missing}
-use Rattle.values.specs.Values.{pick, ranged, flag, sameℤ}
+use Rattle.values.specs.Values.{ranged, flag, sameℤ}
 use Rattle.values.specs.Numbers.{quotient, divided}
 use Rattle.values.specs.Windows.{readingsIn, clipped, reading, unlessNegative, lesser, greater, foldFrom, extreme}
 use Rattle.values.specs.Runs.{Results, numbers, because, with, results, isNonzero, countOf, stretch, longest, summary}
@@ -75,10 +76,6 @@ longest-short [] = omega arith
 longest-short (z ∷ zs) = omega (arith, stretch-short (z ∷ zs), longest-short zs)
 
 module _ (P : Value → Type 0) (C : Closed P) where
-  pub picked : (b : Bool) (v w : Value) → (b ≡ true → P v) → (b ≡ false → P w) → P (pick b v w)
-  picked true v w p q = p refl
-  picked false v w p q = q refl
-
   pub wrong : P (Missing 2)
   wrong = C .reason 2 (omega arith) (omega arith)
 
@@ -97,8 +94,8 @@ module _ (P : Value → Type 0) (C : Closed P) where
   closed-ranged : (z : ℤ) → P (ranged z)
   unfolding ranged
   closed-ranged z =
-      picked (ltZ z leastNumber) _ _ (λ h. beyond)
-      (λ low. picked (ltZ mostNumber z) _ _ (λ h. beyond) (λ high. C .small z (in-range 2147483647 z low high)))
+      by-cond P (ltZ z leastNumber) _ _ (λ h. beyond)
+      (λ low. by-cond P (ltZ mostNumber z) _ _ (λ h. beyond) (λ high. C .small z (in-range 2147483647 z low high)))
 
   closed-flag : (b : Bool) → P (flag b)
   closed-flag true = C .small (pos 1) (omega arith)
@@ -131,7 +128,7 @@ module _ (P : Value → Type 0) (C : Closed P) where
   closed-unless (negsuc k) f p = outside
 
   closed-reading : (xs : List ℤ) → Readings P xs → (k : ℕ) → P (reading xs k)
-  closed-reading xs R k = picked (ltb k (length xs)) _ _ (λ h. R k (ltb-true k _ h)) (λ h. outside)
+  closed-reading xs R k = by-cond P (ltb k (length xs)) _ _ (λ h. R k (ltb-true k _ h)) (λ h. outside)
 
   -- ---- the members
 
@@ -147,7 +144,7 @@ module _ (P : Value → Type 0) (C : Closed P) where
   closed-rule Add = λ a b. closed-ranged _
   closed-rule Sub = λ a b. closed-ranged _
   closed-rule Mul = λ a b. closed-ranged _
-  closed-rule Div = λ a b. picked (sameℤ b (pos 0)) _ _ (λ h. C .reason 3 (omega arith) (omega arith)) (λ h. closed-ranged (quotient a b))
+  closed-rule Div = λ a b. by-cond P (sameℤ b (pos 0)) _ _ (λ h. C .reason 3 (omega arith) (omega arith)) (λ h. closed-ranged (quotient a b))
   closed-rule Gt = λ a b. closed-flag (ltZ b a)
   closed-rule Eq = λ a b. closed-flag (sameℤ a b)
   closed-rule Skip = λ xs s l n R W. closed-unless n _ (λ k. C .part s l (s + clipped k l) (l - clipped k l) (omega (arith, clipped-parts s k l)) W)

@@ -1,12 +1,12 @@
 -- A value as one cell of memory, and back: a tag times 2^33, and below that the number plus 2^31 plus 1, or the window's fields, or the
 -- reason. 0 is no value: not worked out. Numbers come before windows, functions, delays and reasons. Assumes nothing: these are definitions.
-use mathlib.Core.Bool.{Bool, _&&_, _||_}
+use mathlib.Core.Bool.{Bool, _&&_, _||_, cond}
 use Prim.Native.Nat.{ℕ, suc, _+_, _-_, _*_, _/_, _%_}
 use lib.Dec.{leb, ltb, eqb}
 use lib.IntN.{pos, natAbs, _+ℤ_, _-ℤ_}
 use Rattle.values.specs.declared.Value.{Value}
 use Rattle.values.specs.declared.Value.the-variants.{Number, Window, Function, Delayed, Missing}
-use Rattle.values.specs.Values.{pick, wrongKind}
+use Rattle.values.specs.Values.{wrongKind}
 
 -- the least cell of each kind
 abbrev pub windowCell : ℕ
@@ -35,10 +35,10 @@ packOf (Missing r) = missingCell + r
 -- of any cell
 unfoldable pub unpackOf : ℕ → Value
 unpackOf c =
-    pick (ltb c windowCell) (Number (pos ((c - 1) % 4294967296) -ℤ pos 2147483648))
-    (pick (ltb c functionCell) (Window (c % windowCell / 65536 % 65536) (c % 65536))
-    (pick (ltb c delayedCell) Function
-    (pick (ltb c missingCell) Delayed
+    cond (ltb c windowCell) (Number (pos ((c - 1) % 4294967296) -ℤ pos 2147483648))
+    (cond (ltb c functionCell) (Window (c % windowCell / 65536 % 65536) (c % 65536))
+    (cond (ltb c delayedCell) Function
+    (cond (ltb c missingCell) Delayed
     (Missing (c % 256)))))
 
 abbrev pub isFunctionCell : ℕ → Bool

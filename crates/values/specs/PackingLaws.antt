@@ -1,17 +1,17 @@
 -- Packing loses nothing, and isPacked holds of exactly the cells that are packed values which may be kept. Each kind has a range of cells of
 -- its own, so a cell's kind is told by comparisons, and its fields by division. Assumes nothing.
 use mathlib.Core.Path.{_≡_, refl, sym, ap, _∙_, subst}
-use mathlib.Core.Bool.{Bool, true, false, _&&_, _||_, and-false, or-false}
+use mathlib.Core.Bool.{Bool, true, false, _&&_, _||_, and-false, or-false, cond, and-eq-true-iff}
 use mathlib.Core.Logic.{_⊎_, inl, inr, ⊎-elim, _↔_}
 use Prim.Native.Nat.{ℕ, suc, _+_, _-_, _*_, _/_, _%_, _≤_, _<_}
 use native.Mathlib.Omega.{arith}
 use borrow.Author.Tests.{lt-ltb, le-ltb, le-leb, lt-leb, ne-eqb, leb-true, ltb-true, ltb-false, eqb-true}
-use lib.Dec.{T, leb, ltb, eqb}
+use lib.Dec.{leb, ltb, eqb}
 use lib.IntN.{ℤ, pos, natAbs, _+ℤ_, _-ℤ_, +ℤ-negℤ-cancel, -ℤ-+ℤ-cancel}
 use lib.Signed.{pos-natAbs}
+use Rattle.language.specs.Cases.{either}
 use Rattle.values.specs.declared.Value.{Value}
 use Rattle.values.specs.declared.Value.the-variants.{Number, Window, Function, Delayed, Missing}
-use Rattle.values.specs.Values.{pick}
 use Rattle.values.specs.Packing.{windowCell, functionCell, delayedCell, missingCell, packOf, unpackOf, inside, isPacked}
 use Rattle.values.specs.Ranges.{up-nonNeg, up-size, down-range}
 use Rattle.values.specs.Keepable.{Storable, Keepable}
@@ -30,7 +30,7 @@ unfolding unpackOf
 unpack-window c h k = simp (le-ltb c windowCell h, lt-ltb c functionCell k)
 
 module _ (c : ℕ) where
-  after-window : functionCell ≤ c → unpackOf c ≡ pick (ltb c delayedCell) Function (pick (ltb c missingCell) Delayed (Missing (c % 256)))
+  after-window : functionCell ≤ c → unpackOf c ≡ cond (ltb c delayedCell) Function (cond (ltb c missingCell) Delayed (Missing (c % 256)))
   unfolding unpackOf
   after-window h = simp (le-ltb c windowCell (omega arith), le-ltb c functionCell h)
 
@@ -83,7 +83,15 @@ module _ (c n : ℕ) where
   pub test-window : windowCell ≤ c → c < functionCell → (ltb c (windowCell + 4294967296) && inside (c - windowCell) n) ≡ isPacked c n
   unfolding isPacked
   test-window h k =
-      simp (lt-leb c 4294967296 (omega arith), le-leb windowCell c h, ne-eqb c functionCell (λ e. omega arith), ne-eqb c delayedCell (λ e. omega arith), lt-leb (suc missingCell) c (omega arith), and-false, or-false)
+      simp (
+        lt-leb c 4294967296 (omega arith),
+        le-leb windowCell c h,
+        ne-eqb c functionCell (λ e. omega arith),
+        ne-eqb c delayedCell (λ e. omega arith),
+        lt-leb (suc missingCell) c (omega arith),
+        and-false,
+        or-false,
+      )
 
   pub test-between : functionCell ≤ c → c < missingCell → (eqb c functionCell || eqb c delayedCell) ≡ isPacked c n
   unfolding isPacked
@@ -116,14 +124,6 @@ kept-passes n (Missing r) k =
 
 -- ---- a cell that passes is such a value, packed
 
-both : (a b : Bool) → (a && b) ≡ true → (a ≡ true) × (b ≡ true)
-both true b e = (refl, e)
-both false b e = absurd (subst T (sym e) tt)
-
-one : (a b : Bool) → (a || b) ≡ true → (a ≡ true) ⊎ (b ≡ true)
-one true b e = inl refl
-one false b e = inr e
-
 split : (a b : ℕ) → (a < b) ⊎ (b ≤ a)
 split a b = go (ltb a b) refl
   where
@@ -147,8 +147,8 @@ module _ (n c : ℕ) where
 
   packs-number : (leb 1 c && leb c 4294967296) ≡ true → Packs n c
   packs-number e =
-      let low : 1 ≤ c = leb-true 1 c (both (leb 1 c) (leb c 4294967296) e .0) in
-      let high : c ≤ 4294967296 = leb-true c 4294967296 (both (leb 1 c) (leb c 4294967296) e .1) in
+      let low : 1 ≤ c = leb-true 1 c (and-eq-true-iff (leb 1 c) (leb c 4294967296) .0 e .0) in
+      let high : c ≤ 4294967296 = leb-true c 4294967296 (and-eq-true-iff (leb 1 c) (leb c 4294967296) .0 e .1) in
       let back : suc ((c - 1) % 4294967296) ≡ c = omega arith in
       packs (Number (numberIn c)) (unpack-number c (omega arith))
       (record { held = down-range 2147483648 ((c - 1) % 4294967296) (omega arith); inside = tt; reasoned = tt })
@@ -156,7 +156,7 @@ module _ (n c : ℕ) where
 
   packs-window : windowCell ≤ c → (ltb c (windowCell + 4294967296) && inside (c - windowCell) n) ≡ true → Packs n c
   packs-window low e =
-      let t = both (ltb c (windowCell + 4294967296)) (inside (c - windowCell) n) e in
+      let t = and-eq-true-iff (ltb c (windowCell + 4294967296)) (inside (c - windowCell) n) .0 e in
       let high : c < windowCell + 4294967296 = ltb-true c (windowCell + 4294967296) (t .0) in
       let i : (c - windowCell) / 65536 + (c - windowCell) % 65536 ≤ n = leb-true _ n (t .1) in
       packs (Window (c % windowCell / 65536 % 65536) (c % 65536)) (unpack-window c low (omega arith))
@@ -164,14 +164,14 @@ module _ (n c : ℕ) where
 
   packs-between : (eqb c functionCell || eqb c delayedCell) ≡ true → Packs n c
   packs-between e =
-      ⊎-elim (λ t. let q = eqb-true c functionCell t in packs Function (ap unpackOf q ∙ round Function tt) (record { held = tt; inside = tt; reasoned = tt }) (sym q))
+      either (eqb c functionCell) (eqb c delayedCell) e
+      (λ t. let q = eqb-true c functionCell t in packs Function (ap unpackOf q ∙ round Function tt) (record { held = tt; inside = tt; reasoned = tt }) (sym q))
       (λ t. let q = eqb-true c delayedCell t in packs Delayed (ap unpackOf q ∙ round Delayed tt) (record { held = tt; inside = tt; reasoned = tt }) (sym q))
-      (one (eqb c functionCell) (eqb c delayedCell) e)
 
   packs-missing : (leb (suc missingCell) c && leb c (missingCell + 5)) ≡ true → Packs n c
   packs-missing e =
-      let low : suc missingCell ≤ c = leb-true (suc missingCell) c (both (leb (suc missingCell) c) (leb c (missingCell + 5)) e .0) in
-      let high : c ≤ missingCell + 5 = leb-true c (missingCell + 5) (both (leb (suc missingCell) c) (leb c (missingCell + 5)) e .1) in
+      let low : suc missingCell ≤ c = leb-true (suc missingCell) c (and-eq-true-iff (leb (suc missingCell) c) (leb c (missingCell + 5)) .0 e .0) in
+      let high : c ≤ missingCell + 5 = leb-true c (missingCell + 5) (and-eq-true-iff (leb (suc missingCell) c) (leb c (missingCell + 5)) .0 e .1) in
       packs (Missing (c % 256)) (unpack-missing c (omega arith))
       (record { held = omega arith; inside = tt; reasoned = (omega arith, omega arith) }) (omega arith)
 

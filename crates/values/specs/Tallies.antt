@@ -1,7 +1,7 @@
 -- The runs of a function, result by result: what is kept of the results so far, from which any of the members that run a function is
 -- concluded. Nothing changes any more once a result was no number. Assumes nothing: these are definitions.
 use mathlib.Core.Path.{_≡_}
-use mathlib.Core.Bool.{Bool, true, false, cond}
+use mathlib.Core.Bool.{true, false, cond}
 use mathlib.Core.List.{List, [], _∷_}
 use Prim.Native.Nat.{ℕ, _+_, _*_, max, _≤_}
 use lib.IntN.{ℤ, pos, natAbs, _+ℤ_}
@@ -9,7 +9,7 @@ use Rattle.language.specs.declared.members.Member.{Member}
 use Rattle.values.specs.declared.Value.{Value}
 use Rattle.values.specs.declared.Value.the-variants.{Number, Window, Function, Delayed, Missing}
 use Rattle.values.specs.declared.runs.Tally.{Tally}
-use Rattle.values.specs.Values.{pick, wrongKind}
+use Rattle.values.specs.Values.{wrongKind}
 use Rattle.values.specs.Runs.{isNonzero, Summary}
 use Rattle.values.specs.Rules.{rule, byRuns}
 
@@ -40,13 +40,9 @@ entered t Function = halted wrongKind
 entered t Delayed = halted wrongKind
 entered t (Missing r) = halted r
 
-abbrev pub choose : Bool → Tally → Tally → Tally
-choose true t u = t
-choose false t u = u
-
 -- one more result
 unfoldable pub stepped : Tally → Value → Tally
-stepped t v = choose (t .stopped) t (entered t v)
+stepped t v = cond (t .stopped) t (entered t v)
 
 unfoldable pub gathered : Tally → List Value → Tally
 gathered t [] = t
@@ -57,7 +53,7 @@ abbrev pub summed : Tally → Summary
 summed t = record { count = t .count; longest = t .longest; total = t .total }
 
 unfoldable pub finished : Member → Tally → Value
-finished m t = pick (t .stopped) (Missing (t .reason)) (byRuns (rule m) (summed t))
+finished m t = cond (t .stopped) (Missing (t .reason)) (byRuns (rule m) (summed t))
 
 -- what k results of signed 32 bits can come to
 pub record Within (k : ℕ) (t : Tally) : Type 0 where

@@ -11,18 +11,18 @@ use Rattle.language.specs.declared.members.Member.{Member}
 use Rattle.values.specs.declared.Value.{Value}
 use Rattle.values.specs.declared.Value.the-variants.{Number, Window, Function, Delayed, Missing}
 use Rattle.values.specs.declared.runs.Tally.{Tally}
-use Rattle.values.specs.Values.{pick, wrongKind}
+use Rattle.values.specs.Values.{wrongKind}
 use Rattle.values.specs.Windows.{total}
 use Rattle.values.specs.Runs.{Results, numbers, because, with, results, isNonzero, countOf, stretch, longest, summary}
 use Rattle.values.specs.Rules.{rule, byRuns, concluded, ofRuns}
 use Rattle.values.specs.Ranges.{total-range}
-use Rattle.values.specs.Tallies.{begun, noted, halted, entered, choose, stepped, gathered, summed, finished, Within}
+use Rattle.values.specs.Tallies.{begun, noted, halted, entered, stepped, gathered, summed, finished, Within}
 
 -- ---- a tally that has stopped stays, so the rest of the results need not be worked out
 
 pub stopped-steps : (t : Tally) (v : Value) → t .stopped ≡ true → stepped t v ≡ t
 unfolding stepped
-stopped-steps t v h = ap (λ (b : Bool). choose b t (entered t v)) h
+stopped-steps t v h = ap (λ (b : Bool). cond b t (entered t v)) h
 
 pub stopped-stays : (t : Tally) (vs : List Value) → t .stopped ≡ true → gathered t vs ≡ t
 unfolding gathered
@@ -31,7 +31,7 @@ stopped-stays t (v ∷ vs) h = ap (λ (u : Tally). gathered u vs) (stopped-steps
 
 pub going-steps : (t : Tally) (v : Value) → t .stopped ≡ false → stepped t v ≡ entered t v
 unfolding stepped
-going-steps t v h = ap (λ (b : Bool). choose b t (entered t v)) h
+going-steps t v h = ap (λ (b : Bool). cond b t (entered t v)) h
 
 -- ---- the numbers alone
 
@@ -107,7 +107,7 @@ summed-is zs =
 finished-after : (m : Member) (rs : Results) → finished m (after begun rs) ≡ concluded m rs
 unfolding finished after
 finished-after m (numbers zs) =
-    ap (λ (b : Bool). pick b (Missing (notedAll begun zs .reason)) (byRuns (rule m) (summed (notedAll begun zs)))) (going begun zs refl)
+    ap (λ (b : Bool). cond b (Missing (notedAll begun zs .reason)) (byRuns (rule m) (summed (notedAll begun zs)))) (going begun zs refl)
     ∙ ap (byRuns (rule m)) (summed-is zs)
 finished-after m (because r) = refl
 
@@ -159,6 +159,6 @@ pub within-stepped : (k : ℕ) (t : Tally) (v : Value) → Small v → Within k 
 unfolding stepped
 within-stepped k t v h w = either (t .stopped)
   where
-    either : (b : Bool) → Within (k + 1) (choose b t (entered t v))
+    either : (b : Bool) → Within (k + 1) (cond b t (entered t v))
     either true = within-more k (k + 1) t (omega arith) w
     either false = within-entered k t v h w

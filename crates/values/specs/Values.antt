@@ -1,5 +1,5 @@
 -- 01, "Members": what an entry comes to, and the reasons why nothing is shown. Assumes nothing: these are definitions.
-use mathlib.Core.Bool.{Bool, true, false}
+use mathlib.Core.Bool.{Bool, true, false, cond}
 use Prim.Native.Nat.{ℕ}
 use lib.Dec.{eqb}
 use lib.IntN.{ℤ, pos, negsuc}
@@ -26,10 +26,6 @@ beyondNumber = 4
 abbrev pub outsideWindow : ℕ
 outsideWindow = 5
 
-abbrev pub pick : Bool → Value → Value → Value
-pick true v w = v
-pick false v w = w
-
 -- the kind that a member can take; what is delayed or missing has none
 abbrev pub kindOf : Value → Kind
 kindOf (Number z) = Kinds.Number
@@ -40,7 +36,7 @@ kindOf (Missing r) = Kinds.Nothing
 
 -- a whole number as a value: reason 4 beyond signed 32 bits
 unfoldable pub ranged : ℤ → Value
-ranged z = pick (ltZ z leastNumber) (Missing beyondNumber) (pick (ltZ mostNumber z) (Missing beyondNumber) (Number z))
+ranged z = cond (ltZ z leastNumber) (Missing beyondNumber) (cond (ltZ mostNumber z) (Missing beyondNumber) (Number z))
 
 abbrev pub flag : Bool → Value
 flag true = Number (pos 1)

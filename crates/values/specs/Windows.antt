@@ -9,7 +9,7 @@ use lib.ListN.{length, take, drop, getD}
 use lib.Signed.{ltZ}
 use Rattle.values.specs.declared.Value.{Value}
 use Rattle.values.specs.declared.Value.the-variants.{Number, Window, Missing}
-use Rattle.values.specs.Values.{pick, outsideWindow}
+use Rattle.values.specs.Values.{outsideWindow}
 
 -- the readings of a window
 abbrev pub readingsIn : List ℤ → ℕ → ℕ → List ℤ
@@ -27,7 +27,7 @@ abbrev pub taken : ℕ → ℕ → ℕ → Value
 taken s l n = Window s (clipped n l)
 
 abbrev pub reading : List ℤ → ℕ → Value
-reading xs n = pick (ltb n (length xs)) (Number (getD xs n (pos 0))) (Missing outsideWindow)
+reading xs n = cond (ltb n (length xs)) (Number (getD xs n (pos 0))) (Missing outsideWindow)
 
 -- a count or an index that may be negative
 abbrev pub unlessNegative : ℤ → (ℕ → Value) → Value
