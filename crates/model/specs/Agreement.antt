@@ -16,11 +16,12 @@ use Rattle.model.specs.Laws.{Laws}
 use Rattle.model.specs.Invariant.{Invariant}
 use Rattle.model.specs.Steps.{accepts-open, declines-open, short-next}
 use Rattle.model.specs.Preserved.{invariant-start, invariant-next}
-use Rattle.model.specs.Engine.{Engine, Lent, whole, part, says, fills, leaves, Sent, isWhole, told, lendTo, takeBack, machine, Agrees, Implements}
+use Rattle.model.specs.Engine.{Engine, says, fills, leaves, Sent, told, machine}
+use Rattle.model.specs.Implements.{Agrees, Implements}
 
 module _ (L : Language) (H : Laws L) (E : Engine L) (I : Implements L H E) where
   open Language L using (Form, Reading, Sound)
-  open Engine E using (Memory, Cut)
+  open Engine E using (Memory)
 
   -- an open is accepted only over memory of the cache's size, and with no more readings than allowed
   pub accepted : (m : Memory) (r : List Reading) → E .openAnswer m r ≡ opened → (E .fits m ≡ true) × (length r ≤ readingsMost)
@@ -36,7 +37,7 @@ module _ (L : Language) (H : Laws L) (E : Engine L) (I : Implements L H E) where
 
   -- Memory that is a cache, opened and kept.
   pub record Cache (m : Memory) : Type 0 where
-    pub ok : E .Ok m
+    pub ok : I .Ok m
     pub invariant : Invariant L H (E .holds m)
 
   pub opens : (m : Memory) (r : List Reading) → E .fits m ≡ true → length r ≤ readingsMost → Sound r
@@ -49,42 +50,61 @@ module _ (L : Language) (H : Laws L) (E : Engine L) (I : Implements L H E) where
     pub holds : E .holds (machine E .next m c) ≡ next L (E .holds m) (told E c)
     pub cache : Cache (machine E .next m c)
 
+  -- over a cache
+  agree-on : (m : Memory) (q : Request L) → SoundRequest L q → Cache m
+      → Agrees E (I .Ok) (respond L (E .holds m) (record { enough = true; request = q })) (says E m q) (leaves E m q)
+  agree-on m (Open r) sound k =
+      let f = I .kept-fits m (k .ok) in
+      split (ltb readingsMost (length r))
+      (λ p.
+      let l = ltb-true _ _ p in
+      let z = I .long m r f l in
+      let z₁ = z .1 in
+      rw (declines-open L (E .holds m) true r l) (record { answer = z .0; ok = rw z₁ (k .ok); holds = rw z₁ }))
+      (λ p. let l = ltb-false _ _ p in rw (accepts-open L (E .holds m) r l) (I .opening m r f l sound))
+  agree-on m (Edit ps t) sound k = unfold onRequest in I .edit m ps t (k .ok) (k .invariant)
+  agree-on m (Preview n a) sound k = unfold onRequest in I .preview m n a (k .ok) (k .invariant)
+
+  -- over what is lent of a cache
+  abbrev AgreesLent : Memory → Memory → Request L → Type 0
+  AgreesLent n m q =
+      Agrees E (I .Ok) (respond L (E .holds m) (record { enough = E .fits n; request = q })) (says E (E .lend n m) q)
+      (E .back m (leaves E (E .lend n m) q))
+
+  agree-lent : (n m : Memory) (q : Request L) → SoundRequest L q → Cache m → AgreesLent n m q
+  agree-lent n m q sound k = split (E .fits n) enough short
+    where
+      enough : E .fits n ≡ true → AgreesLent n m q
+      enough f =
+          let given = I .lent n m f (k .ok) (k .invariant) in
+          let h = given .holds in
+          let one = agree-on (E .lend n m) q sound (record { ok = given .ok; invariant = rw h (k .invariant) }) in
+          let o = one .holds in
+          let i = invariant-next L H (E .holds (E .lend n m)) (record { enough = true; request = q }) sound (rw h (k .invariant)) in
+          let r = I .returned m (leaves E (E .lend n m) q) (k .ok) (one .ok) (rw o i) in
+          rw f (record { answer = rw h at (one .answer); ok = r .ok; holds = r .holds ∙ rw h at o })
+
+      short : E .fits n ≡ false → AgreesLent n m q
+      short f =
+          let g = I .short n m f in
+          let e = I .short-memory (E .lend n m) q g in
+          let z = I .restored n m (I .kept-fits m (k .ok)) in
+          rw f
+          (record {
+            answer = I .short-answer (E .lend n m) q (E .holds m) g;
+            ok = rw (e, z) (k .ok);
+            holds = rw (e, z) (sym (short-next L (E .holds m) q));
+          })
+
   pub agree : (m : Memory) (c : Sent E) → SoundRequest L (c .request) → Cache m → Agreed m c
   agree m c sound k =
-      let x = go (c .lent) (c .request) sound in
+      let x = agree-lent (c .lent) m (c .request) sound k in
       let h = x .holds in
       record {
         answer = x .answer;
         holds = h;
         cache = record { ok = x .ok; invariant = rw h (invariant-next L H (E .holds m) (told E c) sound (k .invariant)) };
       }
-    where
-      on-open : (r : List Reading) → Sound r
-          → Agrees E (respond L (E .holds m) (record { enough = true; request = Open r })) (E .openAnswer m r) (E .openMemory m r)
-      on-open r snd =
-          let f = I .kept-fits m (k .ok) in
-          split (ltb readingsMost (length r))
-          (λ p.
-          let l = ltb-true _ _ p in
-          let z = I .long m r f l in
-          let z₁ = z .1 in
-          rw (declines-open L (E .holds m) true r l) (record { answer = z .0; ok = rw z₁ (k .ok); holds = rw z₁ }))
-          (λ p. let l = ltb-false _ _ p in rw (accepts-open L (E .holds m) r l) (I .opening m r f l snd))
-
-      go : (l : Lent Cut) (q : Request L) → SoundRequest L q
-          → Agrees E (respond L (E .holds m) (record { enough = isWhole E l; request = q }))
-          (says E (lendTo E l m) q) (takeBack E l m (leaves E (lendTo E l m) q))
-      go whole (Open r) sq = on-open r sq
-      go whole (Edit ps t) sq = unfold onRequest in I .edit m ps t (k .ok) (k .invariant)
-      go whole (Preview n a) sq = unfold onRequest in I .preview m n a (k .ok) (k .invariant)
-      go (part d) q sq =
-          let e = I .short-memory (E .lend d m) q (I .short d m) in
-          let z = I .restored d m in
-          record {
-            answer = I .short-answer (E .lend d m) q (E .holds m) (I .short d m);
-            ok = rw (e, z) (k .ok);
-            holds = rw (e, z) (sym (short-next L (E .holds m) q));
-          }
 
   filled : (m : Memory) (q : Request L) → fills E m q ≡ placesAfter L q (says E m q)
   filled m (Open r) = refl
@@ -105,7 +125,7 @@ module _ (L : Language) (H : Laws L) (E : Engine L) (I : Implements L H E) where
       let one = agree m c (sent .0) k in
       let h = one .holds in
       let s = one .answer in
-      let f = filled (lendTo E (c .lent) m) (c .request) in
+      let f = filled (E .lend (c .lent) m) (c .request) in
       let more = carry (machine E .next m c) cs (sent .1) (one .cache) in
       record {
         answers = rw s (ap (λ (l : List (Answer L)). answer L (E .holds m) (told E c) ∷ l) (rw h at (more .answers)));

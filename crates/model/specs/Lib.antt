@@ -20,8 +20,10 @@ pub mod Progress
 pub mod Fresh
 -- Demand 3 of every engine that implements the model.
 pub mod Engine
-pub mod Agreement
 pub mod Demand
+pub mod Implements
+pub mod Agreement
+pub mod DemandLaws
 -- From tables of entries to the model: for the engine's own proof that it implements it.
 pub mod Graph
 pub mod Binder

@@ -1,10 +1,13 @@
-pub mod Lending
-pub mod Implementing
 pub mod Declined
 pub mod Outside
 pub mod Accepting
+pub mod Lending
+pub mod LendingLaws
+pub mod Implementing
 pub mod Finishing
 pub mod Showing
 pub mod Fetching
 pub mod Awaiting
+pub mod Boundary
+pub mod BoundaryLaws
 pub mod Promises

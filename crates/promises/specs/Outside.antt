@@ -106,7 +106,7 @@ edited-outside m b h few =
     let d = length-drop (entryCount m) (b .nodes) in
     rw p (appended-outside m (drop (entryCount m) (b .nodes)) h (omega arith)))
 
-few-entries : (m : Memory) → wellFormed m ≡ true → entryCount m ≤ tableEntries
+pub few-entries : (m : Memory) → wellFormed m ≡ true → entryCount m ≤ tableEntries
 unfolding wellFormed
 few-entries m w = leb-true _ _ (and-eq-true-iff _ _ .0 w .0)
 

@@ -7,8 +7,9 @@
 --   2. A text is read exactly if a tree of the grammar spells its tokens and keeps the limits, and is refused exactly where 01 says; an edit is
 --      declined for its text exactly if that is too long or is not read. What a finished preview of a part shows is what evaluation gives for
 --      its let-free form, and what is delayed shows the names of Figure 5 (Awaiting).
---   3. Over every list of calls after an opening the engine answers as the reference model does, and ends holding what it holds (model's Demand).
-use mathlib.Core.Path.{_≡_, ap}
+--   3. Over every list of calls after an opening the engine answers as the reference model does, and ends holding what it holds (model's
+--      Demand), and so over every run of a program in C (Boundary).
+use mathlib.Core.Path.{_≡_, sym, ap}
 use mathlib.Core.Bool.{true, false, _&&_}
 use mathlib.Core.Logic.{_↔_, _⊎_}
 use mathlib.Core.List.{List, [], map}
@@ -24,8 +25,9 @@ use Rattle.grammar.specs.Theorems.{text-read-plainly, text-refused}
 use Rattle.model.specs.Lists.{All}
 use Rattle.model.specs.Model.{refused, opened}
 use Rattle.model.specs.Since.{Sendable}
-use Rattle.model.specs.Engine.{Sent, told, lendTo}
-use Rattle.model.specs.Demand.{Demand, demand}
+use Rattle.model.specs.Engine.{Sent, told}
+use Rattle.model.specs.Demand.{Demand}
+use Rattle.model.specs.DemandLaws.{demand}
 use Rattle.formulas.specs.Formulas.{IsReading, formulas}
 use Rattle.values.specs.declared.Value.the-variants.{Number, Function}
 use Rattle.meaning.specs.Forms.{Form, function}
@@ -52,8 +54,11 @@ use Rattle.interface.specs.Effects.{Opens, Edits, Previews, OpensForC, EditsFor
 use Rattle.interface.specs.Acceptance.{OpenRefusal, EditRefusal, PreviewRefusal, IsEdited, CanEdit, InLanguage, TextDeclined}
 use Rattle.interface.specs.AcceptanceLaws as Acceptance
 use Rattle.demand.specs.WorkedCount.{workedOut}
-use Rattle.promises.specs.Implementing as Implementing
+use Rattle.promises.specs.Lending.{lend, FirstOf, back}
+use Rattle.promises.specs.LendingLaws as Lending
 use Rattle.promises.specs.Implementing.{engine, implements}
+use Rattle.promises.specs.Boundary.{ForC, Run, DemandForC}
+use Rattle.promises.specs.BoundaryLaws as Boundary
 use Rattle.promises.specs.Awaiting as Awaiting
 use Rattle.promises.specs.Awaiting.{AwaitedNames}
 use Rattle.promises.specs.Declined as Declined
@@ -221,11 +226,39 @@ fetch-windowless = Fetching.fetch-windowless
 pub fetch-none : (m : Memory) (n : ℕ) → (fits m && (wellFormed m && doneAt (entriesOf m) n)) ≡ false → partOf m n ≡ record { start = 0; length = 0 }
 fetch-none = Fetching.fetch-none
 
--- 3. The model is told whether the memory that a call is lent has the cache's size.
-pub told-enough : (m : Memory) (c : Sent engine) → fits m ≡ true → told engine c .enough ≡ fits (lendTo engine (c .lent) m)
-told-enough = Implementing.told-enough
+-- 3. Each call is lent any memory whose cells, as far as the cache's sizes go, are the cache's: longer or shorter than the last time.
+pub lent-any : (m n : Memory) → FirstOf m n → lend n m ≡ n
+lent-any = Lending.any-lent
+
+-- What comes back as it was lent leaves the cache as it was.
+pub lent-back : (n m : Memory) → fits m ≡ true → back m (lend n m) ≡ m
+lent-back = Lending.restored
+
+-- A call that is lent the very memory of the cache leaves the cache as its contract says.
+pub lent-itself : (m : Memory) → lend m m ≡ m
+lent-itself = Lending.itself
+
+pub open-back : (m : Memory) (r : List ℤ) → fits m ≡ true → back m (openMemory m r) ≡ openMemory m r
+open-back = Lending.open-back
+
+pub edit-back : (m : Memory) (places text : List ℕ) → fits m ≡ true → back m (editMemory m places text) ≡ editMemory m places text
+edit-back = Lending.edit-back
+
+pub preview-back : (m : Memory) (n a : ℕ) → fits m ≡ true → back m (previewMemory m n a) ≡ previewMemory m n a
+preview-back = Lending.preview-back
+
+-- The model is told whether the memory that a call is lent has the cache's size.
+pub told-enough : (m : Memory) (c : Sent engine) → fits m ≡ true → told engine c .enough ≡ fits (lend (c .lent) m)
+told-enough m c f = sym (Lending.lent-fits (c .lent) m f)
 
 -- Memory of any contents is opened, and then any calls are sent. The readings of a recording are within signed 32 bits.
-pub demand-three : (m : Memory) (r : List ℤ) (cs : List (Sent engine)) → openAnswer m r ≡ opened → All IsReading r → Sendable formulas (map (told engine) cs)
-    → Demand formulas formula-laws engine m r cs
+pub demand-three : (m : Memory) (r : List ℤ) (cs : List (Sent engine)) → openAnswer m r ≡ opened → All IsReading r
+    → Sendable formulas (map (told engine) cs) → Demand formulas engine m r cs
 demand-three = demand formulas formula-laws engine implements
+
+-- The same of the exported functions: a program in C opens memory m of any contents, gets 0, and then makes any run of calls, whose steps are
+-- the functions' contracts. What the calls give is, call by call, what the model answers, as the C structs; and the cache holds what the model
+-- holds. That all readings are within signed 32 bits is the range of the C type of a recording.
+pub demand-three-for-c : (m : Memory) (r : List ℤ) (m₁ : Memory) → OpensForC m r m₁ 0 → All IsReading r
+    → (cs : List (Sent engine)) (xs : List ForC) (n : Memory) → Sendable formulas (map (told engine) cs) → Run m₁ cs xs n → DemandForC m r cs xs n
+demand-three-for-c = Boundary.run-demand
