@@ -3,14 +3,14 @@
 use language::limits::Table;
 use language::limits::Text;
 use layout::cells::at64;
+use layout::nodes::Shape;
+use layout::nodes::TEXT_WORDS;
+use layout::nodes::add_fresh;
 use table::chain::CHAIN_CELLS;
 use table::chain::enter;
 use table::chain::enter_all;
 use table::chain::hash;
 use table::chain::seek;
-use layout::nodes::Shape;
-use layout::nodes::TEXT_WORDS;
-use layout::nodes::add_fresh;
 ghost use mathlib.Core.Path.{_≡_};
 ghost use mathlib.Core.Bool.{true};
 ghost use Prim.Native.Nat.{ℕ, _≤_, _<_};

@@ -1,6 +1,6 @@
 // Open: the recording and the counts are written, and nothing else.
-use interface::answers::Opened;
 use crate::lent::fits;
+use interface::answers::Opened;
 use language::limits::Table;
 ghost use mathlib.Core.Path.{_≡_};
 ghost use mathlib.Core.List.{_++_};

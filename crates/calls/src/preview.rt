@@ -1,9 +1,9 @@
 // Preview: the work on an entry, up to the allowance, and what the entry shows once none is left.
-use interface::answers::Previewed;
 use crate::lent::refusal;
+use interface::answers::Previewed;
+use layout::cells::at32;
 use scheduler::works::show;
 use scheduler::works::work;
-use layout::cells::at32;
 ghost use Rattle.table.specs.Checked.{memory};
 ghost use Rattle.interface.specs.Effects.{Previews};
 

@@ -1,12 +1,12 @@
 // The calls for programs in C: the same calls under names of their own, with the answers as plain numbers.
+use calls::edit::edit;
+use calls::open::open;
+use calls::preview::preview;
 use interface::answers::EditAnswer;
 use interface::answers::Edited;
 use interface::answers::Opened;
 use interface::answers::PreviewAnswer;
 use interface::answers::Previewed;
-use calls::edit::edit;
-use calls::open::open;
-use calls::preview::preview;
 use scheduler::works::View;
 ghost use mathlib.Core.Path.{_≡_};
 ghost use Rattle.table.specs.Checked.{memory};

@@ -1,9 +1,9 @@
 // The parts of the engine that benchmarks measure by themselves, exported under plain names. The watch links none of this.
-use scheduler::works;
-use reader::answer::Read;
-use reader::parser;
 use binder::bind;
 use layout::cells::at16;
+use reader::answer::Read;
+use reader::parser;
+use scheduler::works;
 use table::chain;
 use table::check;
 use values::packing::pack;

@@ -2,9 +2,9 @@
 use binder::bind::bind;
 use binder::bind::is_full;
 use language::limits::Text;
+use layout::nodes::TEXT_WORDS;
 use reader::answer::Read;
 use reader::parser::read;
-use layout::nodes::TEXT_WORDS;
 ghost use mathlib.Core.Path.{_≡_};
 ghost use mathlib.Core.Bool.{true};
 ghost use mathlib.Core.List.{List};

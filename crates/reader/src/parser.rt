@@ -8,13 +8,13 @@
 // Each function is the reader of its name in descent's Descent, run with any fuel that is enough. Of an atom and of a call, though, they read up
 // to its end, where descent's readers go on with the calls: those are the one loop in calls, so that an open mark takes one frame of the stack.
 use crate::answer::Read;
+use layout::nodes::Shape;
 use lexer::tokens;
 use lexer::tokens::Lexed;
 use steps::cursor;
 use steps::cursor::Cursor;
 use steps::scratch;
 use steps::scratch::Call;
-use layout::nodes::Shape;
 ghost use mathlib.Core.Path.{_≡_};
 ghost use Prim.Native.Nat.{_-_, _≤_};
 ghost use Rattle.descent.specs.Cursor.{isAt, letKind, lambdaKind, dotKind, openKind};

@@ -2,8 +2,8 @@
 use interface::answers::Edited;
 use interface::answers::Opened;
 use interface::answers::Previewed;
-use scheduler::works::View;
 use libc::STDOUT_FILENO;
+use scheduler::works::View;
 
 // The entry of a text that is declined: a number that no entry has.
 pub const NO_ENTRY: u32 = 4294967295;

@@ -3,9 +3,9 @@
 use language::limits::Text;
 use language::members;
 use language::members::Found;
+use layout::nodes::Shape;
 use lexer::tokens;
 use lexer::tokens::Lexed;
-use layout::nodes::Shape;
 ghost use mathlib.Core.Path.{_≡_};
 ghost use mathlib.Core.Bool.{cond, _&&_};
 ghost use Prim.Native.Nat.{suc, _≤_, _<_};

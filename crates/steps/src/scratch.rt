@@ -2,9 +2,9 @@
 // Each function is the function of its name in descent's Descent.
 use crate::cursor;
 use crate::cursor::Cursor;
+use layout::nodes::Shape;
 use lexer::tokens;
 use lexer::tokens::Literal;
-use layout::nodes::Shape;
 ghost use mathlib.Core.Path.{_≡_};
 ghost use Prim.Native.Nat.{_+_, _*_, _≤_, _<_};
 ghost use lib.ListN.{length, set};

@@ -1,11 +1,11 @@
 // A chain for each hash, in the call's own frame: the first 512 cells hold one more than the latest entry of the hash, or 0; then a cell
 // for each entry holds the same of the entries before it.
+use language::limits::Table;
+use language::limits::Text;
 use layout::nodes::Shape;
 use layout::nodes::TEXT_WORDS;
 use layout::nodes::held_at;
 use layout::nodes::same;
-use language::limits::Table;
-use language::limits::Text;
 ghost use mathlib.Core.Path.{_≡_};
 ghost use mathlib.Core.Bool.{true};
 ghost use Prim.Native.Nat.{_+_, _<_, _≤_};

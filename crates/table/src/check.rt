@@ -1,19 +1,19 @@
 // 01, refusal 4: whether a cache is well-formed. One pass for each concern, each linear in the number of entries.
+use crate::chain::distinct_nodes;
+use crate::entries::arity;
+use crate::entries::is_name;
+use crate::entries::nodes_right;
+use crate::waits::are_few;
+use crate::waits::fill_waits;
+use language::limits::Table;
 use layout::cells::at32;
 use layout::cells::kind_of;
 use layout::cells::name_of;
 use layout::cells::other_of;
 use layout::cells::value_of;
-use crate::chain::distinct_nodes;
-use crate::entries::arity;
-use crate::entries::is_name;
-use crate::entries::nodes_right;
 use layout::nodes::Shape;
 use layout::nodes::entry_of;
 use layout::nodes::node_at;
-use crate::waits::are_few;
-use crate::waits::fill_waits;
-use language::limits::Table;
 use values::packing::Packed;
 use values::packing::is_packed;
 ghost use mathlib.Core.Path.{_≡_};

@@ -1,14 +1,14 @@
 // One entry: whether its kind, its key and its dependencies are right (01, refusal 4).
-use layout::cells::first_of;
-use layout::cells::key_of;
-use layout::cells::kind_of;
-use layout::cells::second_of;
-use layout::nodes::Shape;
 use language::members::Found;
 use language::members::arguments;
 use language::members::member_at;
 use language::names::in_word;
 use language::names::is_letter;
+use layout::cells::first_of;
+use layout::cells::key_of;
+use layout::cells::kind_of;
+use layout::cells::second_of;
+use layout::nodes::Shape;
 ghost use mathlib.Core.Path.{_≡_};
 ghost use Prim.Native.Nat.{_%_};
 ghost use Rattle.layout.specs.Nodes.{memberOfKind, memberArity, arity, wordNumber, isName};

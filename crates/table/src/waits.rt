@@ -1,11 +1,11 @@
 // The variables that entries await, by a rising pass over the table.
+use language::limits::Table;
 use layout::cells::first_of;
 use layout::cells::is_below;
 use layout::cells::key_of;
 use layout::cells::kind_of;
 use layout::cells::second_of;
 use layout::nodes::Shape;
-use language::limits::Table;
 ghost use mathlib.Core.Path.{_≡_};
 ghost use Prim.Native.Nat.{_<_, _≤_};
 ghost use Rattle.language.specs.Limits.{tableEntries};
@@ -114,10 +114,7 @@ fn is_few(links: &[u16], waits: &[u32; Table::ENTRIES], i: usize) -> bool
     requires { ⌜ i < tableEntries ⌝ }
     ensures { λ r. ⌜ r ≡ fewAt (now (links .entry)) (now (waits .entry)) i ⌝ }
 {
-    covers(
-        waits[i],
-        waits_of(waits, second_of(links, i) as usize, i),
-    )
+    covers(waits[i], waits_of(waits, second_of(links, i) as usize, i))
 }
 
 // Whether none of the first n entries awaits more than two.
