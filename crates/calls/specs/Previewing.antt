@@ -16,8 +16,8 @@ use Rattle.table.specs.WellFormed.{namesRight, keptRight, wellFormed}
 use Rattle.table.specs.Checked.{memory, entriesRight}
 use Rattle.table.specs.CheckedLaws.{well-is}
 use Rattle.binder.specs.WrittenLaws.{whole-is}
-use Rattle.values.specs.declared.Value.{Value}
-use Rattle.values.specs.declared.Value.the-variants.{Number, Window, Function, Delayed, Missing}
+use Rattle.rules.specs.declared.Value.{Value}
+use Rattle.rules.specs.declared.Value.the-variants.{Number, Window, Function, Delayed, Missing}
 use Rattle.values.specs.Packing.{windowCell, delayedCell, missingCell, unpackOf, isPacked}
 use Rattle.values.specs.PackingLaws.{unpack-number, unpack-window, unpack-delayed, unpack-missing, passes-packs}
 use Rattle.values.specs.Keepable.{Inside}

@@ -2,7 +2,7 @@
 use crate::lent::refusal;
 use evaluator::frames::start_at;
 use layout::cells::at32;
-use values::Value;
+use rules::Value;
 use values::packing::unpack;
 ghost use mathlib.Core.Path.{_≡_};
 ghost use Rattle.table.specs.Checked.{memory};

@@ -13,10 +13,10 @@ use lib.Signed.{mag}
 use Rattle.language.specs.Cases.{impossible, split, by-cond}
 use Rattle.language.specs.Members.{row}
 use Rattle.language.specs.declared.members.Member.{Member}
-use Rattle.values.specs.declared.Value.{Value}
-use Rattle.values.specs.declared.Value.the-variants.{Number, Window, Function, Delayed, Missing}
-use Rattle.values.specs.Values.{wrongKind}
-use Rattle.values.specs.Apply.{isKind, isMissing, isDelayed, rule0, rule1, apply0, apply1}
+use Rattle.rules.specs.declared.Value.{Value}
+use Rattle.rules.specs.declared.Value.the-variants.{Number, Window, Function, Delayed, Missing}
+use Rattle.rules.specs.Values.{wrongKind}
+use Rattle.rules.specs.Apply.{isKind, isMissing, isDelayed, rule0, rule1, apply0, apply1}
 use Rattle.values.specs.Keepable.{Storable, Keepable}
 use Rattle.values.specs.Packing.{packOf, unpackOf, isPacked, functionCell, delayedCell, isFunctionCell, isDelayedCell}
 use Rattle.values.specs.PackingLaws.{round, packed-above, kept-passes}

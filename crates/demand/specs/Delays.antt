@@ -6,10 +6,10 @@ use lib.IntN.{ℤ}
 use Rattle.language.specs.Cases.{impossible, split, by-cond}
 use Rattle.language.specs.Members.{row}
 use Rattle.language.specs.declared.members.Member.{Member}
-use Rattle.values.specs.declared.Value.{Value}
-use Rattle.values.specs.declared.Value.the-variants.{Number, Window, Function, Delayed, Missing}
-use Rattle.values.specs.Values.{wrongKind}
-use Rattle.values.specs.Apply.{isKind, isMissing, isDelayed, rule0, rule1, apply0, apply1}
+use Rattle.rules.specs.declared.Value.{Value}
+use Rattle.rules.specs.declared.Value.the-variants.{Number, Window, Function, Delayed, Missing}
+use Rattle.rules.specs.Values.{wrongKind}
+use Rattle.rules.specs.Apply.{isKind, isMissing, isDelayed, rule0, rule1, apply0, apply1}
 use Rattle.values.specs.KeepableLaws.{Closed, Given}
 use Rattle.values.specs.KeepableApply.{closed-rule0, closed-rule1}
 

@@ -13,9 +13,9 @@ use lib.Signed.{mag}
 use Rattle.language.specs.Cases.{impossible, split, either, or-right}
 use Rattle.language.specs.declared.members.Member.{Member}
 use Rattle.grammar.specs.KeptLimits.{InRange}
-use Rattle.values.specs.declared.Value.{Value}
-use Rattle.values.specs.declared.Value.the-variants.{Number, Window, Function, Delayed, Missing}
-use Rattle.values.specs.Apply.{isDelayed, apply0, apply1}
+use Rattle.rules.specs.declared.Value.{Value}
+use Rattle.rules.specs.declared.Value.the-variants.{Number, Window, Function, Delayed, Missing}
+use Rattle.rules.specs.Apply.{isDelayed, apply0, apply1}
 use Rattle.values.specs.Keepable.{Keepable}
 use Rattle.values.specs.KeepableApply.{kept-apply0, kept-apply1}
 use Rattle.meaning.specs.Forms.{Form, number, variable, unbound, readings, ask, call, function, same, within}

@@ -10,7 +10,7 @@ use borrow.Author.Tests.{lt-ltb, le-ltb, le-leb, lt-leb, ne-eqb}
 use lib.Dec.{eqb}
 use lib.ListN.{length, getD, set, List·getD-eq-default}
 use Rattle.language.specs.Limits.{tableEntries}
-use Rattle.values.specs.Values.{unboundName}
+use Rattle.rules.specs.Values.{unboundName}
 use Rattle.values.specs.Packing.{windowCell, functionCell, delayedCell, missingCell}
 use Rattle.layout.specs.Links.{kindAt, keyAt, valueAt}
 use Rattle.layout.specs.Nodes.{numberKind, variableKind, unboundKind, functionKind}

@@ -15,11 +15,11 @@ use Rattle.language.specs.Members.{kindNumber}
 use Rattle.language.specs.declared.members.Member.{Member}
 use Rattle.language.specs.declared.members.Found.{Found}
 use Rattle.language.specs.declared.members.Found.the-variants.{Is, Unknown}
-use Rattle.values.specs.declared.Value.{Value}
-use Rattle.values.specs.declared.Value.the-variants.{Number, Missing}
+use Rattle.rules.specs.declared.Value.{Value}
+use Rattle.rules.specs.declared.Value.the-variants.{Number, Missing}
 use Rattle.values.specs.declared.apply.Applied.the-variants.{Done}
-use Rattle.values.specs.Rules.{Rule, twoNumbers, window, windowNumber, windowRuns, rule, byNumbers, onNumbers}
-use Rattle.values.specs.RulesLaws.{receiverOf, argumentOf, receiver-kind, argument-kind}
+use Rattle.rules.specs.Rules.{Rule, twoNumbers, window, windowNumber, windowRuns, rule, byNumbers, onNumbers}
+use Rattle.rules.specs.RulesLaws.{receiverOf, argumentOf, receiver-kind, argument-kind}
 use Rattle.values.specs.Applied.{ruled1, applied1}
 use Rattle.values.specs.Packing.{windowCell}
 use Rattle.values.specs.PackingLaws.{numberIn, unpack-number}

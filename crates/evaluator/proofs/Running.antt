@@ -11,12 +11,12 @@ use lib.IntN.{ℤ, pos}
 use lib.ListN.{length, getD, set, drop, length-take, drop-of-length-le}
 use lib.Seq.{drop-cons, getD-take, getD-drop}
 use Rattle.language.specs.Limits.{tableEntries}
-use Rattle.values.specs.declared.Value.the-variants.{Number}
+use Rattle.rules.specs.declared.Value.the-variants.{Number}
 use Rattle.values.specs.declared.runs.Tally.{Tally}
 use Rattle.values.specs.Packing.{packOf, delayedCell}
 use Rattle.values.specs.Tallies.{begun, Within}
 use Rattle.values.specs.TallyLaws.{within-none, within-more}
-use Rattle.values.specs.Windows.{readingsIn}
+use Rattle.rules.specs.Windows.{readingsIn}
 use Rattle.layout.specs.Nodes.{memberOfKind}
 use Rattle.evaluator.specs.declared.working.Task.{Task}
 use Rattle.evaluator.specs.Reach.{Gathers}

@@ -11,14 +11,14 @@ use lib.ListN.{length, getD, set}
 use Rattle.language.specs.Limits.{tableEntries}
 use Rattle.language.specs.declared.members.Found.{Found}
 use Rattle.language.specs.declared.members.Found.the-variants.{Is, Unknown}
-use Rattle.values.specs.declared.Value.{Value}
-use Rattle.values.specs.declared.Value.the-variants.{Number, Window, Function, Delayed, Missing}
+use Rattle.rules.specs.declared.Value.{Value}
+use Rattle.rules.specs.declared.Value.the-variants.{Number, Window, Function, Delayed, Missing}
 use Rattle.values.specs.declared.apply.Applied.{Applied}
 use Rattle.values.specs.declared.apply.Applied.the-variants.{Done, Run}
 use Rattle.values.specs.declared.runs.Tally.{Tally}
-use Rattle.values.specs.Values.{wrongKind}
-use Rattle.values.specs.Windows.{readingsIn}
-use Rattle.values.specs.Apply.{apply0}
+use Rattle.rules.specs.Values.{wrongKind}
+use Rattle.rules.specs.Windows.{readingsIn}
+use Rattle.rules.specs.Apply.{apply0}
 use Rattle.values.specs.Applied.{applied1}
 use Rattle.values.specs.Tallies.{begun, stepped, finished, Within}
 use Rattle.values.specs.Keepable.{Bounded}

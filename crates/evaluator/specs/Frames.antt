@@ -6,7 +6,7 @@ use Prim.Native.Nat.{ℕ, zero, suc, _+_, _-_, _%_}
 use lib.Dec.{leb, ltb, eqb}
 use lib.ListN.{getD, set}
 use Rattle.language.specs.Limits.{tableEntries}
-use Rattle.values.specs.Values.{unboundName}
+use Rattle.rules.specs.Values.{unboundName}
 use Rattle.values.specs.Packing.{windowCell, functionCell, delayedCell, missingCell}
 use Rattle.layout.specs.Links.{kindAt, keyAt, valueAt}
 use Rattle.layout.specs.Nodes.{numberKind, variableKind, unboundKind, functionKind}

@@ -12,8 +12,8 @@ use Rattle.grammar.specs.Machine.{readText}
 use Rattle.records.specs.Records.{Recorded, recordsOf}
 use Rattle.model.specs.Model.{refused, opened, edited, written}
 use Rattle.formulas.specs.Formulas.{formulas}
-use Rattle.values.specs.declared.Value.{Value}
-use Rattle.values.specs.declared.Value.the-variants.{Number, Window, Function, Delayed, Missing}
+use Rattle.rules.specs.declared.Value.{Value}
+use Rattle.rules.specs.declared.Value.the-variants.{Number, Window, Function, Delayed, Missing}
 use Rattle.values.specs.Packing.{unpackOf}
 use Rattle.layout.specs.Memory.{Memory, fits, entryCount, readingCount, recordingOf, entriesOf, nodesOf}
 use Rattle.table.specs.WellFormed.{doneAt, wellFormed}

@@ -7,10 +7,10 @@ use Prim.Native.Nat.{ℕ}
 use lib.Dec.{eqb}
 use lib.IntN.{ℤ, pos}
 use lib.ListN.{length}
-use Rattle.values.specs.declared.Value.{Value}
-use Rattle.values.specs.declared.Value.the-variants.{Number, Window, Function, Delayed, Missing}
-use Rattle.values.specs.Values.{unboundName}
-use Rattle.values.specs.Apply.{apply0, apply1, isDelayed}
+use Rattle.rules.specs.declared.Value.{Value}
+use Rattle.rules.specs.declared.Value.the-variants.{Number, Window, Function, Delayed, Missing}
+use Rattle.rules.specs.Values.{unboundName}
+use Rattle.rules.specs.Apply.{apply0, apply1, isDelayed}
 use Rattle.meaning.specs.Forms.{Form, number, variable, unbound, readings, ask, call, function, nameOf}
 
 -- what a form comes to: a value that holds no function; or a function, with what its body comes to for a reading

@@ -7,7 +7,7 @@ use lib.IntN.{ℤ, pos}
 use Rattle.language.specs.Members.{memberNumber}
 use Rattle.language.specs.declared.members.Member.{Member}
 use Rattle.language.specs.declared.members.Member.the-variants.{Add}
-use Rattle.values.specs.Values.{sameℤ}
+use Rattle.rules.specs.Values.{sameℤ}
 
 pub data Form : Type 0 where
   number : ℤ → Form

@@ -9,7 +9,7 @@ use Rattle.language.specs.Cases.{impossible, either, or-right}
 use Rattle.language.specs.Members.{memberNumber}
 use Rattle.language.specs.MembersLaws.{number-injective}
 use Rattle.language.specs.declared.members.Member.{Member}
-use Rattle.values.specs.Values.{sameℤ}
+use Rattle.rules.specs.Values.{sameℤ}
 use Rattle.meaning.specs.Forms.{Form, number, variable, unbound, readings, ask, call, function, sameMember, shapeOf, integerOf, nameOf, memberOf, firstOf, secondOf, same, dependency, within}
 
 -- pieces

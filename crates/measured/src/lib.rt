@@ -12,7 +12,7 @@ ghost use mathlib.Core.Path.{_≡_};
 ghost use mathlib.Core.List.{[]};
 ghost use Rattle.language.specs.declared.members.Member.the-variants as Members;
 ghost use Rattle.values.specs.Packing.{packOf};
-ghost use Rattle.values.specs.Rules.{ofWindow};
+ghost use Rattle.rules.specs.Rules.{ofWindow};
 ghost use Rattle.table.specs.WellFormed.{wellFormed};
 ghost use Rattle.table.specs.Checked.{memory};
 ghost use Rattle.measured.specs.Measures.{flag, readNumber, ReadInto, canBind, boundNumber, bindNumber, packedWork, canWork, Worked};

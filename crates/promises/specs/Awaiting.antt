@@ -9,9 +9,9 @@ use lib.Dec.{eqb}
 use lib.IntN.{ℤ, pos}
 use Rattle.language.specs.Cases.{or-right, impossible, split}
 use Rattle.language.specs.declared.members.Member.{Member}
-use Rattle.values.specs.declared.Value.{Value}
-use Rattle.values.specs.declared.Value.the-variants.{Number, Window, Function, Delayed, Missing}
-use Rattle.values.specs.Apply.{isMissing, isDelayed, apply0, apply1}
+use Rattle.rules.specs.declared.Value.{Value}
+use Rattle.rules.specs.declared.Value.the-variants.{Number, Window, Function, Delayed, Missing}
+use Rattle.rules.specs.Apply.{isMissing, isDelayed, apply0, apply1}
 use Rattle.meaning.specs.Forms.{Form, number, variable, unbound, readings, ask, call, function}
 use Rattle.meaning.specs.Evaluation.{Result, valueOf, runOf, Environment, nowhere, bind, lookup, settled, functionOf, evaluate, putFor}
 use Rattle.meaning.specs.Evaluation.{hasName, joined, without, awaited, aDelay, aReason, shownAs, shows}

@@ -29,7 +29,7 @@ use Rattle.model.specs.Engine.{Sent, told}
 use Rattle.model.specs.Demand.{Demand}
 use Rattle.model.specs.DemandLaws.{demand}
 use Rattle.formulas.specs.Formulas.{IsReading, formulas}
-use Rattle.values.specs.declared.Value.the-variants.{Number, Function}
+use Rattle.rules.specs.declared.Value.the-variants.{Number, Function}
 use Rattle.meaning.specs.Forms.{Form, function}
 use Rattle.meaning.specs.Evaluation.{valueOf, runOf, Environment, bind, evaluate, putFor, hasName, awaited, aWindow, aDelay, aReason, shows}
 use Rattle.meaning.specs.EvaluationLaws.{evaluate-put}

@@ -7,8 +7,8 @@ use native.Mathlib.Omega.{arith}
 use borrow.Author.Tests.{eqb-true}
 use lib.Dec.{ltb, eqb}
 use Rattle.language.specs.Cases.{impossible, split}
-use Rattle.values.specs.declared.Value.{Value}
-use Rattle.values.specs.declared.Value.the-variants.{Number, Window, Function, Delayed, Missing}
+use Rattle.rules.specs.declared.Value.{Value}
+use Rattle.rules.specs.declared.Value.the-variants.{Number, Window, Function, Delayed, Missing}
 use Rattle.values.specs.Packing.{functionCell, delayedCell, unpackOf, isFunctionCell, isDelayedCell}
 use Rattle.values.specs.PackingLaws.{unpack-function, unpack-delayed}
 use Rattle.values.specs.Shown.{shownNumbers}

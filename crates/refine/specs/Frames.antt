@@ -14,8 +14,8 @@ use lib.ListN.{length, getD, set, length-set}
 use lib.Seq.{getD-set-same, getD-set-other}
 use lib.Signed.{mag}
 use Rattle.language.specs.Cases.{split}
-use Rattle.values.specs.declared.Value.{Value}
-use Rattle.values.specs.declared.Value.the-variants.{Number}
+use Rattle.rules.specs.declared.Value.{Value}
+use Rattle.rules.specs.declared.Value.the-variants.{Number}
 use Rattle.values.specs.declared.runs.Tally.{Tally}
 use Rattle.values.specs.Packing.{packOf, unpackOf}
 use Rattle.values.specs.PackingLaws.{round}

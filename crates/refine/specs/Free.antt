@@ -8,9 +8,9 @@ use lib.Dec.{eqb}
 use lib.IntN.{ℤ, pos}
 use Rattle.language.specs.Cases.{split, either, or-right}
 use Rattle.language.specs.declared.members.Member.{Member}
-use Rattle.values.specs.declared.Value.{Value}
-use Rattle.values.specs.declared.Value.the-variants.{Number, Delayed}
-use Rattle.values.specs.Apply.{isDelayed}
+use Rattle.rules.specs.declared.Value.{Value}
+use Rattle.rules.specs.declared.Value.the-variants.{Number, Delayed}
+use Rattle.rules.specs.Apply.{isDelayed}
 use Rattle.meaning.specs.Forms.{Form, number, variable, unbound, readings, ask, call, function}
 use Rattle.meaning.specs.Evaluation.{plain, valueOf, Environment, bind, lookup, settled, functionOf, evaluate, hasName, without, awaited}
 use Rattle.table.specs.AwaitsLaws.{has-joined}

@@ -6,11 +6,11 @@ use native.Mathlib.Omega.{arith}
 use lib.IntN.{ℤ}
 use lib.ListN.{length}
 use Rattle.language.specs.declared.members.Member.{Member}
-use Rattle.values.specs.declared.Value.{Value}
-use Rattle.values.specs.declared.Value.the-variants.{Number, Window, Function, Delayed, Missing}
-use Rattle.values.specs.Runs.{Results, numbers, because}
-use Rattle.values.specs.Rules.{concluded}
-use Rattle.values.specs.Apply.{apply0, apply1}
+use Rattle.rules.specs.declared.Value.{Value}
+use Rattle.rules.specs.declared.Value.the-variants.{Number, Window, Function, Delayed, Missing}
+use Rattle.rules.specs.Runs.{Results, numbers, because}
+use Rattle.rules.specs.Rules.{concluded}
+use Rattle.rules.specs.Apply.{apply0, apply1}
 use Rattle.values.specs.KeepableLaws.{Closed, Given, closed-told}
 use Rattle.values.specs.KeepableApply.{closed-apply0, closed-apply1}
 

@@ -17,23 +17,23 @@ use Rattle.table.specs.NodeKinds.{member-found}
 use Rattle.language.specs.Cases.{split, either, or-right, by-cond}
 use Rattle.language.specs.Members.{row}
 use Rattle.language.specs.declared.members.Member.{Member}
-use Rattle.values.specs.declared.Value.{Value}
-use Rattle.values.specs.declared.Value.the-variants.{Number, Window, Function, Delayed, Missing}
+use Rattle.rules.specs.declared.Value.{Value}
+use Rattle.rules.specs.declared.Value.the-variants.{Number, Window, Function, Delayed, Missing}
 use Rattle.values.specs.declared.apply.Applied.{Applied}
 use Rattle.values.specs.declared.apply.Applied.the-variants.{Done, Run}
 use Rattle.values.specs.declared.runs.Tally.{Tally}
-use Rattle.values.specs.Apply.{isKind, apply0, isMissing, isDelayed}
+use Rattle.rules.specs.Apply.{isKind, apply0, isMissing, isDelayed}
 use Rattle.values.specs.Applied.{ruledWindow, ruled1, applied1, completed}
 use Rattle.values.specs.ApplyLaws.{completed-is}
 use Rattle.values.specs.Keepable.{Keepable}
 use Rattle.values.specs.Packing.{packOf, unpackOf, functionCell, delayedCell, missingCell}
 use Rattle.values.specs.PackingLaws.{round}
 use Rattle.values.specs.Ranges.{up-size}
-use Rattle.values.specs.Rules.{ofRuns}
+use Rattle.rules.specs.Rules.{ofRuns}
 use Rattle.values.specs.Tallies.{begun}
 use Rattle.values.specs.Tallies as Tallies
 use Rattle.values.specs.TallyLaws.{finished-is}
-use Rattle.values.specs.Windows.{readingsIn}
+use Rattle.rules.specs.Windows.{readingsIn}
 use Rattle.meaning.specs.Forms.{Form, variable, ask, call, function}
 use Rattle.meaning.specs.Evaluation.{Result, plain, runs, valueOf, runOf, Environment, bind, lookup, settled, functionOf, evaluate, awaited, hasName}
 use Rattle.layout.specs.Nodes.{memberKind, memberOfKind}

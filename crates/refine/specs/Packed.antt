@@ -15,15 +15,15 @@ use Rattle.language.specs.Cases.{split, by-cond}
 use Rattle.language.specs.declared.members.Member.{Member}
 use Rattle.language.specs.declared.members.Found.{Found}
 use Rattle.language.specs.declared.members.Found.the-variants.{Is, Unknown}
-use Rattle.values.specs.declared.Value.{Value}
-use Rattle.values.specs.declared.Value.the-variants.{Number, Window, Function, Delayed, Missing}
+use Rattle.rules.specs.declared.Value.{Value}
+use Rattle.rules.specs.declared.Value.the-variants.{Number, Window, Function, Delayed, Missing}
 use Rattle.values.specs.declared.apply.Applied.{Applied}
 use Rattle.values.specs.declared.apply.Applied.the-variants.{Done, Run}
 use Rattle.values.specs.declared.runs.Tally.{Tally}
-use Rattle.values.specs.Windows.{readingsIn}
-use Rattle.values.specs.Runs.{results}
-use Rattle.values.specs.Rules.{ofRuns}
-use Rattle.values.specs.Apply.{apply1}
+use Rattle.rules.specs.Windows.{readingsIn}
+use Rattle.rules.specs.Runs.{results}
+use Rattle.rules.specs.Rules.{ofRuns}
+use Rattle.rules.specs.Apply.{apply1}
 use Rattle.values.specs.Applied.{applied1, completed}
 use Rattle.values.specs.ApplyLaws.{completed-is}
 use Rattle.values.specs.Tallies.{begun, stepped, gathered, finished}

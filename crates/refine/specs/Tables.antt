@@ -12,8 +12,8 @@ use lib.ListN.{length, getD}
 use lib.Signed.{mag}
 use Rattle.language.specs.Cases.{split}
 use Rattle.language.specs.declared.members.Member.{Member}
-use Rattle.values.specs.declared.Value.{Value}
-use Rattle.values.specs.declared.Value.the-variants.{Number, Window, Function, Delayed, Missing}
+use Rattle.rules.specs.declared.Value.{Value}
+use Rattle.rules.specs.declared.Value.the-variants.{Number, Window, Function, Delayed, Missing}
 use Rattle.values.specs.Keepable.{Keepable}
 use Rattle.values.specs.Ranges.{down-range}
 use Rattle.values.specs.KeepableApply.{kept-apply0, kept-apply1}

@@ -12,7 +12,7 @@ use lib.Dec.{ltb, eqb}
 use lib.IntN.{ℤ}
 use lib.ListN.{length, getD, set, replicate}
 use Rattle.language.specs.Limits.{tableEntries}
-use Rattle.values.specs.declared.Value.{Value}
+use Rattle.rules.specs.declared.Value.{Value}
 use Rattle.values.specs.declared.shown.Shown.{Shown}
 use Rattle.values.specs.Shown.{shownNumbers}
 use Rattle.values.specs.Packing.{functionCell, delayedCell, unpackOf}

@@ -12,7 +12,7 @@ use mir.Syntax.{w32, w64}
 use mir.Val.{SFits, toZ, ofZ}
 use borrow.Author.Tests.{eq-eqb, ne-eqb, eqb-true}
 use Rattle.language.specs.Names.{isLong, bytes, packOnto, packed, dataWord}
-use Rattle.values.specs.declared.Value.the-variants.{Number}
+use Rattle.rules.specs.declared.Value.the-variants.{Number}
 use Rattle.values.proofs.PackingRules.{pack-number}
 use Rattle.values.proofs.Signed.{wide}
 use Rattle.grammar.specs.Tokens.{when}

@@ -15,16 +15,16 @@ use denote.Enum.Declared.{tagOf}
 use Rattle.language.specs.Members.{row, kindNumber}
 use Rattle.language.specs.declared.members.Kind.{Kind}
 use Rattle.language.specs.declared.members.Member.{Member}
-use Rattle.values.specs.declared.Value.{Value}
-use Rattle.values.specs.declared.Value.the-variants.{Number, Window, Function, Delayed, Missing}
+use Rattle.rules.specs.declared.Value.{Value}
+use Rattle.rules.specs.declared.Value.the-variants.{Number, Window, Function, Delayed, Missing}
 use Rattle.values.specs.declared.apply.Applied.{Applied}
 use Rattle.values.specs.declared.apply.Applied.the-variants.{Done, Run}
-use Rattle.values.specs.Values.{kindOf, wrongKind}
-use Rattle.values.specs.Rules.{onNumbers, ofWindow, onWindow}
-use Rattle.values.specs.Apply.{isKind, rule0, ruleNumber, isMissing, isDelayed, apply0}
+use Rattle.rules.specs.Values.{kindOf, wrongKind}
+use Rattle.rules.specs.Rules.{onNumbers, ofWindow, onWindow}
+use Rattle.rules.specs.Apply.{isKind, rule0, ruleNumber, isMissing, isDelayed, apply0}
 use Rattle.values.specs.Applied.{ruledWindow, ruled1, applied1}
 use Rattle.values.specs.Keepable.{Bounded}
-use Rattle.values.proofs.Value as Variants
+use Rattle.rules.proofs.Value as Variants
 
 pub kind-test : (v : Value) (k : Kind) (a b : ℕ) → a ≡ kindNumber (kindOf v) → b ≡ kindNumber k → eqb a b ≡ isKind v k
 kind-test v k a b p q = λ i. eqb (p i) (q i)

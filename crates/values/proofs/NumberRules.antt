@@ -14,12 +14,12 @@ use types.Run.{OneOf}
 use Rattle.language.specs.Limits.{leastNumber, mostNumber}
 use Rattle.language.specs.declared.members.Member.{Member}
 use Rattle.language.specs.declared.members.Member.the-variants.{Add, Sub, Mul, Div, Gt, Eq}
-use Rattle.values.specs.declared.Value.{Value}
-use Rattle.values.specs.declared.Value.the-variants.{Number, Missing}
-use Rattle.values.specs.Values.{flag, ranged, beyondNumber, divisionByZero, wrongKind}
+use Rattle.rules.specs.declared.Value.{Value}
+use Rattle.rules.specs.declared.Value.the-variants.{Number, Missing}
+use Rattle.rules.specs.Values.{flag, ranged, beyondNumber, divisionByZero, wrongKind}
 use Rattle.values.specs.Ranges.{in-range}
-use Rattle.values.specs.Numbers.{quotient, divided}
-use Rattle.values.specs.Rules.{rule, onNumbers}
+use Rattle.rules.specs.Numbers.{quotient, divided}
+use Rattle.rules.specs.Rules.{rule, onNumbers}
 use Rattle.values.proofs.Tables.{tag, besides, last-arm}
 use Rattle.values.proofs.Signed.{cast-is, widens, wide, result-fits, result-is, sum-64, difference-64, product-64, quotient-64, read-lt, read-eq, same-yes, same-no, bits-above}
 

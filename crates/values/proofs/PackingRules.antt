@@ -10,8 +10,8 @@ use lib.Signed.{nonNeg}
 use mir.Syntax.{w32, w64}
 use mir.Val.{Fits, SFits, toZ, ofZ}
 use mir.Facts.{sfits-widen, toZ-pos, toZ-ofZ}
-use Rattle.values.specs.declared.Value.{Value}
-use Rattle.values.specs.declared.Value.the-variants.{Number, Window, Function, Delayed, Missing}
+use Rattle.rules.specs.declared.Value.{Value}
+use Rattle.rules.specs.declared.Value.the-variants.{Number, Window, Function, Delayed, Missing}
 use Rattle.values.specs.Packing.{windowCell, functionCell, delayedCell, missingCell, packOf, unpackOf}
 use Rattle.values.specs.Ranges.{mag-abs, up-nonNeg, up-size, down-range}
 use Rattle.values.specs.PackingLaws.{numberIn, unpack-number, unpack-window, unpack-function, unpack-delayed, unpack-missing, test-number, test-window, test-between, test-missing}

@@ -13,16 +13,16 @@ use types.Run.{OneOf, miss}
 use denote.Enum.Declared.{tagOf}
 use Rattle.language.specs.declared.members.Member.{Member}
 use Rattle.language.specs.declared.members.Member.the-variants.{CountWhere, LongestRun, SumBy}
-use Rattle.values.specs.declared.Value.{Value}
-use Rattle.values.specs.declared.Value.the-variants.{Number, Window, Function, Delayed, Missing}
+use Rattle.rules.specs.declared.Value.{Value}
+use Rattle.rules.specs.declared.Value.the-variants.{Number, Window, Function, Delayed, Missing}
 use Rattle.values.specs.declared.runs.Tally.{Tally}
-use Rattle.values.specs.Values.{ranged, wrongKind}
+use Rattle.rules.specs.Values.{ranged, wrongKind}
 use Rattle.values.specs.Ranges.{mag-abs}
-use Rattle.values.specs.Runs.{isNonzero}
-use Rattle.values.specs.Rules.{rule, byRuns}
+use Rattle.rules.specs.Runs.{isNonzero}
+use Rattle.rules.specs.Rules.{rule, byRuns}
 use Rattle.values.specs.Tallies.{noted, halted, entered, stepped, summed, finished, Within, Steps}
 use Rattle.values.specs.TallyLaws.{stopped-steps, going-steps, Small, within-more, within-noted, within-stepped}
-use Rattle.values.proofs.Value as Variants
+use Rattle.rules.proofs.Value as Variants
 use Rattle.values.proofs.Tables.{tag, besides, last-arm}
 use Rattle.values.proofs.Signed.{widens, wide, wide-is, read-eq, same-yes, same-no}
 

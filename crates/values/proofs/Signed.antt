@@ -13,8 +13,8 @@ use mir.Syntax.{Width, w32, w64}
 use mir.Val.{SFits, toZ, ofZ, hbits}
 use mir.Facts.{sfits-widen, toZ-ofZ}
 use mir.ValLaws.{pow-bits}
-use Rattle.values.specs.Values.{sameℤ}
-use Rattle.values.specs.Numbers.{quotient}
+use Rattle.rules.specs.Values.{sameℤ}
+use Rattle.rules.specs.Numbers.{quotient}
 use Rattle.values.specs.Ranges.{sum-range, difference-range, product-range, quotient-range}
 
 -- ---- casts between signed widths

@@ -15,9 +15,9 @@ use Rattle.language.specs.Members.{members, memberNumber}
 use Rattle.language.specs.MembersLaws.{number-row, each}
 use Rattle.language.specs.declared.members.Member.{Member}
 use Rattle.language.specs.declared.members.Member.the-variants.{Add}
-use Rattle.values.specs.declared.Value.{Value}
-use Rattle.values.specs.declared.Value.the-variants.{Missing}
-use Rattle.values.specs.Values.{wrongKind}
+use Rattle.rules.specs.declared.Value.{Value}
+use Rattle.rules.specs.declared.Value.the-variants.{Missing}
+use Rattle.rules.specs.Values.{wrongKind}
 
 abbrev pub tag : Member → ℕ
 tag m = tagOf the-type m

@@ -17,11 +17,11 @@ use mir.Facts.{fits-natAbs, toZ-pos, toZ-ofZ}
 use types.Run.{OneOf}
 use Rattle.language.specs.declared.members.Member.{Member}
 use Rattle.language.specs.declared.members.Member.the-variants.{Skip, Take, Count, Sum, Min, Max, At}
-use Rattle.values.specs.declared.Value.{Value}
-use Rattle.values.specs.declared.Value.the-variants.{Number, Window, Missing}
-use Rattle.values.specs.Values.{ranged, wrongKind, outsideWindow}
-use Rattle.values.specs.Windows.{readingsIn, clipped, skipped, taken, reading, unlessNegative, total, lesser, greater, extreme}
-use Rattle.values.specs.Rules.{rule, ofWindow, onWindow}
+use Rattle.rules.specs.declared.Value.{Value}
+use Rattle.rules.specs.declared.Value.the-variants.{Number, Window, Missing}
+use Rattle.rules.specs.Values.{ranged, wrongKind, outsideWindow}
+use Rattle.rules.specs.Windows.{readingsIn, clipped, skipped, taken, reading, unlessNegative, total, lesser, greater, extreme}
+use Rattle.rules.specs.Rules.{rule, ofWindow, onWindow}
 use Rattle.values.specs.Ranges.{mag-abs}
 use Rattle.values.specs.WindowLaws.{readings-none, readings-rest, readings-short, Summed, summed-none, summed-more, summed-all, Folded, folded-one, folded-more, folded-all, no-readings}
 use Rattle.values.proofs.Tables.{tag, besides, last-arm}

@@ -6,14 +6,14 @@ use Prim.Native.Nat.{ℕ}
 use lib.IntN.{ℤ}
 use Rattle.language.specs.Members.{row}
 use Rattle.language.specs.declared.members.Member.{Member}
-use Rattle.values.specs.declared.Value.{Value}
-use Rattle.values.specs.declared.Value.the-variants.{Number, Window, Function, Delayed, Missing}
+use Rattle.rules.specs.declared.Value.{Value}
+use Rattle.rules.specs.declared.Value.the-variants.{Number, Window, Function, Delayed, Missing}
 use Rattle.values.specs.declared.apply.Applied.{Applied}
 use Rattle.values.specs.declared.apply.Applied.the-variants.{Done, Run}
-use Rattle.values.specs.Values.{wrongKind}
-use Rattle.values.specs.Windows.{readingsIn}
-use Rattle.values.specs.Rules.{onWindow, ofRuns}
-use Rattle.values.specs.Apply.{isKind, ruleNumber, isMissing, isDelayed}
+use Rattle.rules.specs.Values.{wrongKind}
+use Rattle.rules.specs.Windows.{readingsIn}
+use Rattle.rules.specs.Rules.{onWindow, ofRuns}
+use Rattle.rules.specs.Apply.{isKind, ruleNumber, isMissing, isDelayed}
 
 unfoldable pub ruledWindow : Member → List ℤ → ℕ → ℕ → Value → Applied
 ruledWindow m xs s l (Number n) = Done (onWindow m xs s l n)

@@ -6,11 +6,11 @@ use mathlib.Core.List.{List}
 use Prim.Native.Nat.{ℕ}
 use lib.IntN.{ℤ}
 use Rattle.language.specs.declared.members.Member.{Member}
-use Rattle.values.specs.declared.Value.{Value}
-use Rattle.values.specs.declared.Value.the-variants.{Number, Window, Function, Delayed, Missing}
+use Rattle.rules.specs.declared.Value.{Value}
+use Rattle.rules.specs.declared.Value.the-variants.{Number, Window, Function, Delayed, Missing}
 use Rattle.values.specs.declared.apply.Applied.{Applied}
 use Rattle.values.specs.declared.apply.Applied.the-variants.{Done}
-use Rattle.values.specs.Apply.{rule1, apply1}
+use Rattle.rules.specs.Apply.{rule1, apply1}
 use Rattle.values.specs.Applied.{ruledWindow, ruled1, applied1, completed}
 
 cond-or : (a b : Bool) (v w : Value) → cond (a || b) v w ≡ cond a v (cond b v w)

@@ -10,12 +10,12 @@ use lib.Signed.{mag}
 use Rattle.language.specs.Cases.{by-cond}
 use Rattle.language.specs.Members.{row}
 use Rattle.language.specs.declared.members.Member.{Member}
-use Rattle.values.specs.declared.Value.{Value}
-use Rattle.values.specs.declared.Value.the-variants.{Number, Window, Function, Delayed, Missing}
+use Rattle.rules.specs.declared.Value.{Value}
+use Rattle.rules.specs.declared.Value.the-variants.{Number, Window, Function, Delayed, Missing}
 use Rattle.values.specs.declared.apply.Applied.{Applied}
 use Rattle.values.specs.declared.apply.Applied.the-variants.{Done, Run}
-use Rattle.values.specs.Windows.{readingsIn}
-use Rattle.values.specs.Apply.{isKind, rule0, rule1, isMissing, isDelayed, apply0, apply1}
+use Rattle.rules.specs.Windows.{readingsIn}
+use Rattle.rules.specs.Apply.{isKind, rule0, rule1, isMissing, isDelayed, apply0, apply1}
 use Rattle.values.specs.Applied.{ruledWindow, ruled1, applied1, completed}
 use Rattle.values.specs.ApplyLaws.{completed-rule}
 use Rattle.values.specs.WindowLaws.{readings-short}

@@ -16,13 +16,13 @@ use Rattle.language.specs.Cases.{by-cond}
 use Rattle.language.specs.Limits.{leastNumber, mostNumber}
 use Rattle.language.specs.declared.members.Member.{Member}
 use Rattle.language.specs.declared.members.Member.the-variants.{Add, Sub, Mul, Div, Gt, Eq, Skip, Take, Count, Sum, Min, Max, At, CountWhere, LongestRun, SumBy}
-use Rattle.values.specs.declared.Value.{Value}
-use Rattle.values.specs.declared.Value.the-variants.{Number, Window, Function, Delayed, Missing}
-use Rattle.values.specs.Values.{ranged, flag, sameℤ}
-use Rattle.values.specs.Numbers.{quotient, divided}
-use Rattle.values.specs.Windows.{readingsIn, clipped, reading, unlessNegative, lesser, greater, foldFrom, extreme}
-use Rattle.values.specs.Runs.{Results, numbers, because, with, results, isNonzero, countOf, stretch, longest, summary}
-use Rattle.values.specs.Rules.{Rule, twoNumbers, window, windowNumber, windowRuns, rule, byNumbers, byWindow, byWindowNumber, byRuns, onNumbers, ofWindow, onWindow, concluded, ofRuns}
+use Rattle.rules.specs.declared.Value.{Value}
+use Rattle.rules.specs.declared.Value.the-variants.{Number, Window, Function, Delayed, Missing}
+use Rattle.rules.specs.Values.{ranged, flag, sameℤ}
+use Rattle.rules.specs.Numbers.{quotient, divided}
+use Rattle.rules.specs.Windows.{readingsIn, clipped, reading, unlessNegative, lesser, greater, foldFrom, extreme}
+use Rattle.rules.specs.Runs.{Results, numbers, because, with, results, isNonzero, countOf, stretch, longest, summary}
+use Rattle.rules.specs.Rules.{Rule, twoNumbers, window, windowNumber, windowRuns, rule, byNumbers, byWindow, byWindowNumber, byRuns, onNumbers, ofWindow, onWindow, concluded, ofRuns}
 use Rattle.values.specs.Ranges.{in-range}
 use Rattle.values.specs.WindowLaws.{clipped-parts, clipped-within}
 use Rattle.values.specs.TallyLaws.{if-most}

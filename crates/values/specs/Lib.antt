@@ -1,10 +1,3 @@
-pub mod Values
-pub mod Numbers
-pub mod Windows
-pub mod Runs
-pub mod Rules
-pub mod RulesLaws
-pub mod Apply
 pub mod Packing
 pub mod Ranges
 pub mod WindowLaws

@@ -10,8 +10,8 @@ use lib.Dec.{leb, ltb, eqb}
 use lib.IntN.{ℤ, pos, natAbs, _+ℤ_, _-ℤ_, +ℤ-negℤ-cancel, -ℤ-+ℤ-cancel}
 use lib.Signed.{pos-natAbs}
 use Rattle.language.specs.Cases.{either}
-use Rattle.values.specs.declared.Value.{Value}
-use Rattle.values.specs.declared.Value.the-variants.{Number, Window, Function, Delayed, Missing}
+use Rattle.rules.specs.declared.Value.{Value}
+use Rattle.rules.specs.declared.Value.the-variants.{Number, Window, Function, Delayed, Missing}
 use Rattle.values.specs.Packing.{windowCell, functionCell, delayedCell, missingCell, packOf, unpackOf, inside, isPacked}
 use Rattle.values.specs.Ranges.{up-nonNeg, up-size, down-range}
 use Rattle.values.specs.Keepable.{Storable, Keepable}

@@ -10,7 +10,7 @@ use lib.Dec.{T, ltb}
 use lib.IntN.{ℤ, pos, negsuc, negℤ, natAbs, _+ℤ_, _-ℤ_, _*ℤ_}
 use lib.Signed.{mag, ltZ, nonNeg}
 use borrow.Author.Tests.{ltb-false, le-ltb}
-use Rattle.values.specs.Numbers.{quotient}
+use Rattle.rules.specs.Numbers.{quotient}
 
 -- ---- sizes
 

@@ -1,8 +1,8 @@
 -- A value as plain numbers, for callers in C: 01's cases of what an entry shows, with a number for each case and its values. The names that
 -- a function or a delayed entry shows are kept beside the value. Assumes nothing: these are definitions.
 use lib.IntN.{pos}
-use Rattle.values.specs.declared.Value.{Value}
-use Rattle.values.specs.declared.Value.the-variants.{Number, Window, Function, Delayed, Missing}
+use Rattle.rules.specs.declared.Value.{Value}
+use Rattle.rules.specs.declared.Value.the-variants.{Number, Window, Function, Delayed, Missing}
 use Rattle.values.specs.declared.shown.Shown.{Shown}
 
 -- a number; a window's start and length; nothing for a function or a delay; a reason

@@ -6,12 +6,12 @@ use mathlib.Core.List.{List, [], _∷_}
 use Prim.Native.Nat.{ℕ, _+_, _*_, max, _≤_}
 use lib.IntN.{ℤ, pos, natAbs, _+ℤ_}
 use Rattle.language.specs.declared.members.Member.{Member}
-use Rattle.values.specs.declared.Value.{Value}
-use Rattle.values.specs.declared.Value.the-variants.{Number, Window, Function, Delayed, Missing}
+use Rattle.rules.specs.declared.Value.{Value}
+use Rattle.rules.specs.declared.Value.the-variants.{Number, Window, Function, Delayed, Missing}
 use Rattle.values.specs.declared.runs.Tally.{Tally}
-use Rattle.values.specs.Values.{wrongKind}
-use Rattle.values.specs.Runs.{isNonzero, Summary}
-use Rattle.values.specs.Rules.{rule, byRuns}
+use Rattle.rules.specs.Values.{wrongKind}
+use Rattle.rules.specs.Runs.{isNonzero, Summary}
+use Rattle.rules.specs.Rules.{rule, byRuns}
 
 abbrev pub begun : Tally
 begun = record { stopped = false; reason = 0; count = 0; stretch = 0; longest = 0; total = pos 0 }

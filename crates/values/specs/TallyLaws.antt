@@ -8,13 +8,13 @@ use native.Mathlib.Omega.{arith}
 use lib.IntN.{ℤ, _+ℤ_, +ℤ-idl, +ℤ-idr, +ℤ-assoc}
 use lib.Signed.{mag}
 use Rattle.language.specs.declared.members.Member.{Member}
-use Rattle.values.specs.declared.Value.{Value}
-use Rattle.values.specs.declared.Value.the-variants.{Number, Window, Function, Delayed, Missing}
+use Rattle.rules.specs.declared.Value.{Value}
+use Rattle.rules.specs.declared.Value.the-variants.{Number, Window, Function, Delayed, Missing}
 use Rattle.values.specs.declared.runs.Tally.{Tally}
-use Rattle.values.specs.Values.{wrongKind}
-use Rattle.values.specs.Windows.{total}
-use Rattle.values.specs.Runs.{Results, numbers, because, with, results, isNonzero, countOf, stretch, longest, summary}
-use Rattle.values.specs.Rules.{rule, byRuns, concluded, ofRuns}
+use Rattle.rules.specs.Values.{wrongKind}
+use Rattle.rules.specs.Windows.{total}
+use Rattle.rules.specs.Runs.{Results, numbers, because, with, results, isNonzero, countOf, stretch, longest, summary}
+use Rattle.rules.specs.Rules.{rule, byRuns, concluded, ofRuns}
 use Rattle.values.specs.Ranges.{total-range}
 use Rattle.values.specs.Tallies.{begun, noted, halted, entered, stepped, gathered, summed, finished, Within}
 

@@ -9,8 +9,8 @@ use lib.IntN.{ℤ, pos, natAbs, _+ℤ_, +ℤ-idl, +ℤ-idr, +ℤ-assoc}
 use lib.ListN.{length, take, drop, getD, length-take, length-drop, drop-of-length-le}
 use lib.Seq.{take-all, take-nil, drop-nil, drop-drop, drop-cons}
 use lib.Signed.{mag}
-use Rattle.values.specs.declared.Value.the-variants.{Number}
-use Rattle.values.specs.Windows.{readingsIn, clipped, total, foldFrom, extreme}
+use Rattle.rules.specs.declared.Value.the-variants.{Number}
+use Rattle.rules.specs.Windows.{readingsIn, clipped, total, foldFrom, extreme}
 use Rattle.values.specs.Ranges.{total-range}
 
 -- ---- the readings of a window

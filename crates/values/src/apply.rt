@@ -1,6 +1,6 @@
 // A member on what its dependencies came to. The first missing one decides, then a delayed one, then the kinds in the member table, then
 // the member's rule.
-use crate::Value;
+use rules::Value;
 use crate::numbers::on_numbers;
 use crate::windows::of_window;
 use crate::windows::on_window;
@@ -11,8 +11,8 @@ use language::members::receiver;
 ghost use mathlib.Core.Path.{_≡_};
 ghost use Prim.Native.Nat.{_+_, _≤_};
 ghost use Rattle.language.specs.Members.{kindNumber};
-ghost use Rattle.values.specs.Values.{kindOf};
-ghost use Rattle.values.specs.Apply as Rules;
+ghost use Rattle.rules.specs.Values.{kindOf};
+ghost use Rattle.rules.specs.Apply as Rules;
 ghost use Rattle.values.specs.Applied.{ruledWindow, ruled1, applied1};
 ghost use Rattle.values.specs.Keepable.{Bounded};
 

@@ -1,10 +1,10 @@
 // The members on a number. Each works at 64 bits, where nothing is lost, and tests the range once, at the end.
-use crate::Value;
+use rules::Value;
 use language::members::Member;
 ghost use mathlib.Core.Path.{_≡_};
 ghost use Rattle.language.specs.declared.members.Member.the-variants as Members;
-ghost use Rattle.values.specs.Values.{ranged};
-ghost use Rattle.values.specs.Rules.{onNumbers};
+ghost use Rattle.rules.specs.Values.{ranged};
+ghost use Rattle.rules.specs.Rules.{onNumbers};
 
 // A whole number as a value: reason 4 beyond signed 32 bits.
 pub fn number(z: i64) -> Value

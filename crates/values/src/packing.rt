@@ -1,6 +1,6 @@
 // A value as one cell of memory, and back. Each kind has a range of cells of its own, in the order number, window, function, delayed,
 // missing; 0 is no value.
-use crate::Value;
+use rules::Value;
 ghost use mathlib.Core.Path.{_≡_};
 ghost use Rattle.values.specs.Packing.{packOf, unpackOf, isPacked};
 ghost use Rattle.values.specs.PackingLaws.{numberIn};

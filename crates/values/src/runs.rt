@@ -1,5 +1,5 @@
 // The members that run a function, from the results of its runs, one at a time: the first result that is no number decides.
-use crate::Value;
+use rules::Value;
 use crate::numbers::number;
 use language::members::Member;
 ghost use mathlib.Core.Path.{_≡_};

@@ -1,5 +1,5 @@
 // What a value shows, as plain numbers.
-use crate::Value;
+use rules::Value;
 ghost use mathlib.Core.Path.{_≡_};
 ghost use Rattle.values.specs.Shown.{shownNumbers};
 

@@ -1,13 +1,13 @@
 // The members on a window of a lent recording that run no function. A window may reach past the recording: its readings are those that
 // are there.
-use crate::Value;
+use rules::Value;
 use crate::numbers::number;
 use language::members::Member;
 ghost use mathlib.Core.Path.{_≡_};
 ghost use Prim.Native.Nat.{_+_, _≤_};
 ghost use Rattle.language.specs.declared.members.Member.the-variants as Members;
-ghost use Rattle.values.specs.Windows.{readingsIn, clipped, skipped, taken, unlessNegative, lesser, greater};
-ghost use Rattle.values.specs.Rules.{ofWindow, onWindow};
+ghost use Rattle.rules.specs.Windows.{readingsIn, clipped, skipped, taken, unlessNegative, lesser, greater};
+ghost use Rattle.rules.specs.Rules.{ofWindow, onWindow};
 
 // The readings of a window, as that very part of the recording.
 pub fn part(xs: &[i32], start: u16, length: u16) -> &[i32]

@@ -6,7 +6,7 @@ use Prim.Native.Nat.{_+_, _*_, _-_, _≤_, ℕ, _<_}
 use mathlib.Core.Path.{_≡_, refl}
 use mathlib.Core.Logic.{⊎-elim}
 use lib.ListN.{drop}
-use Rattle.values.specs.Windows.{readingsIn}
+use Rattle.rules.specs.Windows.{readingsIn}
 use Rattle.evaluator.specs.Applying.{graph}
 use Rattle.evaluator.proofs.Running.{done-applies, value-applies, same-applies, judge-applies, run-applies, Runs, runs-begin, runs-within, runs-end, runs-stop, runs-again, Works, works-stop, works-end, works-again}
 use borrow.Fn.Kinds.{In}

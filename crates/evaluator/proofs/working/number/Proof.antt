@@ -2,7 +2,7 @@
 use mathlib.Core.Path.{ap, _∙_}
 use lib.IntN.{ℤ}
 use mir.Facts.{toZ-ofZ}
-use Rattle.values.specs.declared.Value.the-variants.{Number}
+use Rattle.rules.specs.declared.Value.the-variants.{Number}
 use Rattle.values.specs.Packing.{packOf}
 use borrow.Author.Needs.{needs}
 use Rattle.evaluator.proofs.working.number.Statement.{statement}

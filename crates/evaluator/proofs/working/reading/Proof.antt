@@ -4,7 +4,7 @@ use mathlib.Core.Path.{ap, _∙_}
 use lib.IntN.{ℤ, pos}
 use lib.ListN.{getD}
 use mir.Facts.{toZ-ofZ}
-use Rattle.values.specs.declared.Value.the-variants.{Number}
+use Rattle.rules.specs.declared.Value.the-variants.{Number}
 use Rattle.values.specs.Packing.{packOf}
 use Rattle.evaluator.proofs.Planning.{planning}
 use Rattle.evaluator.proofs.working.reading.Statement.{statement}

@@ -5,7 +5,7 @@ use Prim.Native.Nat.{_-_}
 use lib.ListN as L
 use mir.Syntax.{w32}
 use mir.Val.{toZ}
-use Rattle.values.specs.Windows.{lesser}
+use Rattle.rules.specs.Windows.{lesser}
 use Rattle.values.specs.WindowLaws.{Folded}
 use Rattle.values.proofs.WindowRules.{window-rules}
 use Rattle.values.proofs.windows.least.Statement.{statement}

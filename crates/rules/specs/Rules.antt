@@ -5,12 +5,12 @@ use lib.IntN.{ℤ, pos, _+ℤ_, _-ℤ_, _*ℤ_}
 use lib.Signed.{ltZ}
 use Rattle.language.specs.declared.members.Member.{Member}
 use Rattle.language.specs.declared.members.Member.the-variants.{Add, Sub, Mul, Div, Gt, Eq, Skip, Take, Count, Sum, Min, Max, At, CountWhere, LongestRun, SumBy}
-use Rattle.values.specs.declared.Value.{Value}
-use Rattle.values.specs.declared.Value.the-variants.{Number, Missing}
-use Rattle.values.specs.Values.{ranged, flag, sameℤ, wrongKind}
-use Rattle.values.specs.Numbers.{divided}
-use Rattle.values.specs.Windows.{readingsIn, skipped, taken, reading, unlessNegative, total, lesser, greater, extreme}
-use Rattle.values.specs.Runs.{Results, numbers, because, results, Summary, summary}
+use Rattle.rules.specs.declared.Value.{Value}
+use Rattle.rules.specs.declared.Value.the-variants.{Number, Missing}
+use Rattle.rules.specs.Values.{ranged, flag, sameℤ, wrongKind}
+use Rattle.rules.specs.Numbers.{divided}
+use Rattle.rules.specs.Windows.{readingsIn, skipped, taken, reading, unlessNegative, total, lesser, greater, extreme}
+use Rattle.rules.specs.Runs.{Results, numbers, because, results, Summary, summary}
 
 -- a rule, by the kinds of what it is used on and with: a window is given as the recording, its start and its length, and a function as what
 -- the numbers of its runs come to

@@ -8,11 +8,11 @@ use lib.IntN.{ℤ}
 use Rattle.language.specs.Members.{row, kindNumber}
 use Rattle.language.specs.declared.members.Kind.{Kind}
 use Rattle.language.specs.declared.members.Member.{Member}
-use Rattle.values.specs.declared.Value.{Value}
-use Rattle.values.specs.declared.Value.the-variants.{Number, Window, Function, Delayed, Missing}
-use Rattle.values.specs.Values.{kindOf, wrongKind}
-use Rattle.values.specs.Windows.{readingsIn}
-use Rattle.values.specs.Rules.{onNumbers, ofWindow, onWindow, ofRuns}
+use Rattle.rules.specs.declared.Value.{Value}
+use Rattle.rules.specs.declared.Value.the-variants.{Number, Window, Function, Delayed, Missing}
+use Rattle.rules.specs.Values.{kindOf, wrongKind}
+use Rattle.rules.specs.Windows.{readingsIn}
+use Rattle.rules.specs.Rules.{onNumbers, ofWindow, onWindow, ofRuns}
 
 abbrev pub isKind : Value → Kind → Bool
 isKind v k = eqb (kindNumber (kindOf v)) (kindNumber k)

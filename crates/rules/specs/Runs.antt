@@ -4,10 +4,10 @@ use mathlib.Core.Bool.{Bool, not, cond}
 use mathlib.Core.List.{List, [], _∷_}
 use Prim.Native.Nat.{ℕ, suc, _+_, max}
 use lib.IntN.{ℤ, pos}
-use Rattle.values.specs.declared.Value.{Value}
-use Rattle.values.specs.declared.Value.the-variants.{Number, Window, Function, Delayed, Missing}
-use Rattle.values.specs.Values.{sameℤ, wrongKind}
-use Rattle.values.specs.Windows.{total}
+use Rattle.rules.specs.declared.Value.{Value}
+use Rattle.rules.specs.declared.Value.the-variants.{Number, Window, Function, Delayed, Missing}
+use Rattle.rules.specs.Values.{sameℤ, wrongKind}
+use Rattle.rules.specs.Windows.{total}
 
 -- the numbers that runs gave, or the reason of the first that gave none
 pub data Results : Type 0 where

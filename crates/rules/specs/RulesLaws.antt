@@ -7,7 +7,7 @@ use Rattle.language.specs.MembersLaws.{each}
 use Rattle.language.specs.declared.members.Kind.{Kind}
 use Rattle.language.specs.declared.members.Kind.the-variants.{Number, Window, Function, Nothing}
 use Rattle.language.specs.declared.members.Member.{Member}
-use Rattle.values.specs.Rules.{Rule, twoNumbers, window, windowNumber, windowRuns, rule}
+use Rattle.rules.specs.Rules.{Rule, twoNumbers, window, windowNumber, windowRuns, rule}
 
 abbrev pub receiverOf : Rule → Kind
 receiverOf (twoNumbers f) = Number

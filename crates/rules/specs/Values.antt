@@ -7,8 +7,8 @@ use lib.Signed.{ltZ}
 use Rattle.language.specs.Limits.{leastNumber, mostNumber}
 use Rattle.language.specs.declared.members.Kind.{Kind}
 use Rattle.language.specs.declared.members.Kind.the-variants as Kinds
-use Rattle.values.specs.declared.Value.{Value}
-use Rattle.values.specs.declared.Value.the-variants.{Number, Window, Function, Delayed, Missing}
+use Rattle.rules.specs.declared.Value.{Value}
+use Rattle.rules.specs.declared.Value.the-variants.{Number, Window, Function, Delayed, Missing}
 
 -- the reasons
 abbrev pub unboundName : ℕ

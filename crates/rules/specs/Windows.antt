@@ -7,9 +7,9 @@ use lib.Dec.{ltb}
 use lib.IntN.{ℤ, pos, negsuc, _+ℤ_}
 use lib.ListN.{length, take, drop, getD}
 use lib.Signed.{ltZ}
-use Rattle.values.specs.declared.Value.{Value}
-use Rattle.values.specs.declared.Value.the-variants.{Number, Window, Missing}
-use Rattle.values.specs.Values.{outsideWindow}
+use Rattle.rules.specs.declared.Value.{Value}
+use Rattle.rules.specs.declared.Value.the-variants.{Number, Window, Missing}
+use Rattle.rules.specs.Values.{outsideWindow}
 
 -- the readings of a window
 abbrev pub readingsIn : List ℤ → ℕ → ℕ → List ℤ

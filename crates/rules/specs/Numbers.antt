@@ -2,9 +2,9 @@
 use mathlib.Core.Bool.{cond}
 use lib.IntN.{ℤ, pos}
 use lib.Signed.{quotZ}
-use Rattle.values.specs.declared.Value.{Value}
-use Rattle.values.specs.declared.Value.the-variants.{Missing}
-use Rattle.values.specs.Values.{ranged, sameℤ, divisionByZero}
+use Rattle.rules.specs.declared.Value.{Value}
+use Rattle.rules.specs.declared.Value.the-variants.{Missing}
+use Rattle.rules.specs.Values.{ranged, sameℤ, divisionByZero}
 
 -- the quotient's rounding, towards zero: what div gives where the divisor is not zero
 abbrev pub quotient : ℤ → ℤ → ℤ
