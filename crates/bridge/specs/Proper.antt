@@ -8,7 +8,7 @@ use native.Mathlib.Omega.{arith}
 use borrow.Author.Tests.{eqb-true, eq-eqb}
 use lib.Dec.{eqb}
 use lib.ListN.{length}
-use Rattle.language.specs.Members.{row}
+use Rattle.members.specs.Members.{row}
 use Rattle.language.specs.Cases.{impossible, split, or-right}
 use Rattle.grammar.specs.KeptLimits.{InRange}
 use Rattle.meaning.specs.Forms.{Form, number, variable, unbound, readings, ask, call, function}

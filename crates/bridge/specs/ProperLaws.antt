@@ -8,10 +8,10 @@ use borrow.Author.Tests.{eqb-true, eq-eqb, ne-eqb}
 use lib.Dec.{eqb}
 use lib.IntN.{ℤ}
 use lib.ListN.{length}
-use Rattle.language.specs.MembersLaws.{few-arguments}
+use Rattle.members.specs.MembersLaws.{few-arguments}
 use Rattle.language.specs.Limits.{openLambdas}
 use Rattle.language.specs.Names.{packed, sameName, isData, dataWord}
-use Rattle.language.specs.Members.{row}
+use Rattle.members.specs.Members.{row}
 use Rattle.language.specs.Cases.{impossible, split, by-cond}
 use Rattle.grammar.specs.Grammar.{Expression, Calls, Arguments, More, letIn, lambda, name, literal, bracket, done, call, none, first, last, next}
 use Rattle.grammar.specs.Faults.{Binder, byLet, byLambda, Around, outermost, opened, inLet, inLambda, lambdasOf}

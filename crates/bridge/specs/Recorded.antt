@@ -13,11 +13,11 @@ use lib.ListN.{length, getD, length-append, List·getD-append}
 use lib.Seq.{getD-at}
 use Rattle.language.specs.Limits.{leastNumber}
 use Rattle.language.specs.Names.{packed, sameName, isData}
-use Rattle.language.specs.Members.{row, memberOf, isUnknown, takes}
-use Rattle.language.specs.MembersLaws.{few-arguments}
-use Rattle.language.specs.declared.members.Member.{Member}
-use Rattle.language.specs.declared.members.Found.{Found}
-use Rattle.language.specs.declared.members.Found.the-variants.{Is, Unknown}
+use Rattle.members.specs.Members.{row, memberOf, isUnknown, takes}
+use Rattle.members.specs.MembersLaws.{few-arguments}
+use Rattle.members.specs.declared.Member.{Member}
+use Rattle.members.specs.declared.Found.{Found}
+use Rattle.members.specs.declared.Found.the-variants.{Is, Unknown}
 use Rattle.language.specs.Cases.{impossible, split}
 use Rattle.grammar.specs.Grammar.{Expression, Calls, Arguments, More, letIn, lambda, name, literal, bracket, done, call, none, first, last, next}
 use Rattle.grammar.specs.Faults.{Around, outermost, opened, inLet, inLambda}

@@ -10,8 +10,8 @@ use lib.ListN.{length}
 use Rattle.language.specs.Limits.{nameBytes}
 use Rattle.language.specs.Names.{bytes, between, isLetter, inWord, packOnto, packed, letWord, inWord!, isData}
 use Rattle.language.specs.NamesLaws.{Each, NameByte, word-byte, packed-injective}
-use Rattle.language.specs.Members.{sameBytes}
-use Rattle.language.specs.MembersLaws.{same-bytes}
+use Rattle.members.specs.Members.{sameBytes}
+use Rattle.members.specs.MembersLaws.{same-bytes}
 use Rattle.language.specs.Cases.{impossible, split, either}
 use Rattle.grammar.specs.Words.{IsWord, word-bytes}
 use Rattle.layout.specs.Nodes.{wordNumber, isName}

@@ -13,9 +13,9 @@ use lib.ListN.{length, getD, getElem?, length-take, length-map, length-append}
 use lib.Signed.{mag}
 use Rattle.language.specs.Cases.{impossible, split}
 use Rattle.language.specs.Limits.{tableEntries, tableReadings}
-use Rattle.language.specs.Members.{row}
-use Rattle.language.specs.MembersLaws.{number-below}
-use Rattle.language.specs.declared.members.Member.{Member}
+use Rattle.members.specs.Members.{row}
+use Rattle.members.specs.MembersLaws.{number-below}
+use Rattle.members.specs.declared.Member.{Member}
 use Rattle.values.specs.Packing.{isPacked}
 use Rattle.meaning.specs.Forms.{Form, readings, same, works}
 use Rattle.meaning.specs.FormsLaws.{same-eq, same-self}

@@ -11,7 +11,7 @@ use lib.IntN.{ℤ, pos, negsuc}
 use lib.ListN.{length, getD}
 use lib.Signed.{mag}
 use Rattle.language.specs.Cases.{impossible, split, either, or-right}
-use Rattle.language.specs.declared.members.Member.{Member}
+use Rattle.members.specs.declared.Member.{Member}
 use Rattle.grammar.specs.KeptLimits.{InRange}
 use Rattle.rules.specs.declared.Value.{Value}
 use Rattle.rules.specs.declared.Value.the-variants.{Number, Window, Function, Delayed, Missing}

@@ -10,7 +10,7 @@ use lib.ListN.{getD}
 use lib.Signed.{ltZ}
 use Rattle.language.specs.Limits.{textParts, openMarks, openLambdas, leastNumber, mostNumber}
 use Rattle.language.specs.Names.{packed, isLong, isData}
-use Rattle.language.specs.Members.{memberOf, isUnknown, takes}
+use Rattle.members.specs.Members.{memberOf, isUnknown, takes}
 use Rattle.grammar.specs.Tokens.{Token, kLet, kIn, kEquals, kLambda, kArrow, kDot, kOpen, kShut, kComma, word, number, other, when, Located}
 use Rattle.meaning.specs.Binding.{member}
 use Rattle.layout.specs.Nodes.{memberKind}

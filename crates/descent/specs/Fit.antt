@@ -10,7 +10,7 @@ use lib.Dec.{leb, eqb, lit<}
 use lib.ListN.{getD, set}
 use lib.Seq.{getD-set-other}
 use borrow.Author.Tests.{leb-false, eqb-true, eqb-false}
-use Rattle.language.specs.MembersLaws.{number-below}
+use Rattle.members.specs.MembersLaws.{number-below}
 use Rattle.grammar.specs.TokensLaws.{by-test}
 use Rattle.meaning.specs.Binding.{member}
 use Rattle.layout.specs.Nodes.{memberKind}

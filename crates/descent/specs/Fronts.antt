@@ -5,7 +5,7 @@ use mathlib.Core.Bool.{Bool, true, false}
 use mathlib.Core.List.{List, [], _∷_}
 use Prim.Native.Nat.{ℕ, suc, _-_}
 use lib.Dec.{leb, eqb}
-use Rattle.language.specs.Members.{memberOf, isUnknown, takes}
+use Rattle.members.specs.Members.{memberOf, isUnknown, takes}
 use Rattle.grammar.specs.Tokens.{Token, kLet, kIn, kEquals, kLambda, kArrow, kDot, kOpen, kShut, kComma, word, number, other, when, Located}
 use Rattle.grammar.specs.Grammar.{Expression, letIn, lambda, name, literal, bracket, done, call, none, first, last, next}
 use Rattle.grammar.specs.Faults.{fine, Around, opened, inLet, inLambda, deep, markFault, lambdaFault, letNameFault, lambdaNameFault}

@@ -8,7 +8,7 @@ use native.Mathlib.Omega.{arith}
 use lib.Dec.{leb, eqb}
 use borrow.Author.Tests.{leb-false, eqb-true, eqb-false}
 use Rattle.language.specs.Names.{packed}
-use Rattle.language.specs.Members.{memberOf, isUnknown, takes}
+use Rattle.members.specs.Members.{memberOf, isUnknown, takes}
 use Rattle.grammar.specs.Tokens.{when, Located}
 use Rattle.grammar.specs.TokensLaws.{by-test}
 use Rattle.grammar.specs.Grammar.{Expression}

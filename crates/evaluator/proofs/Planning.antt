@@ -10,9 +10,9 @@ use lib.Dec.{T, ltb}
 use lib.IntN.{ℤ, pos}
 use lib.ListN.{length, getD, length-take, length-drop, List·getD-eq-default}
 use Rattle.language.specs.Limits.{tableEntries}
-use Rattle.language.specs.declared.members.Member.{Member}
-use Rattle.language.specs.declared.members.Found.{Found}
-use Rattle.language.specs.declared.members.Found.the-variants.{Is, Unknown}
+use Rattle.members.specs.declared.Member.{Member}
+use Rattle.members.specs.declared.Found.{Found}
+use Rattle.members.specs.declared.Found.the-variants.{Is, Unknown}
 use Rattle.rules.specs.declared.Value.{Value}
 use Rattle.rules.specs.declared.Value.the-variants.{Number, Window, Function, Delayed, Missing}
 use Rattle.values.specs.declared.apply.Applied.{Applied}

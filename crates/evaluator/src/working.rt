@@ -4,7 +4,7 @@ use crate::frames::bind;
 use crate::frames::function;
 use crate::reach::gather;
 use language::limits::Table;
-use language::members::Found;
+use members::Found;
 use layout::cells::first_of;
 use layout::cells::is_below;
 use layout::cells::kind_of;

@@ -1,6 +1,6 @@
 -- The model of formulas as a definition that computes: what unfolds where a session is run. Assumes nothing.
 use Rattle.language.specs.Names
-use Rattle.language.specs.Members
+use Rattle.members.specs.Members
 use Rattle.grammar.specs.Tokens
 use Rattle.grammar.specs.Faults
 use Rattle.grammar.specs.Reading

@@ -10,7 +10,7 @@ use lib.IntN.{ℤ}
 use lib.Signed.{ltZ}
 use Rattle.language.specs.Limits.{textParts, openMarks, openLambdas, leastNumber, mostNumber}
 use Rattle.language.specs.Names.{sameName, isLong, isData}
-use Rattle.language.specs.Members.{memberOf, isUnknown, takes}
+use Rattle.members.specs.Members.{memberOf, isUnknown, takes}
 use Rattle.grammar.specs.Grammar.{Expression, Calls, Arguments, More, letIn, lambda, name, literal, bracket, done, call, none, first, last, next}
 
 -- the refusals that a token can meet, apart from 5, which is the grammar's

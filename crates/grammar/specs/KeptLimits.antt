@@ -10,7 +10,7 @@ use lib.ListN.{length}
 use lib.Signed.{_≤ℤ_}
 use Rattle.language.specs.Limits.{textParts, openMarks, openLambdas, nameBytes, leastNumber, mostNumber}
 use Rattle.language.specs.Names.{packed, dataWord}
-use Rattle.language.specs.Members.{memberOf, isUnknown, takes}
+use Rattle.members.specs.Members.{memberOf, isUnknown, takes}
 use Rattle.grammar.specs.Grammar.{Expression, Calls, Arguments, More, letIn, lambda, name, literal, bracket, done, call, none, first, last, next}
 use Rattle.grammar.specs.Faults.{Binder, byLet, byLambda, Around, outermost, opened, inLet, inLambda, lambdasOf}
 

@@ -10,7 +10,7 @@ use native.Mathlib.Omega.{arith}
 use lib.Dec.{leb, eqb}
 use lib.ListN.{length}
 use Rattle.language.specs.Limits.{textParts, openMarks, openLambdas, nameBytes}
-use Rattle.language.specs.Members.{memberOf, isUnknown, takes}
+use Rattle.members.specs.Members.{memberOf, isUnknown, takes}
 use Rattle.grammar.specs.Grammar.{Expression, Calls, Arguments, More, letIn, lambda, name, literal, bracket, done, call, none, first, last, next}
 use Rattle.grammar.specs.Faults.{Fault, fine, faultNumber, Around, outermost, opened, inLet, inLambda, lambdasOf}
 use Rattle.grammar.specs.Faults.{callFault, Note, note, plain, notesE, notesC, notesA, notesM, orMany, fault, counted, faults, faultsOf, Clean}

@@ -8,7 +8,7 @@ use lib.IntN.{ℤ, pos, negsuc}
 use lib.ListN.{replicate}
 use Rattle.language.specs.Names
 use Rattle.language.specs.Names.{bytes}
-use Rattle.language.specs.Members
+use Rattle.members.specs.Members
 use Rattle.grammar.specs.Tokens
 use Rattle.grammar.specs.Grammar.{literal, done}
 use Rattle.grammar.specs.Faults

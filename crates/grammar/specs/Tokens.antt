@@ -6,7 +6,7 @@ use lib.Dec.{eqb}
 use lib.IntN.{ℤ, pos, negℤ}
 use lib.ListN.{take}
 use Rattle.language.specs.Names.{isLetter, isDigit, inWord, isBlank, letWord, inWord! }
-use Rattle.language.specs.Members.{sameBytes}
+use Rattle.members.specs.Members.{sameBytes}
 
 pub data Token : Type 0 where
   kLet kIn kEquals kLambda kArrow kDot kOpen kShut kComma : Token

@@ -9,7 +9,7 @@ use lib.ListN.{take}
 use Rattle.language.specs.Cases.{split, by-cond}
 use Rattle.language.specs.Names.{isLetter, isDigit, inWord, isBlank, letWord, inWord! }
 use Rattle.language.specs.NamesLaws.{Each, NameByte, each-map, word-byte}
-use Rattle.language.specs.Members.{sameBytes}
+use Rattle.members.specs.Members.{sameBytes}
 use Rattle.grammar.specs.Tokens.{Token, kLet, kIn, kEquals, kLambda, kArrow, kDot, kOpen, kShut, kComma, word, number, other, when, leading}
 use Rattle.grammar.specs.Tokens.{Lexeme, wordToken, wordAt, digitsAt, minusAt, markToken, tokenAt, Located, scan}
 use Rattle.grammar.specs.TokensLaws.{by-test, leading-each}

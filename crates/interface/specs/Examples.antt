@@ -8,7 +8,7 @@ use Prim.Native.Nat.{ℕ}
 use lib.IntN.{pos}
 use lib.ListN.{replicate, drop, length}
 use Rattle.language.specs.Names.{bytes, packOnto, letWord, inWord!, dataWord}
-use Rattle.language.specs.Members.{row, memberAt}
+use Rattle.members.specs.Members.{row, memberAt}
 use Rattle.values.specs.Packing.{delayedCell, isPacked}
 use Rattle.meaning.specs.Evaluation.{hasName, joined, without}
 use Rattle.model.specs.Model.{refused}

@@ -7,10 +7,10 @@ use lib.IntN.{ℤ, pos, _-ℤ_}
 use lib.ListN.{length}
 use Rattle.language.specs.Limits.{nameBytes}
 use Rattle.language.specs.Names.{isLetter, inWord, packed, letWord, inWord!, dataWord}
-use Rattle.language.specs.Members.{row, members, memberAt, memberNumber}
-use Rattle.language.specs.declared.members.Member.{Member}
-use Rattle.language.specs.declared.members.Found.{Found}
-use Rattle.language.specs.declared.members.Found.the-variants.{Is, Unknown}
+use Rattle.members.specs.Members.{row, members, memberAt, memberNumber}
+use Rattle.members.specs.declared.Member.{Member}
+use Rattle.members.specs.declared.Found.{Found}
+use Rattle.members.specs.declared.Found.the-variants.{Is, Unknown}
 use Rattle.meaning.specs.Forms.{Form, number, variable, unbound, readings, ask, call, function}
 use Rattle.layout.specs.Memory.{Node}
 

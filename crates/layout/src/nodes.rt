@@ -6,7 +6,7 @@ use crate::cells::key_of;
 use crate::cells::kind_of;
 use crate::cells::second_of;
 use language::limits::Text;
-use language::members::MEMBERS;
+use members::MEMBERS;
 ghost use mathlib.Core.Path.{_≡_};
 ghost use Prim.Native.Nat.{_-_, _<_};
 ghost use lib.ListN.{length};

@@ -10,7 +10,7 @@ use lib.ListN.{length, take, drop, getD, drop-of-length-le, length-drop}
 use lib.Seq.{drop-cons, take-all, take-nil}
 use borrow.Author.Tests.{eq-eqb, ne-eqb}
 use Rattle.language.specs.Names.{isLetter, isDigit, inWord, isBlank, letWord, inWord!, bytes}
-use Rattle.language.specs.Members.{sameBytes}
+use Rattle.members.specs.Members.{sameBytes}
 use Rattle.grammar.specs.Tokens.{Token, Lexeme, lexeme, kLet, kIn, word, when, leading, wordToken, wordAt, digitsAt, minusAt, markToken, tokenAt}
 use Rattle.lexer.specs.declared.tokens.Lexed.{Lexed}
 use Rattle.lexer.specs.Lexing.{tokenKind, placed, placeFrom, frontAt, lexAt, bytesAt}

@@ -1,14 +1,14 @@
 // Tokens from the lent bytes, at a place. Nothing is copied: a token is its kind and where it stands.
 use language::limits::Text;
-use language::members;
-use language::members::Found;
+use members;
+use members::Found;
 use language::names;
 ghost use mathlib.Core.Path.{_≡_};
 ghost use Prim.Native.Nat.{_+_, _*_, _-_, _<_, _≤_, min};
 ghost use lib.IntN.{pos, negℤ};
 ghost use lib.ListN.{length, drop};
 ghost use Rattle.language.specs.Names.{isData, isLong};
-ghost use Rattle.language.specs.Members.{memberOf};
+ghost use Rattle.members.specs.Members.{memberOf};
 ghost use Rattle.grammar.specs.Tokens.{wordToken, wordAt, digitsAt, minusAt, markToken};
 ghost use Rattle.lexer.specs.Lexing.{tokenKind, placed, lexAt, bytesAt, judged, valueOf, nameAt};
 ghost use Rattle.lexer.specs.Loops.{inClass, runEnd, based, bound};

@@ -6,11 +6,11 @@ use mathlib.Core.Bool.{cond}
 use mathlib.Core.List.{List, [], _∷_}
 use Prim.Native.Nat.{ℕ}
 use Rattle.language.specs.Names.{packed, sameName, isData}
-use Rattle.language.specs.Members.{memberOf}
-use Rattle.language.specs.declared.members.Member.{Member}
-use Rattle.language.specs.declared.members.Member.the-variants.{Count}
-use Rattle.language.specs.declared.members.Found.{Found}
-use Rattle.language.specs.declared.members.Found.the-variants.{Is, Unknown}
+use Rattle.members.specs.Members.{memberOf}
+use Rattle.members.specs.declared.Member.{Member}
+use Rattle.members.specs.declared.Member.the-variants.{Count}
+use Rattle.members.specs.declared.Found.{Found}
+use Rattle.members.specs.declared.Found.the-variants.{Is, Unknown}
 use Rattle.grammar.specs.Grammar.{Expression, Calls, Arguments, More, letIn, lambda, name, literal, bracket, done, call, none, first, last, next}
 use Rattle.meaning.specs.Forms.{Form, number, variable, unbound, readings, ask, function}
 

@@ -6,9 +6,9 @@ use Prim.Native.Nat.{ℕ, zero, suc}
 use borrow.Author.Tests.{eqb-true, eq-eqb}
 use lib.IntN.{ℤ, pos, negsuc}
 use Rattle.language.specs.Cases.{impossible, either, or-right}
-use Rattle.language.specs.Members.{memberNumber}
-use Rattle.language.specs.MembersLaws.{number-injective}
-use Rattle.language.specs.declared.members.Member.{Member}
+use Rattle.members.specs.Members.{memberNumber}
+use Rattle.members.specs.MembersLaws.{number-injective}
+use Rattle.members.specs.declared.Member.{Member}
 use Rattle.rules.specs.Values.{sameℤ}
 use Rattle.meaning.specs.Forms.{Form, number, variable, unbound, readings, ask, call, function, sameMember, shapeOf, integerOf, nameOf, memberOf, firstOf, secondOf, same, dependency, within}
 

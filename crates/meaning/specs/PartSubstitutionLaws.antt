@@ -6,8 +6,8 @@ use Prim.Native.Nat.{ℕ}
 use lib.IntN.{pos}
 use Rattle.language.specs.Names.{bytes, packed, packOnto, dataWord, isData}
 use Rattle.language.specs.NamesLaws.{Each}
-use Rattle.language.specs.Members.{row, sameBytes, namedIn, memberOf}
-use Rattle.language.specs.declared.members.Member.the-variants.{Add}
+use Rattle.members.specs.Members.{row, sameBytes, namedIn, memberOf}
+use Rattle.members.specs.declared.Member.the-variants.{Add}
 use Rattle.grammar.specs.Grammar.{Expression, Calls, Arguments, More, letIn, lambda, name, literal, bracket, done, call, none, first, last, next}
 use Rattle.grammar.specs.Faults.{Around, outermost, opened, inLet, inLambda}
 use Rattle.grammar.specs.KeptLimits.{EverywhereE, EverywhereC, EverywhereA, EverywhereM, NewLambdas, KeepsLimits}

@@ -10,7 +10,7 @@ use values::packing::pack;
 use values::windows;
 ghost use mathlib.Core.Path.{_≡_};
 ghost use mathlib.Core.List.{[]};
-ghost use Rattle.language.specs.declared.members.Member.the-variants as Members;
+ghost use Rattle.members.specs.declared.Member.the-variants as Members;
 ghost use Rattle.values.specs.Packing.{packOf};
 ghost use Rattle.rules.specs.Rules.{ofWindow};
 ghost use Rattle.table.specs.WellFormed.{wellFormed};

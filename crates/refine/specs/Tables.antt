@@ -11,7 +11,7 @@ use lib.IntN.{ℤ, pos}
 use lib.ListN.{length, getD}
 use lib.Signed.{mag}
 use Rattle.language.specs.Cases.{split}
-use Rattle.language.specs.declared.members.Member.{Member}
+use Rattle.members.specs.declared.Member.{Member}
 use Rattle.rules.specs.declared.Value.{Value}
 use Rattle.rules.specs.declared.Value.the-variants.{Number, Window, Function, Delayed, Missing}
 use Rattle.values.specs.Keepable.{Keepable}

@@ -5,9 +5,9 @@ use mathlib.Core.List.{List, map}
 use Prim.Native.Nat.{ℕ}
 use lib.Dec.{eqb}
 use lib.IntN.{ℤ}
-use Rattle.language.specs.Members.{row, kindNumber}
-use Rattle.language.specs.declared.members.Kind.{Kind}
-use Rattle.language.specs.declared.members.Member.{Member}
+use Rattle.members.specs.Members.{row, kindNumber}
+use Rattle.members.specs.declared.Kind.{Kind}
+use Rattle.members.specs.declared.Member.{Member}
 use Rattle.rules.specs.declared.Value.{Value}
 use Rattle.rules.specs.declared.Value.the-variants.{Number, Window, Function, Delayed, Missing}
 use Rattle.rules.specs.Values.{kindOf, wrongKind}

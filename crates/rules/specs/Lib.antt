@@ -5,3 +5,4 @@ pub mod Runs
 pub mod Rules
 pub mod RulesLaws
 pub mod Apply
+pub mod Examples

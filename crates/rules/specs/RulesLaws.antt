@@ -2,11 +2,11 @@
 use mathlib.Core.Path.{_≡_, refl}
 use borrow.Author.Tests.{eqb-true}
 use lib.Dec.{eqb}
-use Rattle.language.specs.Members.{row, kindNumber}
-use Rattle.language.specs.MembersLaws.{each}
-use Rattle.language.specs.declared.members.Kind.{Kind}
-use Rattle.language.specs.declared.members.Kind.the-variants.{Number, Window, Function, Nothing}
-use Rattle.language.specs.declared.members.Member.{Member}
+use Rattle.members.specs.Members.{row, kindNumber}
+use Rattle.members.specs.MembersLaws.{each}
+use Rattle.members.specs.declared.Kind.{Kind}
+use Rattle.members.specs.declared.Kind.the-variants.{Number, Window, Function, Nothing}
+use Rattle.members.specs.declared.Member.{Member}
 use Rattle.rules.specs.Rules.{Rule, twoNumbers, window, windowNumber, windowRuns, rule}
 
 abbrev pub receiverOf : Rule → Kind

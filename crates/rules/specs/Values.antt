@@ -5,8 +5,8 @@ use lib.Dec.{eqb}
 use lib.IntN.{ℤ, pos, negsuc}
 use lib.Signed.{ltZ}
 use Rattle.language.specs.Limits.{leastNumber, mostNumber}
-use Rattle.language.specs.declared.members.Kind.{Kind}
-use Rattle.language.specs.declared.members.Kind.the-variants as Kinds
+use Rattle.members.specs.declared.Kind.{Kind}
+use Rattle.members.specs.declared.Kind.the-variants as Kinds
 use Rattle.rules.specs.declared.Value.{Value}
 use Rattle.rules.specs.declared.Value.the-variants.{Number, Window, Function, Delayed, Missing}
 

@@ -9,10 +9,10 @@ use lib.Dec.{leb, eqb}
 use lib.ListN.{length, getD}
 use borrow.Author.Tests.{eq-eqb, ne-eqb, eqb-true}
 use Rattle.language.specs.Names.{isLong, isData, packed}
-use Rattle.language.specs.Members.{memberOf, memberNumber, isUnknown, takes, row}
-use Rattle.language.specs.declared.members.Member.{Member}
-use Rattle.language.specs.declared.members.Found.{Found}
-use Rattle.language.specs.declared.members.Found.the-variants.{Is, Unknown}
+use Rattle.members.specs.Members.{memberOf, memberNumber, isUnknown, takes, row}
+use Rattle.members.specs.declared.Member.{Member}
+use Rattle.members.specs.declared.Found.{Found}
+use Rattle.members.specs.declared.Found.the-variants.{Is, Unknown}
 use Rattle.grammar.specs.Tokens.{when, Located}
 use Rattle.meaning.specs.Binding.{member}
 use Rattle.layout.specs.Nodes.{memberKind}

@@ -1,8 +1,8 @@
 // The cursor over a text, and what is refused at a token. Each function is the function of its name in descent's Cursor; the tokens that are
 // left are those from the cursor's place on.
 use language::limits::Text;
-use language::members;
-use language::members::Found;
+use members;
+use members::Found;
 use layout::nodes::Shape;
 use lexer::tokens;
 use lexer::tokens::Lexed;

@@ -6,9 +6,9 @@ use native.Mathlib.Omega.{arith}
 use borrow.Author.Tests.{eqb-true, eq-eqb, ne-eqb, lt-ltb}
 use lib.Dec.{leb, eqb}
 use Rattle.language.specs.Cases.{split}
-use Rattle.language.specs.MembersLaws.{few-arguments}
-use Rattle.language.specs.declared.members.Found.{Found}
-use Rattle.language.specs.declared.members.Found.the-variants.{Is, Unknown}
+use Rattle.members.specs.MembersLaws.{few-arguments}
+use Rattle.members.specs.declared.Found.{Found}
+use Rattle.members.specs.declared.Found.the-variants.{Is, Unknown}
 use Rattle.layout.specs.Memory.{Node}
 use Rattle.layout.specs.Nodes.{memberOfKind, memberArity, arity}
 use Rattle.table.specs.WellFormed.{arityRight}

@@ -8,10 +8,10 @@ use borrow.Author.Tests.{eqb-true, eqb-false, ne-eqb}
 use lib.Dec.{eqb}
 use lib.ListN.{getD}
 use Rattle.language.specs.Cases.{split}
-use Rattle.language.specs.Members.{row}
-use Rattle.language.specs.MembersLaws.{few-arguments}
-use Rattle.language.specs.declared.members.Found.{Found}
-use Rattle.language.specs.declared.members.Found.the-variants.{Is, Unknown}
+use Rattle.members.specs.Members.{row}
+use Rattle.members.specs.MembersLaws.{few-arguments}
+use Rattle.members.specs.declared.Found.{Found}
+use Rattle.members.specs.declared.Found.the-variants.{Is, Unknown}
 use Rattle.meaning.specs.Forms.{Form}
 use Rattle.meaning.specs.Evaluation.{joined, awaited}
 use Rattle.layout.specs.Memory.{Node}

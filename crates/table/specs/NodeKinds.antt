@@ -8,10 +8,10 @@ use borrow.Author.Tests.{eqb-true, eqb-false, ne-eqb, ltb-true, le-ltb}
 use lib.Dec.{eqb}
 use lib.ListN.{length}
 use Rattle.language.specs.Cases.{split}
-use Rattle.language.specs.Members.{row, members, memberNumber, foundIn, memberAt}
-use Rattle.language.specs.MembersLaws.{none-of, number-found, few-arguments}
-use Rattle.language.specs.declared.members.Member.{Member}
-use Rattle.language.specs.declared.members.Found.the-variants.{Is}
+use Rattle.members.specs.Members.{row, members, memberNumber, foundIn, memberAt}
+use Rattle.members.specs.MembersLaws.{none-of, number-found, few-arguments}
+use Rattle.members.specs.declared.Member.{Member}
+use Rattle.members.specs.declared.Found.the-variants.{Is}
 use Rattle.meaning.specs.Forms.{Form, ask, call}
 use Rattle.layout.specs.Memory.{Node, node}
 use Rattle.layout.specs.Nodes.{numberKind, variableKind, unboundKind, readingsKind, functionKind, memberKind, memberOfKind, memberForm, arity, build}

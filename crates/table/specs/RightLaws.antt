@@ -11,10 +11,10 @@ use lib.Dec.{eqb, leb, ltb}
 use lib.ListN.{length}
 use Rattle.language.specs.Cases.{split}
 use Rattle.language.specs.Names.{isLetter, inWord, packOnto, bytes, letWord, inWord!, dataWord}
-use Rattle.language.specs.Members.{row, memberAt, foundIn, members}
-use Rattle.language.specs.declared.members.Member.{Member}
-use Rattle.language.specs.declared.members.Found.{Found}
-use Rattle.language.specs.declared.members.Found.the-variants.{Is, Unknown}
+use Rattle.members.specs.Members.{row, memberAt, foundIn, members}
+use Rattle.members.specs.declared.Member.{Member}
+use Rattle.members.specs.declared.Found.{Found}
+use Rattle.members.specs.declared.Found.the-variants.{Is, Unknown}
 use Rattle.layout.specs.Links.{kindAt, firstAt, secondAt, keyAt}
 use Rattle.layout.specs.Memory.{Node, nodeAt, node}
 use Rattle.layout.specs.Nodes.{numberKind, variableKind, unboundKind, functionKind, firstMember, kindCount, memberOfKind, memberArity, arity, wordNumber, isName}

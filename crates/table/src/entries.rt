@@ -1,7 +1,7 @@
 // One entry: whether its kind, its key and its dependencies are right (01, refusal 4).
-use language::members::Found;
-use language::members::arguments;
-use language::members::member_at;
+use members::Found;
+use members::arguments;
+use members::member_at;
 use language::names::in_word;
 use language::names::is_letter;
 use layout::cells::first_of;

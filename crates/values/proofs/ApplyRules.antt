@@ -12,9 +12,9 @@ use mir.Val.{SFits, toZ, ofZ}
 use mir.Facts.{toZ-ofZ}
 use types.Run.{OneOf, miss}
 use denote.Enum.Declared.{tagOf}
-use Rattle.language.specs.Members.{row, kindNumber}
-use Rattle.language.specs.declared.members.Kind.{Kind}
-use Rattle.language.specs.declared.members.Member.{Member}
+use Rattle.members.specs.Members.{row, kindNumber}
+use Rattle.members.specs.declared.Kind.{Kind}
+use Rattle.members.specs.declared.Member.{Member}
 use Rattle.rules.specs.declared.Value.{Value}
 use Rattle.rules.specs.declared.Value.the-variants.{Number, Window, Function, Delayed, Missing}
 use Rattle.values.specs.declared.apply.Applied.{Applied}

@@ -10,11 +10,11 @@ use lib.Dec.{eqb}
 use lib.ListN.{getD}
 use types.Run.{OneOf}
 use denote.Enum.Declared.{tagOf}
-use Rattle.language.proofs.members.Member.{the-type}
-use Rattle.language.specs.Members.{members, memberNumber}
-use Rattle.language.specs.MembersLaws.{number-row, each}
-use Rattle.language.specs.declared.members.Member.{Member}
-use Rattle.language.specs.declared.members.Member.the-variants.{Add}
+use Rattle.members.proofs.Member.{the-type}
+use Rattle.members.specs.Members.{members, memberNumber}
+use Rattle.members.specs.MembersLaws.{number-row, each}
+use Rattle.members.specs.declared.Member.{Member}
+use Rattle.members.specs.declared.Member.the-variants.{Add}
 use Rattle.rules.specs.declared.Value.{Value}
 use Rattle.rules.specs.declared.Value.the-variants.{Missing}
 use Rattle.rules.specs.Values.{wrongKind}

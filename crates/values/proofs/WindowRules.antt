@@ -15,8 +15,8 @@ use mir.Syntax.{w16, w32, w64}
 use mir.Val.{Fits, SFits, toZ, ofZ}
 use mir.Facts.{fits-natAbs, toZ-pos, toZ-ofZ}
 use types.Run.{OneOf}
-use Rattle.language.specs.declared.members.Member.{Member}
-use Rattle.language.specs.declared.members.Member.the-variants.{Skip, Take, Count, Sum, Min, Max, At}
+use Rattle.members.specs.declared.Member.{Member}
+use Rattle.members.specs.declared.Member.the-variants.{Skip, Take, Count, Sum, Min, Max, At}
 use Rattle.rules.specs.declared.Value.{Value}
 use Rattle.rules.specs.declared.Value.the-variants.{Number, Window, Missing}
 use Rattle.rules.specs.Values.{ranged, wrongKind, outsideWindow}

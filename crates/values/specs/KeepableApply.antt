@@ -8,8 +8,8 @@ use lib.IntN.{ℤ, pos}
 use lib.ListN.{length, getD, length-map}
 use lib.Signed.{mag}
 use Rattle.language.specs.Cases.{by-cond}
-use Rattle.language.specs.Members.{row}
-use Rattle.language.specs.declared.members.Member.{Member}
+use Rattle.members.specs.Members.{row}
+use Rattle.members.specs.declared.Member.{Member}
 use Rattle.rules.specs.declared.Value.{Value}
 use Rattle.rules.specs.declared.Value.the-variants.{Number, Window, Function, Delayed, Missing}
 use Rattle.values.specs.declared.apply.Applied.{Applied}

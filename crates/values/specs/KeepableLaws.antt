@@ -14,8 +14,8 @@ use lib.Seq.{getD-take, getD-drop}
 use lib.Signed.{mag, ltZ}
 use Rattle.language.specs.Cases.{by-cond}
 use Rattle.language.specs.Limits.{leastNumber, mostNumber}
-use Rattle.language.specs.declared.members.Member.{Member}
-use Rattle.language.specs.declared.members.Member.the-variants.{Add, Sub, Mul, Div, Gt, Eq, Skip, Take, Count, Sum, Min, Max, At, CountWhere, LongestRun, SumBy}
+use Rattle.members.specs.declared.Member.{Member}
+use Rattle.members.specs.declared.Member.the-variants.{Add, Sub, Mul, Div, Gt, Eq, Skip, Take, Count, Sum, Min, Max, At, CountWhere, LongestRun, SumBy}
 use Rattle.rules.specs.declared.Value.{Value}
 use Rattle.rules.specs.declared.Value.the-variants.{Number, Window, Function, Delayed, Missing}
 use Rattle.rules.specs.Values.{ranged, flag, sameℤ}

@@ -7,7 +7,7 @@ use Prim.Native.Nat.{ℕ, suc, _+_, max, _≤_, _<_}
 use native.Mathlib.Omega.{arith}
 use lib.IntN.{ℤ, _+ℤ_, +ℤ-idl, +ℤ-idr, +ℤ-assoc}
 use lib.Signed.{mag}
-use Rattle.language.specs.declared.members.Member.{Member}
+use Rattle.members.specs.declared.Member.{Member}
 use Rattle.rules.specs.declared.Value.{Value}
 use Rattle.rules.specs.declared.Value.the-variants.{Number, Window, Function, Delayed, Missing}
 use Rattle.values.specs.declared.runs.Tally.{Tally}

@@ -1,8 +1,8 @@
 // The members on a number. Each works at 64 bits, where nothing is lost, and tests the range once, at the end.
 use rules::Value;
-use language::members::Member;
+use members::Member;
 ghost use mathlib.Core.Path.{_≡_};
-ghost use Rattle.language.specs.declared.members.Member.the-variants as Members;
+ghost use Rattle.members.specs.declared.Member.the-variants as Members;
 ghost use Rattle.rules.specs.Values.{ranged};
 ghost use Rattle.rules.specs.Rules.{onNumbers};
 

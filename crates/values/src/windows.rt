@@ -2,10 +2,10 @@
 // are there.
 use rules::Value;
 use crate::numbers::number;
-use language::members::Member;
+use members::Member;
 ghost use mathlib.Core.Path.{_≡_};
 ghost use Prim.Native.Nat.{_+_, _≤_};
-ghost use Rattle.language.specs.declared.members.Member.the-variants as Members;
+ghost use Rattle.members.specs.declared.Member.the-variants as Members;
 ghost use Rattle.rules.specs.Windows.{readingsIn, clipped, skipped, taken, unlessNegative, lesser, greater};
 ghost use Rattle.rules.specs.Rules.{ofWindow, onWindow};
 

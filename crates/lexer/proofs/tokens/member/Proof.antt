@@ -1,7 +1,7 @@
 -- Look-up of the bytes. Assumes nothing.
 use mathlib.Core.Path.{ap, _∙_}
 use borrow.Author.Needs.{needs}
-use Rattle.language.specs.Members.{memberOf}
+use Rattle.members.specs.Members.{memberOf}
 use Rattle.lexer.proofs.tokens.member.Statement.{statement}
 use Rattle.lexer.proofs.tokens.member.Tie as tie
 

@@ -13,13 +13,13 @@ use lib.Dec.{eqb, leb}
 use lib.ListN.{length, getD, take, drop, replicate, drop-of-length-le, length-take, length-append, length-replicate}
 use lib.Seq.{take-at, getD-take, ext-getD}
 use borrow.Author.Tests.{ne-eqb, eqb-true, eq-eqb, leb-true}
 use Rattle.language.specs.Names.{bytes}
-use Rattle.language.specs.Members.{row, members, memberNumber, foundIn, memberAt, sameBytes, namedIn, memberOf, nameOf, padded}
-use Rattle.language.specs.declared.members.Member.{Member}
-use Rattle.language.specs.declared.members.Member.the-variants.{Add, Sub, Mul, Div, Gt, Eq, Skip, Take, Count, Sum, Min, Max, At, CountWhere, LongestRun, SumBy}
-use Rattle.language.specs.declared.members.Name.{Name}
-use Rattle.language.specs.declared.members.Found.{Found}
-use Rattle.language.specs.declared.members.Found.the-variants.{Is, Unknown}
+use Rattle.members.specs.Members.{row, members, memberNumber, foundIn, memberAt, sameBytes, namedIn, memberOf, nameOf, padded}
+use Rattle.members.specs.declared.Member.{Member}
+use Rattle.members.specs.declared.Member.the-variants.{Add, Sub, Mul, Div, Gt, Eq, Skip, Take, Count, Sum, Min, Max, At, CountWhere, LongestRun, SumBy}
+use Rattle.members.specs.declared.Name.{Name}
+use Rattle.members.specs.declared.Found.{Found}
+use Rattle.members.specs.declared.Found.the-variants.{Is, Unknown}
 
 -- ---- a test that passes at every entry of a table
 

@@ -4,9 +4,9 @@ use Prim.Native.Nat.{ℕ, _-_, _≤_, _<_}
 use native.Mathlib.Omega.{arith}
 use lib.ListN.{getD}
 use borrow.Author.Count.{below-more}
-use Rattle.language.specs.MembersLaws.{other-length, other-byte, all-bytes}
-use Rattle.language.proofs.members.has_name.Statement.{statement}
-use Rattle.language.proofs.members.has_name.Tie as tie
+use Rattle.members.specs.MembersLaws.{other-length, other-byte, all-bytes}
+use Rattle.members.proofs.has_name.Statement.{statement}
+use Rattle.members.proofs.has_name.Tie as tie
 
 abbrev Inv-loop : tie.InvT-loop
 Inv-loop word bytes size i₀ i = (i ≤ size) × ((k : ℕ) → k < i → getD word k 0 ≡ getD bytes k 0)

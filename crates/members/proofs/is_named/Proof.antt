@@ -1,9 +1,9 @@
 -- The name of the member with that number, and no bytes where there is none. Assumes nothing.
 use mathlib.Core.Path.{sym, _∙_}
 use borrow.Author.Needs.{needs}
-use Rattle.language.specs.MembersLaws.{name-short, name-full, named-row, named-none}
-use Rattle.language.proofs.members.is_named.Statement.{statement}
-use Rattle.language.proofs.members.is_named.Tie as tie
+use Rattle.members.specs.MembersLaws.{name-short, name-full, named-row, named-none}
+use Rattle.members.proofs.is_named.Statement.{statement}
+use Rattle.members.proofs.is_named.Tie as tie
 
 member-at-requires : tie.Need-member-at-requires
 member-at-requires c κs = search needs

@@ -1,10 +1,10 @@
 -- Each arm's name is the definition's, byte by byte as antt computes it. Assumes nothing.
 use mathlib.Core.Path.{sym, ap}
 use borrow.Author.Needs.{needs}
 use Rattle.language.specs.Names.{bytes}
-use Rattle.language.specs.Members.{row, padded}
-use Rattle.language.proofs.members.name_of.Statement.{statement}
-use Rattle.language.proofs.members.name_of.Tie as tie
+use Rattle.members.specs.Members.{row, padded}
+use Rattle.members.proofs.name_of.Statement.{statement}
+use Rattle.members.proofs.name_of.Tie as tie
 
 enum-told : tie.Need-enum-told
 enum-told c = search needs

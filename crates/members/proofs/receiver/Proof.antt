@@ -1,9 +1,9 @@
 -- What the member's form says. Assumes nothing.
 use mathlib.Core.Path.{ap, _∙_}
 use borrow.Author.Needs.{needs}
-use Rattle.language.specs.Members.{receiverOf, row}
-use Rattle.language.proofs.members.receiver.Statement.{statement}
-use Rattle.language.proofs.members.receiver.Tie as tie
+use Rattle.members.specs.Members.{receiverOf, row}
+use Rattle.members.proofs.receiver.Statement.{statement}
+use Rattle.members.proofs.receiver.Tie as tie
 
 signature-of-requires : tie.Need-signature-of-requires
 signature-of-requires c κs = search needs

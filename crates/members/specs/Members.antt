@@ -5,16 +5,16 @@ use Prim.Native.Nat.{ℕ, zero, suc, _-_}
 use Prim.Native.String.{String}
 use lib.Dec.{eqb}
 use lib.ListN.{length, replicate}
 use Rattle.language.specs.Names.{bytes}
-use Rattle.language.specs.declared.members.Member.{Member}
-use Rattle.language.specs.declared.members.Member.the-variants.{Add, Sub, Mul, Div, Gt, Eq, Skip, Take, Count, Sum, Min, Max, At, CountWhere, LongestRun, SumBy}
-use Rattle.language.specs.declared.members.Kind.{Kind}
-use Rattle.language.specs.declared.members.Kind.the-variants as Kinds
-use Rattle.language.specs.declared.members.Signature.{Signature}
-use Rattle.language.specs.declared.members.Signature.the-variants.{Numbers, Window, WindowNumber, WindowFunction}
-use Rattle.language.specs.declared.members.Name.{Name}
-use Rattle.language.specs.declared.members.Found.{Found}
-use Rattle.language.specs.declared.members.Found.the-variants.{Is, Unknown}
+use Rattle.members.specs.declared.Member.{Member}
+use Rattle.members.specs.declared.Member.the-variants.{Add, Sub, Mul, Div, Gt, Eq, Skip, Take, Count, Sum, Min, Max, At, CountWhere, LongestRun, SumBy}
+use Rattle.members.specs.declared.Kind.{Kind}
+use Rattle.members.specs.declared.Kind.the-variants as Kinds
+use Rattle.members.specs.declared.Signature.{Signature}
+use Rattle.members.specs.declared.Signature.the-variants.{Numbers, Window, WindowNumber, WindowFunction}
+use Rattle.members.specs.declared.Name.{Name}
+use Rattle.members.specs.declared.Found.{Found}
+use Rattle.members.specs.declared.Found.the-variants.{Is, Unknown}
 
 -- a member's name, and what it is used on and with
 abbrev pub listed : Member → String × Signature

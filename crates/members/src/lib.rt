@@ -2,7 +2,7 @@
 ghost use mathlib.Core.Path.{_≡_};
 ghost use Prim.Native.Nat.{_≤_};
 ghost use lib.ListN.{length, take};
-ghost use Rattle.language.specs.Members.{listed, argumentsOf, receiverOf, argumentOf, row, memberNumber, memberAt, sameBytes, memberOf, nameOf, padded};
+ghost use Rattle.members.specs.Members.{listed, argumentsOf, receiverOf, argumentOf, row, memberNumber, memberAt, sameBytes, memberOf, nameOf, padded};
 
 pub enum Member {
     Add,

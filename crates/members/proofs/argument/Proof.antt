@@ -1,9 +1,9 @@
 -- What the member's form says. Assumes nothing.
 use mathlib.Core.Path.{ap, _∙_}
 use borrow.Author.Needs.{needs}
-use Rattle.language.specs.Members.{argumentOf, row}
-use Rattle.language.proofs.members.argument.Statement.{statement}
-use Rattle.language.proofs.members.argument.Tie as tie
+use Rattle.members.specs.Members.{argumentOf, row}
+use Rattle.members.proofs.argument.Statement.{statement}
+use Rattle.members.proofs.argument.Tie as tie
 
 signature-of-requires : tie.Need-signature-of-requires
 signature-of-requires c κs = search needs

@@ -4,10 +4,10 @@ use Prim.Native.Nat.{_-_, _≤_}
 use native.Mathlib.Omega.{arith}
 use lib.ListN.{length, drop}
 use borrow.Author.Needs.{needs}
-use Rattle.language.specs.Members.{members, namedIn, memberOf}
-use Rattle.language.specs.MembersLaws.{row-is, row-not, row-none}
-use Rattle.language.proofs.members.named.Statement.{statement}
-use Rattle.language.proofs.members.named.Tie as tie
+use Rattle.members.specs.Members.{members, namedIn, memberOf}
+use Rattle.members.specs.MembersLaws.{row-is, row-not, row-none}
+use Rattle.members.proofs.named.Statement.{statement}
+use Rattle.members.proofs.named.Tie as tie
 
 abbrev Inv-loop : tie.InvT-loop
 Inv-loop word n₀ n = (n ≤ length members) × (namedIn (drop n members) word ≡ memberOf word)

@@ -1,8 +1,8 @@
 -- Each number is matched with the member of its row; past the last there is none. Assumes nothing.
 use mathlib.Core.Path.{sym}
-use Rattle.language.specs.MembersLaws.{none-of, number-at, number-beyond}
-use Rattle.language.proofs.members.member_at.Statement.{statement}
-use Rattle.language.proofs.members.member_at.Tie as tie
+use Rattle.members.specs.MembersLaws.{none-of, number-at, number-beyond}
+use Rattle.members.proofs.member_at.Statement.{statement}
+use Rattle.members.proofs.member_at.Tie as tie
 
 pub member-at-spec : {M : Type 1} → statement M
 member-at-spec =

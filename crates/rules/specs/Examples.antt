@@ -1,0 +1,149 @@
+-- 01, "Members": small examples of the rules, each a member on what its dependencies came to, with what it comes to; one computed check over
+-- the list. Assumes nothing.
+use mathlib.Core.Path.{_≡_, refl}
+use mathlib.Core.Bool.{cond}
+use mathlib.Core.List.{List, [], _∷_, map}
+use lib.IntN.{ℤ, pos, negsuc, _-ℤ_}
+use Rattle.members.specs.Members
+use Rattle.members.specs.declared.Member.{Member}
+use Rattle.members.specs.declared.Member.the-variants.{Add, Sub, Mul, Div, Gt, Eq, Skip, Take, Count, Sum, Min, Max, At, CountWhere, LongestRun, SumBy}
+use Rattle.rules.specs.declared.Value.{Value}
+use Rattle.rules.specs.declared.Value.the-variants.{Number, Window, Function, Delayed, Missing}
+use Rattle.rules.specs.Values
+use Rattle.rules.specs.Values.{sameℤ}
+use Rattle.rules.specs.Numbers
+use Rattle.rules.specs.Windows
+use Rattle.rules.specs.Runs
+use Rattle.rules.specs.Rules
+use Rattle.rules.specs.Rules.{onNumbers}
+use Rattle.rules.specs.Apply
+use Rattle.rules.specs.Apply.{apply0, apply1}
+
+-- a member over a recording, with no argument, with a value, or with a function that gives a value for each reading
+pub data Application : Type 0 where
+  alone : Member → List ℤ → Value → Application
+  with : Member → List ℤ → Value → Value → Application
+  runs : Member → List ℤ → Value → (ℤ → Value) → Application
+
+unfoldable pub comesTo : Application → Value
+unfolding Members.row Values.ranged Numbers.divided Windows.total Windows.foldFrom Windows.extreme Runs.results Runs.countOf Runs.stretch
+    Runs.longest Rules.rule Rules.onNumbers Rules.ofWindow Rules.onWindow Rules.ofRuns Apply.rule0 Apply.rule1 Apply.apply0 Apply.apply1
+comesTo (alone m xs v) = apply0 m xs v
+comesTo (with m xs v w) = apply1 m xs v w (λ z. Missing 2)
+comesTo (runs m xs v f) = apply1 m xs v Function f
+
+-- ---- what the examples are made of
+
+abbrev recording : List ℤ
+recording = pos 140 ∷ pos 152 ∷ pos 160 ∷ pos 148 ∷ pos 155 ∷ []
+
+abbrev whole : Value
+whole = Window 0 5
+
+-- readings whose sum passes beyond signed 32 bits and comes back
+abbrev high : List ℤ
+high = pos 2147483647 ∷ pos 1 ∷ negsuc 0 ∷ []
+
+abbrev numbers : Member → ℤ → ℤ → Application
+numbers m a b = with m [] (Number a) (Number b)
+
+-- whether a reading is over 150
+abbrev over150 : ℤ → Value
+over150 z = onNumbers Gt z (pos 150)
+
+abbrev Example : Type 0
+Example = Application × Value
+
+-- ---- numbers
+abbrev onNumbersList : List Example
+onNumbersList =
+    (numbers Add (pos 2147483646) (pos 1), Number (pos 2147483647))
+    ∷ (numbers Add (pos 2147483647) (pos 1), Missing 4)
+    ∷ (numbers Sub (negsuc 2147483646) (pos 1), Number (negsuc 2147483647))
+    ∷ (numbers Sub (negsuc 2147483647) (pos 1), Missing 4)
+    ∷ (numbers Sub (pos 1) (pos 2), Number (negsuc 0))
+    ∷ (numbers Mul (negsuc 2) (pos 7), Number (negsuc 20))
+    ∷ (numbers Mul (pos 65536) (pos 32768), Missing 4)
+    ∷ (numbers Div (negsuc 6) (pos 2), Number (negsuc 2))
+    ∷ (numbers Div (pos 7) (negsuc 1), Number (negsuc 2))
+    ∷ (numbers Div (negsuc 6) (negsuc 1), Number (pos 3))
+    ∷ (numbers Div (negsuc 2147483647) (negsuc 0), Missing 4)
+    ∷ (numbers Div (pos 7) (pos 0), Missing 3)
+    ∷ (numbers Gt (pos 151) (pos 150), Number (pos 1))
+    ∷ (numbers Gt (pos 150) (pos 150), Number (pos 0))
+    ∷ (numbers Gt (negsuc 0) (pos 0), Number (pos 0))
+    ∷ (numbers Eq (negsuc 0) (negsuc 0), Number (pos 1))
+    ∷ (numbers Eq (pos 1) (negsuc 1), Number (pos 0))
+    ∷ []
+
+-- ---- windows
+abbrev onWindows : List Example
+onWindows =
+    (with Skip recording whole (Number (pos 1)), Window 1 4)
+    ∷ (with Skip recording (Window 1 4) (Number (pos 9)), Window 5 0)
+    ∷ (with Skip recording whole (Number (negsuc 0)), Missing 5)
+    ∷ (with Take recording (Window 1 4) (Number (pos 2)), Window 1 2)
+    ∷ (with Take recording (Window 1 4) (Number (pos 9)), Window 1 4)
+    ∷ (with Take recording whole (Number (negsuc 0)), Missing 5)
+    ∷ (alone Count recording (Window 1 4), Number (pos 4))
+    ∷ (alone Sum recording whole, Number (pos 755))
+    ∷ (alone Sum recording (Window 1 2), Number (pos 312))
+    ∷ (alone Sum recording (Window 5 0), Number (pos 0))
+    ∷ (alone Sum high (Window 0 3), Number (pos 2147483647))
+    ∷ (alone Sum high (Window 0 2), Missing 4)
+    ∷ (alone Min recording whole, Number (pos 140))
+    ∷ (alone Max recording whole, Number (pos 160))
+    ∷ (alone Min recording (Window 5 0), Missing 5)
+    ∷ (alone Max recording (Window 5 0), Missing 5)
+    ∷ (with At recording (Window 1 4) (Number (pos 0)), Number (pos 152))
+    ∷ (with At recording (Window 1 2) (Number (pos 2)), Missing 5)
+    ∷ (with At recording whole (Number (negsuc 0)), Missing 5)
+    ∷ []
+
+-- ---- runs: by reading, and the first that gives no number decides
+
+-- 152 divides by zero
+abbrev divides : ℤ → Value
+divides z = onNumbers Div (pos 1) (z -ℤ pos 152)
+
+-- 152 gives no number, and 160, which comes later, divides by zero
+abbrev windowFirst : ℤ → Value
+windowFirst z = cond (sameℤ z (pos 152)) whole (onNumbers Div (pos 1) (z -ℤ pos 160))
+
+abbrev onRuns : List Example
+onRuns =
+    (runs CountWhere recording whole over150, Number (pos 3))
+    ∷ (runs CountWhere recording whole Number, Number (pos 5))
+    ∷ (runs LongestRun recording whole over150, Number (pos 2))
+    ∷ (runs SumBy recording whole Number, Number (pos 755))
+    ∷ (runs SumBy high (Window 0 3) Number, Number (pos 2147483647))
+    ∷ (runs SumBy high (Window 0 2) Number, Missing 4)
+    ∷ (runs CountWhere recording whole divides, Missing 3)
+    ∷ (runs LongestRun recording whole divides, Missing 3)
+    ∷ (runs SumBy recording whole windowFirst, Missing 2)
+    ∷ (runs SumBy recording (Window 2 3) divides, Number (pos 0))
+    ∷ (runs CountWhere recording (Window 5 0) divides, Number (pos 0))
+    ∷ []
+
+-- ---- the first missing dependency, receiver first; then a delayed one; then the kinds
+abbrev onOthers : List Example
+onOthers =
+    (with Add [] (Missing 1) (Missing 3), Missing 1)
+    ∷ (with Add [] Delayed (Missing 3), Missing 3)
+    ∷ (with Add [] (Missing 1) Delayed, Missing 1)
+    ∷ (with Add [] Delayed whole, Delayed)
+    ∷ (with Add [] whole Delayed, Delayed)
+    ∷ (with Add recording (Number (pos 1)) whole, Missing 2)
+    ∷ (with Skip recording (Number (pos 1)) (Number (pos 1)), Missing 2)
+    ∷ (with CountWhere recording whole (Number (pos 1)), Missing 2)
+    ∷ (alone Sum recording (Number (pos 1)), Missing 2)
+    ∷ (alone Sum recording Delayed, Delayed)
+    ∷ (alone Sum recording (Missing 5), Missing 5)
+    ∷ []
+
+abbrev pub examples : List (List Example)
+examples = onNumbersList ∷ onWindows ∷ onRuns ∷ onOthers ∷ []
+
+pub examples-hold : map (map (λ e. comesTo (e .0))) examples ≡ map (map (λ e. e .1)) examples
+unfolding comesTo
+examples-hold = refl
