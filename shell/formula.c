@@ -30,8 +30,8 @@
 #define MOST_DEPTH 3
 
 /*
- * Runs of a function that an entry may take, by the time: a run takes 12 ns with the smallest body, and about 500
- * times that with the costliest measured (docs/INTEGRATION.md). Parts that may take more runs are not previewed.
+ * Runs of a function that an entry may take, by the time: docs/INTEGRATION.md has that of a run with the smallest body
+ * and with the costliest measured. Parts that may take more runs are not previewed.
  */
 #define MOST_RUNS 10000000
 
@@ -285,7 +285,7 @@ static const char *reason_words(int32_t reason)
         "a part of the wrong kind",
         "division by zero",
         "beyond 32 bits",
-        "a negative count, an index outside, or an empty window",
+        "a negative count, an index outside, an empty window, or no such stretch",
     };
     return reason >= 0 && reason < (int32_t)(sizeof words / sizeof words[0]) ? words[reason] : "an unknown reason";
 }

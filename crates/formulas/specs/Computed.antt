@@ -8,6 +8,7 @@ use Rattle.grammar.specs.Machine
 use Rattle.rules.specs.Values
 use Rattle.rules.specs.Numbers
 use Rattle.rules.specs.Windows
+use Rattle.rules.specs.Stretches
 use Rattle.rules.specs.Runs
 use Rattle.rules.specs.Rules
 use Rattle.rules.specs.Apply
@@ -24,8 +25,9 @@ unfolding parsed Names.bytes Names.packOnto Names.letWord Names.inWord! Names.da
     Tokens.markToken Tokens.tokenAt Tokens.scan Faults.faultNumber Faults.opened Faults.inLet Faults.inLambda Faults.lambdasOf Faults.lambdaNamed
     Faults.markFault Faults.lambdaFault Faults.letNameFault Faults.lambdaNameFault Faults.nameFault Faults.literalFault Faults.callFault Faults.fault
     Faults.counted Reading.placeIn Machine.step Machine.finish Machine.further Machine.ended Machine.judge Machine.readFrom Machine.read
-    Machine.readText Values.ranged Numbers.divided Windows.total Windows.foldFrom Windows.extreme
-    Runs.results Runs.countOf Runs.stretch Runs.longest Rules.rule Rules.onNumbers Rules.ofWindow Rules.onWindow Rules.ofRuns Apply.rule0 Apply.rule1 Apply.apply0 Apply.apply1 Forms.shapeOf
+    Machine.readText Values.ranged Numbers.divided Windows.total Windows.foldFrom Windows.extreme Stretches.stretchesFrom Stretches.sums
+    Stretches.firstAt Stretches.bestSum Stretches.bestAt Runs.results Runs.countOf Runs.stretch Runs.longest Rules.rule Rules.onNumbers
+    Rules.ofWindow Rules.onWindow Rules.ofRuns Apply.rule0 Apply.rule1 Apply.apply0 Apply.apply1 Forms.shapeOf
     Forms.integerOf Forms.nameOf Forms.memberOf Forms.firstOf Forms.secondOf Forms.same Forms.within Forms.works Binding.lookUp Binding.named
     Binding.member Binding.formE Binding.called Binding.placesE Binding.orderE Evaluation.valueOf Evaluation.runOf Evaluation.lookup
     Evaluation.settled Evaluation.evaluate Evaluation.hasName Evaluation.joined Evaluation.without Evaluation.awaited Evaluation.shows Lists.countIf

@@ -1,5 +1,5 @@
 -- 01, "Sample previews": the starred samples, as sessions of the reference model, and one computed check over the list; and likewise samples
--- of hiding.
+-- of hiding, and of 02, T-01.
 -- Assumes nothing.
 use mathlib.Core.Path.{_≡_, refl}
 use mathlib.Core.Bool.{true}
@@ -76,3 +76,21 @@ hiding =
 pub hiding-holds : map (heard (start formulas recording)) hiding ≡ map expected hiding
 unfolding heard expected run
 hiding-holds = refl
+
+-- 02, T-01: the best stretch of a window, its sum and where it begins
+abbrev pub stretches : List (List Sample)
+stretches =
+    (record { text = bytes "data.bestSum(2)"; whole = 2; parts = 3; new = 3; places = 0 ∷ 2 ∷ 1 ∷ []; worked = 1; shown = aNumber (pos 312) }
+    ∷ record { text = bytes "data.bestAt(2)"; whole = 3; parts = 3; new = 1; places = 0 ∷ 3 ∷ 1 ∷ []; worked = 1; shown = aNumber (pos 1) }
+    ∷ record { text = bytes "data.bestSum(5)"; whole = 5; parts = 3; new = 2; places = 0 ∷ 5 ∷ 4 ∷ []; worked = 1; shown = aNumber (pos 755) }
+    ∷ record { text = bytes "data.bestAt(5)"; whole = 6; parts = 3; new = 1; places = 0 ∷ 6 ∷ 4 ∷ []; worked = 1; shown = aNumber (pos 0) } ∷ [])
+    ∷ (record { text = bytes "data.skip(3).bestAt(1)"; whole = 4; parts = 5; new = 5; places = 0 ∷ 2 ∷ 1 ∷ 4 ∷ 3 ∷ []; worked = 2; shown = aNumber (pos 1) } ∷ [])
+    ∷ (record { text = bytes "data.bestSum(0)"; whole = 2; parts = 3; new = 3; places = 0 ∷ 2 ∷ 1 ∷ []; worked = 1; shown = aReason 5 } ∷ [])
+    ∷ (record { text = bytes "data.bestAt(-1)"; whole = 2; parts = 3; new = 3; places = 0 ∷ 2 ∷ 1 ∷ []; worked = 1; shown = aReason 5 } ∷ [])
+    ∷ (record { text = bytes "data.bestSum(6)"; whole = 2; parts = 3; new = 3; places = 0 ∷ 2 ∷ 1 ∷ []; worked = 1; shown = aReason 5 } ∷ [])
+    ∷ (record { text = bytes "data.sumBy(\\w -> data.take(3).bestSum(w.sub(w).add(2)))"; whole = 9; parts = 12; new = 10; places = 0 ∷ 9 ∷ 8 ∷ 0 ∷ 2 ∷ 1 ∷ 7 ∷ 3 ∷ 4 ∷ 3 ∷ 6 ∷ 5 ∷ []; worked = 6; shown = aNumber (pos 1560) } ∷ [])
+    ∷ []
+
+pub stretches-hold : map (heard (start formulas recording)) stretches ≡ map expected stretches
+unfolding heard expected run
+stretches-hold = refl

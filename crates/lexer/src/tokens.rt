@@ -1,8 +1,8 @@
 // Tokens from the lent bytes, at a place. Nothing is copied: a token is its kind and where it stands.
 use language::limits::Text;
+use language::names;
 use members;
 use members::Found;
-use language::names;
 ghost use mathlib.Core.Path.{_≡_};
 ghost use Prim.Native.Nat.{_+_, _*_, _-_, _<_, _≤_, min};
 ghost use lib.IntN.{pos, negℤ};

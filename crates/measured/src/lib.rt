@@ -7,12 +7,13 @@ use scheduler::works;
 use table::chain;
 use table::check;
 use values::packing::pack;
+use values::stretches;
 use values::windows;
 ghost use mathlib.Core.Path.{_≡_};
 ghost use mathlib.Core.List.{[]};
 ghost use Rattle.members.specs.declared.Member.the-variants as Members;
 ghost use Rattle.values.specs.Packing.{packOf};
-ghost use Rattle.rules.specs.Rules.{ofWindow};
+ghost use Rattle.rules.specs.Rules.{ofWindow, onWindow};
 ghost use Rattle.table.specs.WellFormed.{wellFormed};
 ghost use Rattle.table.specs.Checked.{memory};
 ghost use Rattle.measured.specs.Measures.{flag, readNumber, ReadInto, canBind, boundNumber, bindNumber, packedWork, canWork, Worked};
@@ -39,6 +40,14 @@ pub extern "C" fn measured_greatest(readings: &[i32], start: u16, length: u16) -
     ensures { λ r. ⌜ r ≡ packOf (ofWindow Members.Max (now (readings .entry)) start length) ⌝ }
 {
     pack(windows::greatest(readings, start, length))
+}
+
+// The greatest sum of so many readings of a window next to each other.
+#[no_mangle]
+pub extern "C" fn measured_best_sum(readings: &[i32], start: u16, length: u16, width: i32) -> u64
+    ensures { λ r. ⌜ r ≡ packOf (onWindow Members.BestSum (now (readings .entry)) start length width) ⌝ }
+{
+    pack(stretches::best_sum(readings, start, length, width))
 }
 
 // What reading a text came to, as one number.

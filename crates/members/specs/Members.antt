@@ -1,4 +1,4 @@
--- 01, "Members": the table of the members, a row for each, in 01's order. Assumes nothing: these are definitions.
+-- 01, "Members", and 02, T-01: the table of the members, a row for each, in the papers' order. Assumes nothing: these are definitions.
 use mathlib.Core.Bool.{Bool, true, false, _&&_, cond}
 use mathlib.Core.List.{List, [], _∷_, _++_}
 use Prim.Native.Nat.{ℕ, zero, suc, _-_}
@@ -7,7 +7,7 @@ use lib.Dec.{eqb}
 use lib.ListN.{length, replicate}
 use Rattle.language.specs.Names.{bytes}
 use Rattle.members.specs.declared.Member.{Member}
-use Rattle.members.specs.declared.Member.the-variants.{Add, Sub, Mul, Div, Gt, Eq, Skip, Take, Count, Sum, Min, Max, At, CountWhere, LongestRun, SumBy}
+use Rattle.members.specs.declared.Member.the-variants.{Add, Sub, Mul, Div, Gt, Eq, Skip, Take, Count, Sum, Min, Max, At, CountWhere, LongestRun, SumBy, BestSum, BestAt}
 use Rattle.members.specs.declared.Kind.{Kind}
 use Rattle.members.specs.declared.Kind.the-variants as Kinds
 use Rattle.members.specs.declared.Signature.{Signature}
@@ -16,24 +16,26 @@ use Rattle.members.specs.declared.Name.{Name}
 use Rattle.members.specs.declared.Found.{Found}
 use Rattle.members.specs.declared.Found.the-variants.{Is, Unknown}
 
--- a member's name, and what it is used on and with
-abbrev pub listed : Member → String × Signature
-listed Add = ("add", Numbers)
-listed Sub = ("sub", Numbers)
-listed Mul = ("mul", Numbers)
-listed Div = ("div", Numbers)
-listed Gt = ("gt", Numbers)
-listed Eq = ("eq", Numbers)
-listed Skip = ("skip", WindowNumber)
-listed Take = ("take", WindowNumber)
-listed Count = ("count", Window)
-listed Sum = ("sum", Window)
-listed Min = ("min", Window)
-listed Max = ("max", Window)
-listed At = ("at", WindowNumber)
-listed CountWhere = ("countWhere", WindowFunction)
-listed LongestRun = ("longestRun", WindowFunction)
-listed SumBy = ("sumBy", WindowFunction)
+-- a member's row: its number, which is its place in the table, its name, and what it is used on and with
+abbrev pub listed : Member → ℕ × String × Signature
+listed Add = (0, "add", Numbers)
+listed Sub = (1, "sub", Numbers)
+listed Mul = (2, "mul", Numbers)
+listed Div = (3, "div", Numbers)
+listed Gt = (4, "gt", Numbers)
+listed Eq = (5, "eq", Numbers)
+listed Skip = (6, "skip", WindowNumber)
+listed Take = (7, "take", WindowNumber)
+listed Count = (8, "count", Window)
+listed Sum = (9, "sum", Window)
+listed Min = (10, "min", Window)
+listed Max = (11, "max", Window)
+listed At = (12, "at", WindowNumber)
+listed CountWhere = (13, "countWhere", WindowFunction)
+listed LongestRun = (14, "longestRun", WindowFunction)
+listed SumBy = (15, "sumBy", WindowFunction)
+listed BestSum = (16, "bestSum", WindowNumber)
+listed BestAt = (17, "bestAt", WindowNumber)
 
 abbrev pub argumentsOf : Signature → ℕ
 argumentsOf Numbers = 1
@@ -62,33 +64,17 @@ pub record Row : Type 0 where
 
 unfoldable pub row : Member → Row
 row m = record {
-  name = bytes (listed m .0);
-  arguments = argumentsOf (listed m .1);
-  receiver = receiverOf (listed m .1);
-  argument = argumentOf (listed m .1);
+  name = bytes (listed m .1);
+  arguments = argumentsOf (listed m .2);
+  receiver = receiverOf (listed m .2);
+  argument = argumentOf (listed m .2);
 }
 
 abbrev pub members : List Member
-members = Add ∷ Sub ∷ Mul ∷ Div ∷ Gt ∷ Eq ∷ Skip ∷ Take ∷ Count ∷ Sum ∷ Min ∷ Max ∷ At ∷ CountWhere ∷ LongestRun ∷ SumBy ∷ []
+members = Add ∷ Sub ∷ Mul ∷ Div ∷ Gt ∷ Eq ∷ Skip ∷ Take ∷ Count ∷ Sum ∷ Min ∷ Max ∷ At ∷ CountWhere ∷ LongestRun ∷ SumBy ∷ BestSum ∷ BestAt ∷ []
 
--- a member's number is its place in the table
 abbrev pub memberNumber : Member → ℕ
-memberNumber Add = 0
-memberNumber Sub = 1
-memberNumber Mul = 2
-memberNumber Div = 3
-memberNumber Gt = 4
-memberNumber Eq = 5
-memberNumber Skip = 6
-memberNumber Take = 7
-memberNumber Count = 8
-memberNumber Sum = 9
-memberNumber Min = 10
-memberNumber Max = 11
-memberNumber At = 12
-memberNumber CountWhere = 13
-memberNumber LongestRun = 14
-memberNumber SumBy = 15
+memberNumber m = listed m .0
 
 abbrev pub foundIn : List Member → ℕ → Found
 foundIn [] n = Unknown

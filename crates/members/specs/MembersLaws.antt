@@ -16,7 +16,7 @@ use borrow.Author.Tests.{ne-eqb, eqb-true, eq-eqb, leb-true}
 use Rattle.language.specs.Names.{bytes}
 use Rattle.members.specs.Members.{row, members, memberNumber, foundIn, memberAt, sameBytes, namedIn, memberOf, nameOf, padded}
 use Rattle.members.specs.declared.Member.{Member}
-use Rattle.members.specs.declared.Member.the-variants.{Add, Sub, Mul, Div, Gt, Eq, Skip, Take, Count, Sum, Min, Max, At, CountWhere, LongestRun, SumBy}
+use Rattle.members.specs.declared.Member.the-variants.{Add, Sub, Mul, Div, Gt, Eq, Skip, Take, Count, Sum, Min, Max, At, CountWhere, LongestRun, SumBy, BestSum, BestAt}
 use Rattle.members.specs.declared.Name.{Name}
 use Rattle.members.specs.declared.Found.{Found}
 use Rattle.members.specs.declared.Found.the-variants.{Is, Unknown}
@@ -67,6 +67,8 @@ number-found At = refl
 number-found CountWhere = refl
 number-found LongestRun = refl
 number-found SumBy = refl
+number-found BestSum = refl
+number-found BestAt = refl
 
 pub number-at : (m : Member) (n : ℕ) → n ≡ memberNumber m → Is m ≡ memberAt n
 number-at m n e = sym (number-found m) ∙ ap memberAt (sym e)

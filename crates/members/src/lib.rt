@@ -21,6 +21,8 @@ pub enum Member {
     CountWhere,
     LongestRun,
     SumBy,
+    BestSum,
+    BestAt,
 }
 
 // What a member is used on, and with.
@@ -48,7 +50,7 @@ pub enum Signature {
 struct Name(pub [u8; 12], pub u8);
 
 // How many members there are.
-pub const MEMBERS: usize = 16;
+pub const MEMBERS: usize = 18;
 
 // The member of a number.
 pub fn member_at(n: u8) -> Found
@@ -71,6 +73,8 @@ pub fn member_at(n: u8) -> Found
         13 => Found::Is(Member::CountWhere),
         14 => Found::Is(Member::LongestRun),
         15 => Found::Is(Member::SumBy),
+        16 => Found::Is(Member::BestSum),
+        17 => Found::Is(Member::BestAt),
         _ => Found::Unknown,
     }
 }
@@ -96,6 +100,8 @@ pub fn number_of(m: Member) -> u8
         Member::CountWhere => 13,
         Member::LongestRun => 14,
         Member::SumBy => 15,
+        Member::BestSum => 16,
+        Member::BestAt => 17,
     }
 }
 
@@ -121,12 +127,14 @@ fn name_of(m: Member) -> Name
         Member::CountWhere => Name(*b"countWhere\0\0", 10),
         Member::LongestRun => Name(*b"longestRun\0\0", 10),
         Member::SumBy => Name(*b"sumBy\0\0\0\0\0\0\0", 5),
+        Member::BestSum => Name(*b"bestSum\0\0\0\0\0", 7),
+        Member::BestAt => Name(*b"bestAt\0\0\0\0\0\0", 6),
     }
 }
 
 // What a member is used on and with.
 fn signature_of(m: Member) -> Signature
-    ensures { λ r. ⌜ r ≡ listed m .1 ⌝ }
+    ensures { λ r. ⌜ r ≡ listed m .2 ⌝ }
 {
     match m {
         Member::Add => Signature::Numbers,
@@ -145,6 +153,8 @@ fn signature_of(m: Member) -> Signature
         Member::CountWhere => Signature::WindowFunction,
         Member::LongestRun => Signature::WindowFunction,
         Member::SumBy => Signature::WindowFunction,
+        Member::BestSum => Signature::WindowNumber,
+        Member::BestAt => Signature::WindowNumber,
     }
 }
 

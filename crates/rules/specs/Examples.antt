@@ -1,4 +1,4 @@
--- 01, "Members": small examples of the rules, each a member on what its dependencies came to, with what it comes to; one computed check over
+-- 01, "Members", and 02, T-01: small examples of the rules, each a member on what its dependencies came to, with what it comes to; one computed check over
 -- the list. Assumes nothing.
 use mathlib.Core.Path.{_≡_, refl}
 use mathlib.Core.Bool.{cond}
@@ -6,13 +6,14 @@ use mathlib.Core.List.{List, [], _∷_, map}
 use lib.IntN.{ℤ, pos, negsuc, _-ℤ_}
 use Rattle.members.specs.Members
 use Rattle.members.specs.declared.Member.{Member}
-use Rattle.members.specs.declared.Member.the-variants.{Add, Sub, Mul, Div, Gt, Eq, Skip, Take, Count, Sum, Min, Max, At, CountWhere, LongestRun, SumBy}
+use Rattle.members.specs.declared.Member.the-variants.{Add, Sub, Mul, Div, Gt, Eq, Skip, Take, Count, Sum, Min, Max, At, CountWhere, LongestRun, SumBy, BestSum, BestAt}
 use Rattle.rules.specs.declared.Value.{Value}
 use Rattle.rules.specs.declared.Value.the-variants.{Number, Window, Function, Delayed, Missing}
 use Rattle.rules.specs.Values
 use Rattle.rules.specs.Values.{sameℤ}
 use Rattle.rules.specs.Numbers
 use Rattle.rules.specs.Windows
+use Rattle.rules.specs.Stretches
 use Rattle.rules.specs.Runs
 use Rattle.rules.specs.Rules
 use Rattle.rules.specs.Rules.{onNumbers}
@@ -26,7 +27,8 @@ pub data Application : Type 0 where
   runs : Member → List ℤ → Value → (ℤ → Value) → Application
 
 unfoldable pub comesTo : Application → Value
-unfolding Members.row Values.ranged Numbers.divided Windows.total Windows.foldFrom Windows.extreme Runs.results Runs.countOf Runs.stretch
+unfolding Members.row Values.ranged Numbers.divided Windows.total Windows.foldFrom Windows.extreme Stretches.stretchesFrom Stretches.sums Stretches.firstAt
+    Stretches.bestSum Stretches.bestAt Runs.results Runs.countOf Runs.stretch
     Runs.longest Rules.rule Rules.onNumbers Rules.ofWindow Rules.onWindow Rules.ofRuns Apply.rule0 Apply.rule1 Apply.apply0 Apply.apply1
 comesTo (alone m xs v) = apply0 m xs v
 comesTo (with m xs v w) = apply1 m xs v w (λ z. Missing 2)
@@ -100,6 +102,54 @@ onWindows =
     ∷ (with At recording whole (Number (negsuc 0)), Missing 5)
     ∷ []
 
+-- ---- stretches
+
+-- two stretches of two that are 4, and one whose sum is below signed 32 bits before them
+abbrev tied : List ℤ
+tied = negsuc 2147483647 ∷ negsuc 2147483647 ∷ pos 3 ∷ pos 1 ∷ pos 3 ∷ []
+
+-- the greatest stretch of two is 2147483647, and one of three is beyond signed 32 bits
+abbrev most : List ℤ
+most = negsuc 4 ∷ pos 2147483640 ∷ pos 7 ∷ pos 1 ∷ []
+
+abbrev low : List ℤ
+low = negsuc 4 ∷ negsuc 1 ∷ negsuc 6 ∷ []
+
+-- the first and the last would be the greatest stretch of two, if they were next to each other
+abbrev ends : List ℤ
+ends = pos 9 ∷ pos 1 ∷ pos 8 ∷ []
+
+-- every stretch of two is below signed 32 bits
+abbrev lowest : List ℤ
+lowest = negsuc 2147483647 ∷ negsuc 0 ∷ negsuc 2147483647 ∷ []
+
+abbrev both : List ℤ → Value → ℤ → Value → Value → List Example
+both xs v w sum at = (with BestSum xs v (Number w), sum) ∷ (with BestAt xs v (Number w), at) ∷ []
+
+abbrev onStretches : List (List Example)
+onStretches =
+    both recording whole (pos 2) (Number (pos 312)) (Number (pos 1))
+    ∷ both recording whole (pos 5) (Number (pos 755)) (Number (pos 0))
+    ∷ both recording whole (pos 1) (Number (pos 160)) (Number (pos 2))
+    ∷ both recording whole (pos 0) (Missing 5) (Missing 5)
+    ∷ both recording whole (negsuc 0) (Missing 5) (Missing 5)
+    ∷ both recording whole (pos 6) (Missing 5) (Missing 5)
+    ∷ both recording (Window 3 2) (pos 1) (Number (pos 155)) (Number (pos 1))
+    ∷ both recording (Window 3 2) (pos 3) (Missing 5) (Missing 5)
+    ∷ both recording (Window 5 0) (pos 1) (Missing 5) (Missing 5)
+    ∷ both tied whole (pos 2) (Number (pos 4)) (Number (pos 2))
+    ∷ both tied whole (pos 1) (Number (pos 3)) (Number (pos 2))
+    ∷ both low (Window 0 3) (pos 2) (Number (negsuc 6)) (Number (pos 0))
+    ∷ both low (Window 0 3) (pos 1) (Number (negsuc 1)) (Number (pos 1))
+    ∷ both most (Window 0 4) (pos 2) (Number (pos 2147483647)) (Number (pos 1))
+    ∷ both most (Window 0 4) (pos 3) (Missing 4) (Number (pos 1))
+    ∷ both most (Window 0 4) (pos 4) (Number (pos 2147483643)) (Number (pos 0))
+    ∷ both high (Window 0 3) (pos 3) (Number (pos 2147483647)) (Number (pos 0))
+    ∷ both ends (Window 0 3) (pos 2) (Number (pos 10)) (Number (pos 0))
+    ∷ both lowest (Window 0 3) (pos 2) (Missing 4) (Number (pos 0))
+    ∷ both lowest (Window 0 3) (pos 1) (Number (negsuc 0)) (Number (pos 1))
+    ∷ []
+
 -- ---- runs: by reading, and the first that gives no number decides
 
 -- 152 divides by zero
@@ -142,7 +192,7 @@ onOthers =
     ∷ []
 
 abbrev pub examples : List (List Example)
-examples = onNumbersList ∷ onWindows ∷ onRuns ∷ onOthers ∷ []
+examples = onNumbersList ∷ onWindows ∷ onRuns ∷ onOthers ∷ onStretches
 
 pub examples-hold : map (map (λ e. comesTo (e .0))) examples ≡ map (map (λ e. e .1)) examples
 unfolding comesTo

@@ -1,15 +1,16 @@
--- 01, "Members": the rule of each member, in 01's order. Assumes nothing: these are definitions.
+-- 01, "Members", and 02, T-01: the rule of each member, in the papers' order. Assumes nothing: these are definitions.
 use mathlib.Core.List.{List}
 use Prim.Native.Nat.{ℕ}
 use lib.IntN.{ℤ, pos, _+ℤ_, _-ℤ_, _*ℤ_}
 use lib.Signed.{ltZ}
 use Rattle.members.specs.declared.Member.{Member}
-use Rattle.members.specs.declared.Member.the-variants.{Add, Sub, Mul, Div, Gt, Eq, Skip, Take, Count, Sum, Min, Max, At, CountWhere, LongestRun, SumBy}
+use Rattle.members.specs.declared.Member.the-variants.{Add, Sub, Mul, Div, Gt, Eq, Skip, Take, Count, Sum, Min, Max, At, CountWhere, LongestRun, SumBy, BestSum, BestAt}
 use Rattle.rules.specs.declared.Value.{Value}
 use Rattle.rules.specs.declared.Value.the-variants.{Number, Missing}
 use Rattle.rules.specs.Values.{ranged, flag, sameℤ, wrongKind}
 use Rattle.rules.specs.Numbers.{divided}
 use Rattle.rules.specs.Windows.{readingsIn, skipped, taken, reading, unlessNegative, total, lesser, greater, extreme}
+use Rattle.rules.specs.Stretches.{bestSum, bestAt}
 use Rattle.rules.specs.Runs.{Results, numbers, because, results, Summary, summary}
 
 -- a rule, by the kinds of what it is used on and with: a window is given as the recording, its start and its length, and a function as what
@@ -37,6 +38,8 @@ rule At = windowNumber (λ xs s l n. unlessNegative n (reading (readingsIn xs s 
 rule CountWhere = windowRuns (λ r. Number (pos (r .count)))
 rule LongestRun = windowRuns (λ r. Number (pos (r .longest)))
 rule SumBy = windowRuns (λ r. ranged (r .total))
+rule BestSum = windowNumber (λ xs s l n. bestSum (readingsIn xs s l) n)
+rule BestAt = windowNumber (λ xs s l n. bestAt (readingsIn xs s l) n)
 
 -- ---- a rule on what it is given: reason 2 for a rule of other kinds
 

@@ -1,6 +1,6 @@
-// Runs the sample previews of 01, and its small examples of calls that are declined. For each text it writes a line: what the edit
+// Runs the sample previews of 01 and 02, and 01's small examples of calls that are declined. For each text it writes a line: what the edit
 // answers; what the whole text then shows, with the readings of a shown window; and how many entries that preview worked out.
-// The file `stdout` is written by hand from 01.
+// The file `stdout` is written by hand from these papers.
 mod say;
 
 use calls::edit::edit;
@@ -241,6 +241,16 @@ fn memory() {
     );
 }
 
+// The texts, one to a line, each over a cache of its own.
+fn sessions(recording: &[i32], texts: &[u8]) {
+    let mut at: usize = 0;
+    while at < texts.len() {
+        let end = text_end(texts, at);
+        session(recording, &texts[at..end]);
+        at = end + 1;
+    }
+}
+
 fn main() {
     let run = [140, 152, 160, 148, 155];
     // Sample previews
@@ -248,19 +258,27 @@ fn main() {
         &run,
         b"let x = 2 in data.skip(1).take(x)\nlet x = 3 in data.skip(1).take(x)",
     );
-    session(&run, b"data.countWhere(\\b -> b.gt(150))");
-    session(&run, b"data.sum()");
-    session(&run, b"data.longestRun(\\b -> b.gt(145))");
-    session(&run, b"data.sumBy(\\p -> data.countWhere(\\q -> q.gt(p)))");
-    session(&run, b"-7.div(2)");
-    session(&run, b"-2147483648.div(-1)");
-    session(&run, b"7.div(0)");
-    session(&run, b"let u = 1.div(0) in 6");
-    session(&run, b"let y = b in \\b -> y");
-    session(&run, b"data.take(0).countWhere(\\b -> b.div(0))");
-    session(&run, b"data.take(0).countWhere(\\b -> 1.div(0))");
+    sessions(
+        &run,
+        b"data.countWhere(\\b -> b.gt(150))\ndata.sum()\ndata.longestRun(\\b -> b.gt(145))\ndata.sumBy(\\p -> data.countWhere(\\q -> q.gt(p)))",
+    );
+    sessions(&run, b"-7.div(2)\n-2147483648.div(-1)\n7.div(0)");
+    sessions(&run, b"let u = 1.div(0) in 6\nlet y = b in \\b -> y");
+    sessions(
+        &run,
+        b"data.take(0).countWhere(\\b -> b.div(0))\ndata.take(0).countWhere(\\b -> 1.div(0))",
+    );
     session(&run, b"data.skip(9)\ndata.skip(9).min()");
     session(&run, b"1.add(data)");
+    // The best stretch
+    session(
+        &run,
+        b"data.bestSum(2)\ndata.bestAt(2)\ndata.bestSum(5)\ndata.bestAt(5)\ndata.bestSum(0)\ndata.bestAt(-1)\ndata.bestSum(6)\ndata.skip(3).bestAt(1)",
+    );
+    session(
+        &[2147483647, -1, 1, 2147483647],
+        b"data.bestSum(3)\ndata.bestSum(2)\ndata.bestAt(2)\ndata.bestAt(1)",
+    );
     // A lambda that runs inside another of the same name
     session(
         &[0, 2, 3],
@@ -270,8 +288,10 @@ fn main() {
     by_entry(&run, b"let x = 2 in data.skip(1).take(x)");
     by_entry(&run, b"data.sumBy(\\p -> data.countWhere(\\q -> q.gt(p)))");
     // Taken
-    session(&run, b"((((((((((((((((1))))))))))))))))");
-    session(&run, b"let distance = 5 in distance");
+    sessions(
+        &run,
+        b"((((((((((((((((1))))))))))))))))\nlet distance = 5 in distance",
+    );
     full(&run);
     // When a call is declined
     session(&run, &[b' '; 1025]);
@@ -279,10 +299,6 @@ fn main() {
     memory();
     session(
         &run,
-        b"data.\n2147483648\nheartrate\nlet data = 1 in 2\ndata.skip()",
-    );
-    session(
-        &run,
-        b"\\a -> \\b -> \\c -> 1\n\\a -> \\a -> 1\n(((((((((((((((((",
+        b"data.\n2147483648\nheartrate\nlet data = 1 in 2\ndata.skip()\n\\a -> \\b -> \\c -> 1\n\\a -> \\a -> 1\n(((((((((((((((((",
     );
 }

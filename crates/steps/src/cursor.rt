@@ -1,11 +1,11 @@
 // The cursor over a text, and what is refused at a token. Each function is the function of its name in descent's Cursor; the tokens that are
 // left are those from the cursor's place on.
 use language::limits::Text;
-use members;
-use members::Found;
 use layout::nodes::Shape;
 use lexer::tokens;
 use lexer::tokens::Lexed;
+use members;
+use members::Found;
 ghost use mathlib.Core.Path.{_≡_};
 ghost use mathlib.Core.Bool.{cond, _&&_};
 ghost use Prim.Native.Nat.{suc, _≤_, _<_};

@@ -14,7 +14,7 @@ use Rattle.members.specs.declared.Member.{Member}
 use Rattle.members.specs.declared.Found.the-variants.{Is}
 use Rattle.meaning.specs.Forms.{Form, ask, call}
 use Rattle.layout.specs.Memory.{Node, node}
-use Rattle.layout.specs.Nodes.{numberKind, variableKind, unboundKind, readingsKind, functionKind, memberKind, memberOfKind, memberForm, arity, build}
+use Rattle.layout.specs.Nodes.{kindCount, numberKind, variableKind, unboundKind, readingsKind, functionKind, memberKind, memberOfKind, memberForm, arity, build}
 use Rattle.table.specs.WellFormed.{keyRight}
 use Rattle.table.specs.Right.{nodeRight}
 use Rattle.table.specs.RightLaws.{right-kind, right-key, first-given}
@@ -82,7 +82,7 @@ record OfKind (k : ℕ) : Type 0 where
   is : memberOfKind k ≡ Is member
   kind : k ≡ memberKind member
 
-of-kind : (k : ℕ) → 5 ≤ k → k < 21 → OfKind k
+of-kind : (k : ℕ) → 5 ≤ k → k < kindCount → OfKind k
 unfolding memberOfKind memberAt
 of-kind k l h =
     let w = numbered members 0 (k - 5) refl (omega arith) in
@@ -135,4 +135,4 @@ module _ (i : ℕ) (n : Node) (r : nodeRight i n ≡ true) where
       made 4 (n .key) (suc (n .first - 1)) 0 e refl (first-is (λ z. omega arith)) (no-second i n r a) (aFunction (n .key) (n .first - 1)))
       (λ w.
       let l = none-of 5 k (((((tt, eqb-false k 0 p), eqb-false k 1 q), eqb-false k 2 u), eqb-false k 3 v), eqb-false k 4 w) in
-      of-member (of-kind k l (ltb-true k 21 (right-kind i n r))) (eqb-true (n .key) 0 (rw (p, q, u, w) at (right-key i n r))))))))
+      of-member (of-kind k l (ltb-true k kindCount (right-kind i n r))) (eqb-true (n .key) 0 (rw (p, q, u, w) at (right-key i n r))))))))

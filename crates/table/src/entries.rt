@@ -1,7 +1,4 @@
 // One entry: whether its kind, its key and its dependencies are right (01, refusal 4).
-use members::Found;
-use members::arguments;
-use members::member_at;
 use language::names::in_word;
 use language::names::is_letter;
 use layout::cells::first_of;
@@ -9,6 +6,9 @@ use layout::cells::key_of;
 use layout::cells::kind_of;
 use layout::cells::second_of;
 use layout::nodes::Shape;
+use members::Found;
+use members::arguments;
+use members::member_at;
 ghost use mathlib.Core.Path.{_≡_};
 ghost use Prim.Native.Nat.{_%_};
 ghost use Rattle.layout.specs.Nodes.{memberOfKind, memberArity, arity, wordNumber, isName};

@@ -21,7 +21,8 @@ use Rattle.values.specs.Ranges.{in-range}
 use Rattle.rules.specs.Numbers.{quotient, divided}
 use Rattle.rules.specs.Rules.{rule, onNumbers}
 use Rattle.values.proofs.Tables.{tag, besides, last-arm}
-use Rattle.values.proofs.Signed.{cast-is, widens, wide, result-fits, result-is, sum-64, difference-64, product-64, quotient-64, read-lt, read-eq, same-yes, same-no, bits-above}
+use Rattle.values.specs.Order.{same-yes, same-no}
+use Rattle.values.proofs.Signed.{cast-is, widens, wide, result-fits, result-is, sum-64, difference-64, product-64, quotient-64, read-lt, read-eq, bits-above}
 
 -- ---- the range of a number
 

@@ -24,7 +24,8 @@ use Rattle.values.specs.Tallies.{noted, halted, entered, stepped, summed
 use Rattle.values.specs.TallyLaws.{stopped-steps, going-steps, Small, within-more, within-noted, within-stepped}
 use Rattle.rules.proofs.Value as Variants
 use Rattle.values.proofs.Tables.{tag, besides, last-arm}
-use Rattle.values.proofs.Signed.{widens, wide, wide-is, read-eq, same-yes, same-no}
+use Rattle.values.specs.Order.{same-yes, same-no}
+use Rattle.values.proofs.Signed.{widens, wide, wide-is, read-eq}
 
 -- ---- one more number
 

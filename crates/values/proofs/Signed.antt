@@ -1,11 +1,10 @@
 -- A signed local is kept as its bits: `ofZ w z` are the bits of z, and `toZ w` reads them. Where z is in the range of w, reading gives z
 -- back, so a test, a cast or an operation on locals says of the numbers what it says of the bits. Assumes nothing.
-use mathlib.Core.Path.{_≡_, refl, sym, ap, _∙_, subst}
-use mathlib.Core.Bool.{Bool, true, false}
+use mathlib.Core.Path.{_≡_, refl, sym, ap, _∙_}
+use mathlib.Core.Bool.{Bool}
 use Prim.Native.Nat.{zero, suc, _<_}
 use native.Mathlib.Nat.{lt-of-lt-of-le, lt-of-le-of-lt}
 use native.Mathlib.Omega.{arith}
-use borrow.Author.Tests.{eq-eqb, ne-eqb}
 use lib.Dec.{T, leb, lit<, lit≤}
 use lib.IntN.{ℤ, pos, negsuc, _+ℤ_, _-ℤ_, _*ℤ_}
 use lib.Signed.{ltZ}
@@ -13,7 +12,6 @@ use mir.Syntax.{Width, w32, w64}
 use mir.Val.{SFits, toZ, ofZ, hbits}
 use mir.Facts.{sfits-widen, toZ-ofZ}
 use mir.ValLaws.{pow-bits}
-use Rattle.rules.specs.Values.{sameℤ}
 use Rattle.rules.specs.Numbers.{quotient}
 use Rattle.values.specs.Ranges.{sum-range, difference-range, product-range, quotient-range}
 
@@ -69,19 +67,6 @@ module _ (w : Width) {a b : ℤ} (fa : SFits w a) (fb : SFits w b) where
 
   pub read-eq : ofZ w a ≡ ofZ w b → a ≡ b
   read-eq e = sym (toZ-ofZ fa) ∙ ap (toZ w) e ∙ toZ-ofZ fb
-
-pub same-yes : (a b : ℤ) → a ≡ b → sameℤ a b ≡ true
-same-yes a b e = subst (λ (y : ℤ). sameℤ a y ≡ true) e (same a)
-  where
-    same : (a : ℤ) → sameℤ a a ≡ true
-    same (pos n) = eq-eqb n n refl
-    same (negsuc n) = eq-eqb n n refl
-
-pub same-no : (a b : ℤ) → (a ≡ b → ⊥) → sameℤ a b ≡ false
-same-no (pos m) (pos n) h = ne-eqb m n (λ e. h (ap pos e))
-same-no (pos m) (negsuc n) h = refl
-same-no (negsuc m) (pos n) h = refl
-same-no (negsuc m) (negsuc n) h = ne-eqb m n (λ e. h (ap negsuc e))
 
 -- the bits of a number other than 0 are not 0
 pub bits-above : (w : Width) (z : ℤ) → SFits w z → (z ≡ pos 0 → ⊥) → 0 < ofZ w z

@@ -16,7 +16,7 @@ use mir.Val.{Fits, SFits, toZ, ofZ}
 use mir.Facts.{fits-natAbs, toZ-pos, toZ-ofZ}
 use types.Run.{OneOf}
 use Rattle.members.specs.declared.Member.{Member}
-use Rattle.members.specs.declared.Member.the-variants.{Skip, Take, Count, Sum, Min, Max, At}
+use Rattle.members.specs.declared.Member.the-variants.{Skip, Take, Count, Sum, Min, Max, At, BestSum, BestAt}
 use Rattle.rules.specs.declared.Value.{Value}
 use Rattle.rules.specs.declared.Value.the-variants.{Number, Window, Missing}
 use Rattle.rules.specs.Values.{ranged, wrongKind, outsideWindow}
@@ -24,6 +24,7 @@ use Rattle.rules.specs.Windows.{readingsIn, clipped, skipped, taken, reading, u
 use Rattle.rules.specs.Rules.{rule, ofWindow, onWindow}
 use Rattle.values.specs.Ranges.{mag-abs}
 use Rattle.values.specs.WindowLaws.{readings-none, readings-rest, readings-short, Summed, summed-none, summed-more, summed-all, Folded, folded-one, folded-more, folded-all, no-readings}
+use Rattle.values.specs.Sliding.{Totals}
 use Rattle.values.proofs.Tables.{tag, besides, last-arm}
 use Rattle.values.proofs.Signed.{widens, wide, wide-is, read-lt}
 
@@ -43,13 +44,22 @@ module _ (xs : List ℤ) (s l : ℕ) where
 
 -- ---- a sum
 
-module _ (xs ys : List ℤ) (s l : ℕ) (e : ys ≡ readingsIn xs s l) where
-  pub sum-none : Fits w16 l → Summed ys (pos 0) 0
-  sum-none f = summed-none ys (rw e (omega (arith, readings-short xs s l, f .fits)))
+pub total-none : (ys : List ℤ) → length ys ≤ 65535 → Summed ys (pos 0) 0
+total-none ys h = summed-none ys (omega arith)
 
-  pub sum-is : {r : Value} (t i : ℕ) → Summed ys (toZ w64 t) i → length ys ≤ i → r ≡ ranged (toZ w64 t) → r ≡ ofWindow Sum xs s l
-  unfolding ofWindow rule
-  sum-is t i h k q = q ∙ ap ranged (summed-all ys (toZ w64 t) i h k ∙ ap total e)
+totals : (ys : List ℤ) (t : ℤ) (i : ℕ) → Summed ys t i → length ys ≤ i → Totals ys t
+totals ys t i h k = record { exact = summed-all ys t i h k; small = omega (arith, h .small, h .within) }
+
+pub total-is : (ys : List ℤ) (t i : ℕ) → Summed ys (toZ w64 t) i → length ys ≤ i → Totals ys (toZ w64 t)
+total-is ys t i h k = totals ys (toZ w64 t) i h k
+
+-- the readings of a window are few
+pub part-few : (xs ys : List ℤ) (s l : ℕ) → ys ≡ readingsIn xs s l → Fits w16 l → length ys ≤ 65535
+part-few xs ys s l e f = rw e (omega (arith, readings-short xs s l, f .fits))
+
+pub sum-is : (xs ys : List ℤ) (s l : ℕ) {r : Value} {t : ℤ} → ys ≡ readingsIn xs s l → SFits w64 t → Totals ys t → r ≡ ranged (toZ w64 (ofZ w64 t)) → r ≡ ofWindow Sum xs s l
+unfolding ofWindow rule
+sum-is xs ys s l e f k q = q ∙ ap ranged (toZ-ofZ f ∙ k .exact ∙ ap total e)
 
 module _ (ys : List ℤ) (t : ℤ) (i : ℕ) (h : Summed ys t i) (k : i < length ys) (f : SFits w32 (getD ys i (pos 0))) where
   more : Summed ys (t +ℤ getD ys i (pos 0)) (i + 1)
@@ -179,8 +189,8 @@ module _ (xs : List ℤ) (s l : ℕ) where
     unfolding onWindow rule
     take-arm e h = h ∙ (λ i. onWindow (sym e i) xs s l (toZ-ofZ g i))
 
-    pub at-arm : m ≡ At → r ≡ onWindow At xs s l (toZ w32 (ofZ w32 n)) → r ≡ onWindow m xs s l n
-    at-arm e h = h ∙ (λ i. onWindow (sym e i) xs s l (toZ-ofZ g i))
+    pub on-arm : {k : Member} → m ≡ k → r ≡ onWindow k xs s l (toZ w32 (ofZ w32 n)) → r ≡ onWindow m xs s l n
+    on-arm e h = h ∙ (λ i. onWindow (sym e i) xs s l (toZ-ofZ g i))
 
 abbrev of-rest : List ℕ
 of-rest = besides (Count ∷ Sum ∷ Min ∷ Max ∷ [])
@@ -190,10 +200,10 @@ unfolding ofWindow rule
 of-others m xs s l k = last-arm (λ j. ofWindow j xs s l) of-rest refl m k
 
 abbrev on-rest : List ℕ
-on-rest = besides (Skip ∷ Take ∷ At ∷ [])
+on-rest = besides (Skip ∷ Take ∷ At ∷ BestSum ∷ BestAt ∷ [])
 
 pub on-others : (m : Member) (xs : List ℤ) (s l : ℕ) (n : ℤ) → OneOf on-rest (tag m) → Missing wrongKind ≡ onWindow m xs s l n
 unfolding onWindow rule
 on-others m xs s l n k = last-arm (λ j. onWindow j xs s l n) on-rest refl m k
 
-pub ruleset window-rules = (needs, widens, part-none, part-rest, part-whole, sum-none, sum-is, sum-fits, sum-more, lesser-second, lesser-first, greater-second, greater-first, fold-one, fold-more, least-none, greatest-none, least-is, greatest-is, negative-count, count-cast, index-cast, skip-is, take-is, at-is, at-none, at-negative, of-arm, count-arm, skip-arm, take-arm, at-arm, of-others, on-others)
+pub ruleset window-rules = (needs, widens, part-none, part-rest, part-whole, total-none, total-is, part-few, sum-is, sum-fits, sum-more, lesser-second, lesser-first, greater-second, greater-first, fold-one, fold-more, least-none, greatest-none, least-is, greatest-is, negative-count, count-cast, index-cast, skip-is, take-is, at-is, at-none, at-negative, of-arm, count-arm, skip-arm, take-arm, on-arm, of-others, on-others)

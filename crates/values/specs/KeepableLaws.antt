@@ -2,12 +2,12 @@
 -- have: numbers in range, 01's reasons, windows and counts within a window that has it. So a window stays inside, and what may be kept stays
 -- so. One law a member, by its rule. Assumes nothing.
 use mathlib.Core.Path.{_≡_, refl, ap, _∙_}
-use mathlib.Core.Bool.{Bool, true, false, cond}
-use mathlib.Core.List.{List, [], _∷_}
-use Prim.Native.Nat.{ℕ, suc, _+_, _-_, min, _≤_, _<_}
+use mathlib.Core.Bool.{Bool, true, false, _&&_, and-eq-true-iff, cond}
+use mathlib.Core.List.{List, [], _∷_, map}
+use Prim.Native.Nat.{ℕ, zero, suc, _+_, _-_, min, _≤_, _<_}
 use native.Mathlib.Omega.{arith}
-use borrow.Author.Tests.{ltb-true}
-use lib.Dec.{ltb}
+use borrow.Author.Tests.{ltb-true, leb-true}
+use lib.Dec.{leb, ltb}
 use lib.IntN.{ℤ, pos, negsuc}
 use lib.ListN.{length, drop, getD, length-take, length-drop}
 use lib.Seq.{getD-take, getD-drop}
@@ -15,16 +15,17 @@ use lib.Signed.{mag, ltZ}
 use Rattle.language.specs.Cases.{by-cond}
 use Rattle.language.specs.Limits.{leastNumber, mostNumber}
 use Rattle.members.specs.declared.Member.{Member}
-use Rattle.members.specs.declared.Member.the-variants.{Add, Sub, Mul, Div, Gt, Eq, Skip, Take, Count, Sum, Min, Max, At, CountWhere, LongestRun, SumBy}
+use Rattle.members.specs.declared.Member.the-variants.{Add, Sub, Mul, Div, Gt, Eq, Skip, Take, Count, Sum, Min, Max, At, CountWhere, LongestRun, SumBy, BestSum, BestAt}
 use Rattle.rules.specs.declared.Value.{Value}
 use Rattle.rules.specs.declared.Value.the-variants.{Number, Window, Function, Delayed, Missing}
 use Rattle.rules.specs.Values.{ranged, flag, sameℤ}
 use Rattle.rules.specs.Numbers.{quotient, divided}
-use Rattle.rules.specs.Windows.{readingsIn, clipped, reading, unlessNegative, lesser, greater, foldFrom, extreme}
+use Rattle.rules.specs.Windows.{readingsIn, clipped, reading, unlessNegative, total, lesser, greater, foldFrom, extreme}
+use Rattle.rules.specs.Stretches.{stretchesFrom, sums, ofGreatest, firstAt, ofWidth, bestSum, bestAt}
 use Rattle.rules.specs.Runs.{Results, numbers, because, with, results, isNonzero, countOf, stretch, longest, summary}
 use Rattle.rules.specs.Rules.{Rule, twoNumbers, window, windowNumber, windowRuns, rule, byNumbers, byWindow, byWindowNumber, byRuns, onNumbers, ofWindow, onWindow, concluded, ofRuns}
 use Rattle.values.specs.Ranges.{in-range}
-use Rattle.values.specs.WindowLaws.{clipped-parts, clipped-within}
+use Rattle.values.specs.WindowLaws.{readings-short, clipped-parts, clipped-within}
 use Rattle.values.specs.TallyLaws.{if-most}
 
 -- the members' own results have the property P
@@ -74,6 +75,19 @@ longest-short : (zs : List ℤ) → longest zs ≤ length zs
 unfolding longest
 longest-short [] = omega arith
 longest-short (z ∷ zs) = omega (arith, stretch-short (z ∷ zs), longest-short zs)
+
+first-short : (z : ℤ) (zs : List ℤ) → firstAt z zs ≤ length zs
+unfolding firstAt
+first-short z [] = omega arith
+first-short z (y ∷ ys) = by-cond (λ k. k ≤ suc (length ys)) (sameℤ y z) 0 _ (λ h. omega arith) (λ h. omega (arith, first-short z ys))
+
+sums-length : (xs : List ℤ) (w : ℕ) → length (sums xs w) ≡ suc (length xs) - w
+unfolding sums stretchesFrom
+sums-length xs w = so-many 0 (suc (length xs) - w)
+  where
+    so-many : (i k : ℕ) → length (map total (stretchesFrom xs w i k)) ≡ k
+    so-many i zero = refl
+    so-many i (suc k) = ap suc (so-many (suc i) k)
 
 module _ (P : Value → Type 0) (C : Closed P) where
   pub wrong : P (Missing 2)
@@ -127,6 +141,15 @@ module _ (P : Value → Type 0) (C : Closed P) where
   closed-unless (pos k) f p = p k
   closed-unless (negsuc k) f p = outside
 
+  closed-width : (n : ℤ) (l : ℕ) (f : ℕ → Value) → ((w : ℕ) → 1 ≤ w → w ≤ l → P (f w)) → P (ofWidth n l f)
+  closed-width (pos w) l f p =
+      by-cond P (leb 1 w && leb w l) _ _ (λ h. let b = and-eq-true-iff (leb 1 w) (leb w l) .0 h in p w (leb-true 1 w (b .0)) (leb-true w l (b .1))) (λ h. outside)
+  closed-width (negsuc n) l f p = outside
+
+  closed-greatest : (f : ℤ → Value) (zs : List ℤ) → ((z : ℤ) → P (f z)) → P (ofGreatest f zs)
+  closed-greatest f [] p = outside
+  closed-greatest f (z ∷ zs) p = p (foldFrom greater z zs)
+
   closed-reading : (xs : List ℤ) → Readings P xs → (k : ℕ) → P (reading xs k)
   closed-reading xs R k = by-cond P (ltb k (length xs)) _ _ (λ h. R k (ltb-true k _ h)) (λ h. outside)
 
@@ -140,7 +163,7 @@ module _ (P : Value → Type 0) (C : Closed P) where
   Closes (windowRuns f) = (s l : ℕ) (zs : List ℤ) → P (Window s l) → length zs ≤ l → P (f (summary zs))
 
   closed-rule : (m : Member) → Closes (rule m)
-  unfolding rule divided
+  unfolding rule divided bestSum bestAt
   closed-rule Add = λ a b. closed-ranged _
   closed-rule Sub = λ a b. closed-ranged _
   closed-rule Mul = λ a b. closed-ranged _
@@ -157,6 +180,11 @@ module _ (P : Value → Type 0) (C : Closed P) where
   closed-rule CountWhere = λ s l zs W h. C .count s l (countOf zs) (omega (arith, count-short zs)) W
   closed-rule LongestRun = λ s l zs W h. C .count s l (longest zs) (omega (arith, longest-short zs)) W
   closed-rule SumBy = λ s l zs W h. closed-ranged _
+  closed-rule BestSum = λ xs s l n R W. closed-width n _ _ (λ w p q. closed-greatest ranged (sums (readingsIn xs s l) w) closed-ranged)
+  closed-rule BestAt = λ xs s l n R W.
+      closed-width n _ _ (λ w p q. closed-greatest _ (sums (readingsIn xs s l) w)
+      (λ z. C .count s l (firstAt z (sums (readingsIn xs s l) w))
+      (omega (arith, first-short z (sums (readingsIn xs s l) w), sums-length (readingsIn xs s l) w, readings-short xs s l)) W))
 
   pub closed-numbers : (m : Member) (a b : ℤ) → P (onNumbers m a b)
   unfolding onNumbers

@@ -1,6 +1,9 @@
 pub mod Packing
 pub mod Ranges
+pub mod Order
 pub mod WindowLaws
+pub mod Sliding
+pub mod SlidingLaws
 pub mod Tallies
 pub mod TallyLaws
 pub mod Keepable

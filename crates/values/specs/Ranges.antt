@@ -54,6 +54,9 @@ abs-sum (pos a) (negsuc b) = omega (arith, abs-either (ltb a (suc b)) (suc b - s
 abs-sum (negsuc a) (pos b) = omega (arith, abs-either (ltb b (suc a)) (suc a - suc b) (b - suc a))
 abs-sum (negsuc a) (negsuc b) = omega arith
 
+abs-difference : (a b : ℤ) → natAbs (a -ℤ b) ≤ natAbs a + natAbs b
+abs-difference a b = omega (arith, abs-sum a (negℤ b), abs-neg b)
+
 abs-product : (a b : ℤ) → natAbs (a *ℤ b) ≡ natAbs a * natAbs b
 abs-product (pos a) (pos b) = refl
 abs-product (pos a) (negsuc b) = abs-neg (pos (a * suc b))
@@ -91,6 +94,10 @@ module _ (k : ℕ) (a b : ℤ) (ha : mag a < 2 ^ k) (hb : mag b < 2 ^ k) where
 -- a total of i numbers from -w to w - 1, and one more
 pub total-range : (w i : ℕ) (t z : ℤ) → natAbs t ≤ i * w → mag z < w → natAbs (t +ℤ z) ≤ i * w + w
 total-range w i t z ht hz = omega (arith, abs-sum t z, abs-mag z)
+
+-- and one of them let out for another
+pub slide-range : (w i : ℕ) (t x y : ℤ) → natAbs t ≤ i * w → mag x < w → mag y < w → natAbs (t +ℤ x -ℤ y) ≤ i * w + w + w
+slide-range w i t x y ht hx hy = omega (arith, abs-difference (t +ℤ x) y, total-range w i t x ht hx, abs-mag y)
 
 -- what passed both tests of a range is in it
 pub in-range : (h : ℕ) (z : ℤ) → ltZ z (negsuc h) ≡ false → ltZ (pos h) z ≡ false → mag z < suc h

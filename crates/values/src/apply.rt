@@ -1,6 +1,5 @@
 // A member on what its dependencies came to. The first missing one decides, then a delayed one, then the kinds in the member table, then
 // the member's rule.
-use rules::Value;
 use crate::numbers::on_numbers;
 use crate::windows::of_window;
 use crate::windows::on_window;
@@ -8,6 +7,7 @@ use members::Kind;
 use members::Member;
 use members::argument;
 use members::receiver;
+use rules::Value;
 ghost use mathlib.Core.Path.{_≡_};
 ghost use Prim.Native.Nat.{_+_, _≤_};
 ghost use Rattle.members.specs.Members.{kindNumber};

@@ -4,4 +4,5 @@ pub mod numbers;
 pub mod packing;
 pub mod runs;
 pub mod shown;
+pub mod stretches;
 pub mod windows;

@@ -1,6 +1,6 @@
 // The members on a number. Each works at 64 bits, where nothing is lost, and tests the range once, at the end.
-use rules::Value;
 use members::Member;
+use rules::Value;
 ghost use mathlib.Core.Path.{_≡_};
 ghost use Rattle.members.specs.declared.Member.the-variants as Members;
 ghost use Rattle.rules.specs.Values.{ranged};

@@ -1,7 +1,7 @@
 // The members that run a function, from the results of its runs, one at a time: the first result that is no number decides.
-use rules::Value;
 use crate::numbers::number;
 use members::Member;
+use rules::Value;
 ghost use mathlib.Core.Path.{_≡_};
 ghost use Prim.Native.Nat.{max};
 ghost use Rattle.values.specs.Tallies.{begun, noted, halted, finished, Within, Steps};

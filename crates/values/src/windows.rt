@@ -1,13 +1,17 @@
 // The members on a window of a lent recording that run no function. A window may reach past the recording: its readings are those that
 // are there.
-use rules::Value;
 use crate::numbers::number;
+use crate::stretches::best_at;
+use crate::stretches::best_sum;
 use members::Member;
+use rules::Value;
 ghost use mathlib.Core.Path.{_≡_};
 ghost use Prim.Native.Nat.{_+_, _≤_};
+ghost use lib.ListN as L;
 ghost use Rattle.members.specs.declared.Member.the-variants as Members;
 ghost use Rattle.rules.specs.Windows.{readingsIn, clipped, skipped, taken, unlessNegative, lesser, greater};
 ghost use Rattle.rules.specs.Rules.{ofWindow, onWindow};
+ghost use Rattle.values.specs.Sliding.{Totals};
 
 // The readings of a window, as that very part of the recording.
 pub fn part(xs: &[i32], start: u16, length: u16) -> &[i32]
@@ -25,18 +29,25 @@ pub fn part(xs: &[i32], start: u16, length: u16) -> &[i32]
     &xs[from..to]
 }
 
-// The sum, exact: only the final total is tested for its range.
-pub fn sum(xs: &[i32], start: u16, length: u16) -> Value
-    ensures { λ r. ⌜ r ≡ ofWindow Members.Sum (now (xs .entry)) start length ⌝ }
+// The exact sum of some readings.
+pub fn total_of(readings: &[i32]) -> i64
+    requires { ⌜ L.length (now readings) ≤ 65535 ⌝ }
+    ensures { λ r. ⌜ Totals (now (readings .entry)) r ⌝ }
 {
-    let readings = part(xs, start, length);
     let mut total: i64 = 0;
     let mut i: usize = 0;
     while i < readings.len() {
         total = total + readings[i] as i64;
         i += 1;
     }
-    number(total)
+    total
+}
+
+// The sum, exact: only the final total is tested for its range.
+pub fn sum(xs: &[i32], start: u16, length: u16) -> Value
+    ensures { λ r. ⌜ r ≡ ofWindow Members.Sum (now (xs .entry)) start length ⌝ }
+{
+    number(total_of(part(xs, start, length)))
 }
 
 // The lesser of two.
@@ -164,6 +175,8 @@ pub fn on_window(m: Member, xs: &[i32], start: u16, length: u16, n: i32) -> Valu
         Member::Skip => skip(start, length, n),
         Member::Take => take(start, length, n),
         Member::At => at(xs, start, length, n),
+        Member::BestSum => best_sum(xs, start, length, n),
+        Member::BestAt => best_at(xs, start, length, n),
         _ => Value::Missing(2),
     }
 }

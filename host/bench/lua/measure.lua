@@ -65,6 +65,18 @@ function sumBy(w, f)
   return total
 end
 
+-- Takes one reading in and lets one out at each step.
+function bestSum(w, n)
+  local total = 0
+  for i = w.start + 1, w.start + n do total = total + readings[i] end
+  local best = total
+  for i = w.start + n + 1, w.start + w.length do
+    total = total + readings[i] - readings[i - n]
+    if total > best then best = total end
+  end
+  return best
+end
+
 -- Of numbers of one sign, which the formulas have.
 function div(a, b) return math.floor(a / b) end
 

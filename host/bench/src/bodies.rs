@@ -8,6 +8,7 @@ pub fn measure(readings: &[i32], figures: &mut Figures) {
     for (name, text) in [
         ("62 members of numbers", texts::numbers_in_body()),
         ("27 sums, least and greatest readings", texts::sums_in_body()),
+        ("29 best sums", texts::stretches_in_body()),
     ] {
         let mut costly = formula(&text, readings);
         let mut smallest = formula(SINGLE, readings);

@@ -1,19 +1,10 @@
 //! A cache's memory as docs/MEMORY.md says: built by hand, or by the engine's calls.
 
+use crate::member::Member;
 use crate::proved;
 use crate::tree::Shown;
 use engine::ffi::{self, EditAnswer, PreviewAnswer};
-use engine::memory::{CELLS, LINKS, READINGS};
-
-pub const NUMBER: u16 = 0;
-pub const VARIABLE: u16 = 1;
-pub const DATA: u16 = 3;
-pub const FUNCTION: u16 = 4;
-pub const ADD: u16 = 5;
-pub const GT: u16 = 9;
-pub const TAKE: u16 = 12;
-pub const COUNT_WHERE: u16 = 18;
-pub const SUM_BY: u16 = 20;
+use engine::memory::{CELLS, DATA, FUNCTION, LINKS, NUMBER, READINGS, VARIABLE};
 
 pub const ENTRIES: usize = 512;
 const PLACES: usize = 128;
@@ -75,8 +66,8 @@ impl Cache {
         self.put(FUNCTION, packed(name), Some(body), None)
     }
 
-    pub fn member(&mut self, kind: u16, receiver: u16, argument: u16) -> u16 {
-        self.put(kind, 0, Some(receiver), Some(argument))
+    pub fn member(&mut self, member: Member, receiver: u16, argument: u16) -> u16 {
+        self.put(member.kind(), 0, Some(receiver), Some(argument))
     }
 
     /// The number that is kept for an entry.

@@ -77,7 +77,7 @@ fn all_sides(
     sides.extend(in_lua.iter_mut().map(|side| side as &mut dyn FnMut() -> f64));
     let best = timing::in_turn(ROUNDS, &mut sides);
     let row: Vec<_> = names.into_iter().zip(best).collect();
-    figures.row(group, formula.name, recording.len() as u32, &row);
+    figures.row(group, &formula.name, recording.len() as u32, &row);
 }
 
 /// A value as the Lua script writes it.

@@ -5,7 +5,7 @@ use crate::formulas::{beside_nested, limit, shared, windows, within_nested};
 use crate::{compare, formulas::Formula};
 
 pub fn measure(readings: &[i32], figures: &mut Figures) {
-    let named = |name, formula: Formula| Formula { name, ..formula };
+    let named = |name: &str, formula: Formula| Formula { name: name.to_string(), ..formula };
     for (held, edited) in [
         (windows(2), windows(3)),
         (limit(150), limit(151)),

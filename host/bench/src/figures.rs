@@ -1,6 +1,7 @@
 //! The figures of a run, kept in one file, from which the tables and plots are made.
 
 use crate::plot;
+use std::collections::BTreeSet;
 use std::path::Path;
 use std::{fs, io};
 
@@ -27,8 +28,8 @@ pub struct Figures {
     pub list: Vec<Figure>,
     /// What the figures were taken on and with.
     pub notes: Vec<String>,
-    /// The ratios to plain Rust that parts of the engine aim at.
-    aims: Vec<(String, f64)>,
+    /// The ratios to plain Rust that parts of the engine aim at, each with its group and case.
+    aims: Vec<(String, String, f64)>,
 }
 
 impl Figures {
@@ -51,10 +52,21 @@ impl Figures {
     }
 
     /// Part of the engine against plain Rust, and the ratio that is aimed at, if there is one.
-    pub fn part(&mut self, case: &str, (ours, theirs): (f64, f64), aim: Option<f64>) {
-        self.row("parts", case, 0, &[(ENGINE, ours), (PLAIN, theirs)]);
-        let aim = aim.map(|aim| (case.to_string(), aim)).filter(|aim| !self.aims.contains(aim));
-        self.aims.extend(aim);
+    pub fn part(&mut self, case: &str, times: (f64, f64), aim: Option<f64>) {
+        self.part_of("parts", case, times, aim);
+    }
+
+    /// The same in a group of its own.
+    pub fn part_of(
+        &mut self,
+        group: &str,
+        case: &str,
+        (ours, theirs): (f64, f64),
+        aim: Option<f64>,
+    ) {
+        self.row(group, case, 0, &[(ENGINE, ours), (PLAIN, theirs)]);
+        let aim = aim.map(|aim| (group.to_string(), case.to_string(), aim));
+        self.aims.extend(aim.filter(|aim| !self.aims.contains(aim)));
     }
 
     /// Prints all figures but those of single keys, with the ratio of the first side to each other one.
@@ -71,8 +83,8 @@ impl Figures {
             }
         }
         println!();
-        for (case, aim) in &self.aims {
-            let [ours, theirs] = [ENGINE, PLAIN].map(|side| self.value("parts", (case, 0), side));
+        for (group, case, aim) in &self.aims {
+            let [ours, theirs] = [ENGINE, PLAIN].map(|side| self.value(group, (case, 0), side));
             if let (Some(ours), Some(theirs)) = (ours, theirs)
                 && ours / theirs > *aim
             {
@@ -104,12 +116,18 @@ impl Figures {
         self.list.iter().filter(is_one).map(|figure| (figure.at.into(), figure.value)).collect()
     }
 
-    /// With another run's figures in place of its own of a group.
-    pub fn with_group(mut self, group: &str, other: Figures) -> Figures {
-        let of_group = |figure: &Figure| figure.group == group;
-        let at = self.list.iter().position(of_group).unwrap_or(self.list.len());
-        self.list.retain(|figure| !of_group(figure));
-        self.list.splice(at..at, other.list.into_iter().filter(of_group));
+    /// The groups that have figures.
+    pub fn groups(&self) -> BTreeSet<String> {
+        self.list.iter().map(|figure| figure.group.clone()).collect()
+    }
+
+    /// With another run's figures in place of its own of the same groups.
+    pub fn with_groups(mut self, other: Figures) -> Figures {
+        let groups = other.groups();
+        let is_taken = |figure: &Figure| groups.contains(&figure.group);
+        let at = self.list.iter().position(is_taken).unwrap_or(self.list.len());
+        self.list.retain(|figure| !is_taken(figure));
+        self.list.splice(at..at, other.list);
         self
     }
 

@@ -1,15 +1,17 @@
 //! The formulas that are measured, in the engine's language and as one would write them in Lua by hand.
 
+use crate::stretches::WIDTHS;
 use crate::texts;
 
 pub struct Formula {
-    pub name: &'static str,
+    pub name: String,
     pub text: String,
     pub lua: String,
 }
 
-fn formula(name: &'static str, text: &str, lua: &str) -> Formula {
-    Formula { name, text: text.to_string(), lua: lua.to_string() }
+fn formula(name: &str, text: &str, lua: &str) -> Formula {
+    let [name, text, lua] = [name, text, lua].map(String::from);
+    Formula { name, text, lua }
 }
 
 pub fn windows(x: i32) -> Formula {
@@ -22,6 +24,15 @@ pub fn windows(x: i32) -> Formula {
 
 pub fn sum() -> Formula {
     formula("sum", "data.sum()", "return sum(data)")
+}
+
+/// The best stretch of so many readings.
+pub fn best_sum(w: i32) -> Formula {
+    formula(
+        &format!("bestSum of {w}"),
+        &format!("data.bestSum({w})"),
+        &format!("return bestSum(data, {w})"),
+    )
 }
 
 pub fn count_where() -> Formula {
@@ -143,7 +154,9 @@ pub fn list() -> String {
         ("typed, windows and sums", texts::windows_and_sums()),
         ("typed, with a nested sum", texts::with_nested()),
     ];
-    let all = formulas.into_iter().map(|Formula { name, text, .. }| (name, text)).chain(typed);
+    let typed = typed.map(|(name, text)| (name.to_string(), text));
+    let formulas = formulas.into_iter().chain(WIDTHS.map(best_sum));
+    let all = formulas.map(|Formula { name, text, .. }| (name, text)).chain(typed);
     let indented = |text: String| text.replace('\n', "\n    ");
     let lines: String =
         all.map(|(name, text)| format!("{name}:\n    {}\n", indented(text))).collect();

@@ -1,9 +1,8 @@
 //! Benchmarks: the engine's calls against a plain recomputation and Lua, parts of the engine against plain Rust, stack and code size.
 //!
 //! With no words all groups run; the figures go to docs/benchmarks/figures.csv, and the tables of docs/BENCHMARKS.md and the plots are made
-//! from them. The name of a group runs it alone and writes nothing. Behind `stack` or `size` the word `keep` puts the bytes measured, which
-//! don't depend on what else the machine does, in place of those kept, and makes their table anew. The word `report` makes tables and plots
-//! anew from the kept figures.
+//! from them. The name of a group runs it alone and writes nothing. Behind some of them the word `keep` puts what was measured in place of
+//! what was kept, and makes the tables anew. The word `report` makes tables and plots anew from the kept figures.
 
 mod bodies;
 mod cache;
@@ -16,6 +15,7 @@ mod first;
 mod formulas;
 mod lua;
 mod machine;
+mod member;
 mod plot;
 mod proved;
 mod reader;
@@ -23,6 +23,7 @@ mod reading;
 mod report;
 mod size;
 mod stack;
+mod stretches;
 mod table;
 mod tables;
 mod texts;
@@ -37,7 +38,7 @@ use std::{fs, io};
 
 type Measure = fn(&[i32], &mut Figures);
 
-const GROUPS: [(&str, Measure); 13] = [
+const GROUPS: &[(&str, Measure)] = &[
     ("first", first::measure),
     ("edits", edits::measure),
     ("typing", typing::measure),
@@ -45,6 +46,7 @@ const GROUPS: [(&str, Measure); 13] = [
     ("readings", first::against_readings),
     ("calls", entries::calls),
     ("windows", windows::measure),
+    ("stretches", stretches::measure),
     ("evaluating", evaluating::measure),
     ("bodies", bodies::measure),
     ("reading", |_, figures| reading::measure(figures)),
@@ -53,8 +55,9 @@ const GROUPS: [(&str, Measure); 13] = [
     ("size", |_, figures| size::measure(figures)),
 ];
 
-/// The groups of bytes, which can be kept by themselves.
-const BYTES: [&str; 2] = ["stack", "size"];
+/// The groups that can be kept by themselves: bytes, which don't depend on what else the machine does, and times of which no other table or
+/// plot is made.
+const KEPT: [&str; 3] = ["stack", "size", "stretches"];
 
 /// All groups run so often, so that other work on the machine for a while does not decide a figure.
 const PASSES: u32 = 3;
@@ -65,11 +68,11 @@ fn is_kept(words: &[String]) -> Result<bool, String> {
     match words[..] {
         [] => Ok(true),
         [group] if GROUPS.iter().any(|(name, _)| *name == group) => Ok(false),
-        [group, "keep"] if BYTES.contains(&group) => Ok(true),
+        [group, "keep"] if KEPT.contains(&group) => Ok(true),
         _ => {
-            let names = GROUPS.map(|(name, _)| name).join(", ");
-            let bytes = BYTES.join(" or ");
-            Err(format!("the words are one of {names}; report; or {bytes} and then keep"))
+            let names = GROUPS.iter().map(|(name, _)| *name).collect::<Vec<_>>().join(", ");
+            let kept = KEPT.join(" or ");
+            Err(format!("the words are one of {names}; report; or {kept} and then keep"))
         }
     }
 }
@@ -89,7 +92,7 @@ fn main() -> io::Result<()> {
     figures.notes = machine::notes();
     for pass in 1..=PASSES {
         for (name, measure) in GROUPS {
-            if only.as_deref().is_none_or(|word| word == name) {
+            if only.as_deref().is_none_or(|word| word == *name) {
                 eprintln!("pass {pass} of {PASSES}: {name}");
                 measure(&readings, &mut figures);
             }
@@ -97,16 +100,15 @@ fn main() -> io::Result<()> {
     }
     figures.print();
     fs::create_dir_all(docs.join("benchmarks"))?;
-    match only.as_deref() {
-        None => {
-            figures.write(&file)?;
-            report::write(&figures, &docs)
-        }
-        Some(group) if is_kept => {
-            let kept = Figures::read(&file)?.with_group(group, figures);
-            kept.write(&file)?;
-            report::write_bytes(&kept, &docs, group)
-        }
-        Some(_) => Ok(()),
+    if !is_kept {
+        return Ok(());
     }
+    if only.is_none() {
+        figures.write(&file)?;
+        return report::write(&figures, &docs);
+    }
+    let groups = figures.groups();
+    let kept = Figures::read(&file)?.with_groups(figures);
+    kept.write(&file)?;
+    report::write_tables(&kept, &docs, |name| groups.contains(name))
 }

@@ -5,6 +5,13 @@ mod raw {
         pub fn measured_sum(xs: *const i32, len: usize, start: u16, length: u16) -> u64;
         pub fn measured_least(xs: *const i32, len: usize, start: u16, length: u16) -> u64;
         pub fn measured_greatest(xs: *const i32, len: usize, start: u16, length: u16) -> u64;
+        pub fn measured_best_sum(
+            xs: *const i32,
+            len: usize,
+            start: u16,
+            length: u16,
+            w: i32,
+        ) -> u64;
         pub fn measured_well_formed(
             heads: *const u32,
             heads_len: usize,
@@ -62,6 +69,12 @@ pub fn least(xs: &[i32]) -> u64 {
 pub fn greatest(xs: &[i32]) -> u64 {
     // SAFETY: as for `sum`.
     unsafe { raw::measured_greatest(xs.as_ptr(), xs.len(), 0, xs.len() as u16) }
+}
+
+/// The greatest sum of w readings next to each other.
+pub fn best_sum(xs: &[i32], w: i32) -> u64 {
+    // SAFETY: as for `sum`.
+    unsafe { raw::measured_best_sum(xs.as_ptr(), xs.len(), 0, xs.len() as u16, w) }
 }
 
 pub fn is_well_formed(heads: &[u32], links: &[u16], cells: &[u64]) -> bool {

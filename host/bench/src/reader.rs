@@ -1,6 +1,8 @@
 //! A reader as one would write it in Rust: recursive descent with one token of lookahead, which gives the same refusals as the proved one.
 //! It builds the same records and places, or a tree.
 
+use crate::member::{self, Member};
+
 const PARTS: usize = 128;
 const MARKS: usize = 16;
 const LAMBDAS: usize = 2;
@@ -11,7 +13,6 @@ const VARIABLE: u64 = 1;
 const UNBOUND: u64 = 2;
 const RECORDING: u64 = 3;
 const FUNCTION: u64 = 4;
-const MEMBERS: u64 = 5;
 
 #[derive(Clone, Copy, PartialEq, Debug)]
 pub struct Refusal {
@@ -51,7 +52,7 @@ pub enum Node<P> {
     Unbound(u64),
     Data,
     Function(u64, P),
-    Member(u64, P, Option<P>),
+    Member(Member, P, Option<P>),
 }
 
 /// Two words a record, and the record of each part.
@@ -81,7 +82,8 @@ impl Builder for Output {
             Node::Data => (RECORDING, 0, 0, 0),
             Node::Function(name, body) => (FUNCTION, name, body + 1, 0),
             Node::Member(member, receiver, argument) => {
-                (MEMBERS + member, 0, receiver + 1, argument.map_or(0, |record| record + 1))
+                let second = argument.map_or(0, |record| record + 1);
+                (member.kind().into(), 0, receiver + 1, second)
             }
         };
         let n = self.count;
@@ -249,30 +251,6 @@ fn value_of(digits: &[u8]) -> Option<i32> {
         size = (size * 10 + i64::from(b - b'0')).min(1 << 32);
     }
     i32::try_from(sign * size).ok()
-}
-
-/// A member's number and how many arguments it takes.
-fn member_of(word: &[u8]) -> Option<(u64, usize)> {
-    let found = match word {
-        b"add" => (0, 1),
-        b"sub" => (1, 1),
-        b"mul" => (2, 1),
-        b"div" => (3, 1),
-        b"gt" => (4, 1),
-        b"eq" => (5, 1),
-        b"skip" => (6, 1),
-        b"take" => (7, 1),
-        b"count" => (8, 0),
-        b"sum" => (9, 0),
-        b"min" => (10, 0),
-        b"max" => (11, 0),
-        b"at" => (12, 1),
-        b"countWhere" => (13, 1),
-        b"longestRun" => (14, 1),
-        b"sumBy" => (15, 1),
-        _ => return None,
-    };
-    Some(found)
 }
 
 type Step<T> = Result<T, Refusal>;
@@ -449,7 +427,7 @@ impl<B: Builder> Reader<'_, B> {
         if self.token.kind != Kind::Word {
             return self.refuse(5);
         }
-        let Some((member, takes)) = member_of(self.word()) else {
+        let Some((member, takes)) = member::named(self.word()) else {
             return self.refuse(9);
         };
         self.advance();

@@ -2,7 +2,7 @@
 
 use crate::figures::Figures;
 use crate::reader::{self, Counts, Output, Refusal};
-use crate::{proved, texts, timing};
+use crate::{member, proved, texts, timing};
 use std::hint::black_box;
 
 /// What the proved reader gives, in the terms of the plain one.
@@ -26,6 +26,15 @@ fn agree(text: &[u8]) -> Result<Counts, Refusal> {
     answer
 }
 
+/// Each member with no argument, with one and with two.
+fn agree_on_members() {
+    for (name, _) in member::TABLE {
+        for arguments in ["()", "(1)", "(1, 1)"] {
+            let _ = agree(&[b"data.", *name, arguments.as_bytes()].concat());
+        }
+    }
+}
+
 /// Texts with one to three bytes changed: nearly all are refused, at many places and by all numbers.
 fn agree_on_damaged(text: &[u8], rounds: u32) {
     const BYTES: &[u8] = b" .()\\=-,>ab01479xletindat";
@@ -46,6 +55,7 @@ fn agree_on_damaged(text: &[u8], rounds: u32) {
 }
 
 pub fn measure(figures: &mut Figures) {
+    agree_on_members();
     for (name, text) in [("dense", texts::dense()), ("with blanks", texts::spaced())] {
         assert_eq!(agree(&text).map(|counts| counts.parts), Ok(128));
         agree_on_damaged(&text, 2_000);

@@ -9,12 +9,15 @@ use std::{fs, io};
 
 type Sides<'a> = &'a [&'a str];
 
-pub fn write(figures: &Figures, docs: &Path) -> io::Result<()> {
-    let others: Vec<&str> = [PLAIN].into_iter().chain(lua::SIDES.map(|side| side.name)).collect();
-    let all = [&[ENGINE], &others[..]].concat();
-    let page = docs.join("BENCHMARKS.md");
-    let mut text = fs::read_to_string(&page)?;
-    for (name, block) in [
+/// The sides that the engine is compared with.
+fn others() -> Vec<&'static str> {
+    [PLAIN].into_iter().chain(lua::SIDES.map(|side| side.name)).collect()
+}
+
+/// The tables by their names; those of figures have the name of their group.
+fn tables(figures: &Figures) -> Vec<(&'static str, String)> {
+    let others = others();
+    vec![
         ("machine", figures.notes.join(". ") + ".\n"),
         ("summary", summary(figures, &others)),
         ("formulas", formulas::list()),
@@ -25,12 +28,18 @@ pub fn write(figures: &Figures, docs: &Path) -> io::Result<()> {
         ("readings", ratios(figures, "readings", &others)),
         ("calls", values(figures, "calls", &[ENGINE], microseconds)),
         ("parts", ratios(figures, "parts", &[PLAIN])),
+        ("stretches", ratios(figures, "stretches", &others)),
+        ("stretch", ratios(figures, "stretch", &[PLAIN])),
         ("stack", values(figures, "stack", &[ENGINE], plot::number)),
         ("size", values(figures, "size", &[ENGINE], plot::number)),
-    ] {
-        text = filled(&text, name, &block);
-    }
-    fs::write(page, text)?;
+    ]
+}
+
+/// All tables and plots.
+pub fn write(figures: &Figures, docs: &Path) -> io::Result<()> {
+    write_tables(figures, docs, |_| true)?;
+    let others = others();
+    let all = [&[ENGINE], &others[..]].concat();
     let plot = |file: &str, svg: String| fs::write(docs.join(file), svg);
     plot("bench-first.svg", dots(figures, "first", &others))?;
     plot("bench-edit.svg", dots(figures, "edit", &others))?;
@@ -43,11 +52,18 @@ pub fn write(figures: &Figures, docs: &Path) -> io::Result<()> {
     plot("bench-readings.svg", plot::lines(&readings, &all, ("readings", "ns"), true))
 }
 
-/// The table of a group of bytes alone.
-pub fn write_bytes(figures: &Figures, docs: &Path, group: &str) -> io::Result<()> {
+/// The tables whose names are wanted. The others stay as they are: those of a whole run were made before its figures were rounded.
+pub fn write_tables(
+    figures: &Figures,
+    docs: &Path,
+    is_wanted: impl Fn(&str) -> bool,
+) -> io::Result<()> {
     let page = docs.join("BENCHMARKS.md");
-    let block = values(figures, group, &[ENGINE], plot::number);
-    fs::write(&page, filled(&fs::read_to_string(&page)?, group, &block))
+    let mut text = fs::read_to_string(&page)?;
+    for (name, table) in tables(figures).into_iter().filter(|(name, _)| is_wanted(name)) {
+        text = filled(&text, name, &table);
+    }
+    fs::write(page, text)
 }
 
 /// The sides of the group that counts entries.

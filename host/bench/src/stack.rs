@@ -1,8 +1,9 @@
 //! Bytes of stack that the calls and parts of the engine use: a call runs on a painted buffer, and what is no longer paint was used.
 
-use crate::cache::{ADD, Cache, ENTRIES, SUM_BY, TAKE};
+use crate::cache::{Cache, ENTRIES};
 use crate::evaluating::{NESTED, SINGLE, THREE_DEEP, formula};
 use crate::figures::{ENGINE, Figures};
+use crate::member::Member::{Add, SumBy, Take};
 use crate::{proved, tables, texts};
 use std::arch::asm;
 
@@ -72,16 +73,16 @@ fn texts() -> [(&'static str, Vec<u8>); 9] {
 fn deepest(recording: &[i32]) -> (Cache, u32) {
     let mut cache = Cache::new(recording);
     let (data, a) = (cache.data(), cache.variable("a"));
-    let window = cache.member(TAKE, data, a);
-    let sum = cache.member(ADD, a, a);
+    let window = cache.member(Take, data, a);
+    let sum = cache.member(Add, a, a);
     let mut function = cache.function("a", sum);
     let mut runs = 1;
     while cache.heads[0] as usize + 3 <= ENTRIES {
-        let sum = cache.member(SUM_BY, window, function);
+        let sum = cache.member(SumBy, window, function);
         function = cache.function("a", sum);
         runs += 1;
     }
-    cache.member(SUM_BY, data, function);
+    cache.member(SumBy, data, function);
     (cache, runs)
 }
 
@@ -91,7 +92,7 @@ fn deepest_functions(recording: &[i32]) -> (Cache, u32) {
     let mut cache = Cache::new(recording);
     let names = ["a", "b"];
     let variables = names.map(|name| cache.variable(name));
-    let mut body = cache.member(ADD, variables[0], variables[1]);
+    let mut body = cache.member(Add, variables[0], variables[1]);
     let mut functions = 0;
     loop {
         let function = cache.function(names[functions % 2], body);
@@ -99,7 +100,7 @@ fn deepest_functions(recording: &[i32]) -> (Cache, u32) {
         if cache.heads[0] as usize + 2 > ENTRIES {
             return (cache, functions as u32);
         }
-        body = cache.member(ADD, function, variables[(functions + 1) % 2]);
+        body = cache.member(Add, function, variables[(functions + 1) % 2]);
     }
 }
 
@@ -126,7 +127,12 @@ fn edits(readings: &[i32], figures: &mut Figures) {
         edit(name, Cache::new(readings), &text, 0);
     }
     let refused = texts::one_mark_too_many();
-    edit("17 open marks: calls in arguments, on brackets; refused", Cache::new(readings), &refused, 12);
+    edit(
+        "17 open marks: calls in arguments, on brackets; refused",
+        Cache::new(readings),
+        &refused,
+        12,
+    );
     edit("512 entries held, no new one", tables::full(readings), b"data", 0);
 }
 

@@ -1,15 +1,15 @@
 //! Well-formedness and binding as one would write them in Rust, over the same memory, with the standard library's hash tables.
 
+use crate::member;
+use engine::memory::{FUNCTION, MEMBERS, VARIABLE};
 use std::collections::hash_map::Entry;
 use std::collections::{HashMap, HashSet};
 
 const ENTRIES: usize = 512;
 const READINGS: u32 = 1024;
 
-const VARIABLE: u16 = 1;
-const FUNCTION: u16 = 4;
-const MEMBERS: u16 = 5;
-const KINDS: u16 = 21;
+/// How many kinds there are.
+const KINDS: usize = MEMBERS as usize + member::TABLE.len();
 
 const WINDOW_CELL: u64 = 1 << 33;
 const FUNCTION_CELL: u64 = 1 << 34;
@@ -42,31 +42,32 @@ fn is_name(key: u64) -> bool {
         && !matches!(word, b"let" | b"in" | b"data")
 }
 
-fn arity(kind: u16) -> u16 {
-    match kind {
-        FUNCTION | 13..=16 => 1,
-        MEMBERS.. => 2,
-        _ => 0,
+/// How many dependencies an entry of each kind has.
+const ARITIES: [usize; KINDS] = {
+    let mut arities = [0; KINDS];
+    arities[FUNCTION as usize] = 1;
+    let mut i = 0;
+    while i < member::TABLE.len() {
+        arities[MEMBERS as usize + i] = 1 + member::TABLE[i].1;
+        i += 1;
     }
-}
+    arities
+};
 
 fn is_right(node: Node, i: usize) -> bool {
+    let Some(arity) = ARITIES.get(usize::from(node.kind)) else { return false };
     let key = match node.kind {
         0 => node.key < 1 << 32,
         1 | 2 | 4 => is_name(node.key),
         _ => node.key == 0,
     };
     let given = (u16::from(node.first > 0), u16::from(node.second > 0));
-    let arity = match arity(node.kind) {
+    let links = match arity {
         0 => given == (0, 0),
         1 => given == (1, 0),
         _ => given == (1, 1),
     };
-    node.kind < KINDS
-        && key
-        && arity
-        && usize::from(node.first) <= i
-        && usize::from(node.second) <= i
+    key && links && usize::from(node.first) <= i && usize::from(node.second) <= i
 }
 
 /// At most two names.
@@ -101,7 +102,7 @@ impl Names {
 /// The names that an entry awaits, or none if they are over two.
 fn awaited(names: &[Names], node: Node) -> Option<Names> {
     let of = |link: u16| names[usize::from(link) - 1];
-    match (node.kind, arity(node.kind)) {
+    match (node.kind, ARITIES[usize::from(node.kind)]) {
         (VARIABLE, _) => Some(Names { list: [node.key, 0], count: 1 }),
         (FUNCTION, _) => Some(of(node.first).without(node.key)),
         (_, 0) => Some(Names::default()),

@@ -1,10 +1,10 @@
 //! Well-formedness of a full table, binding, and a preview with nothing to work out.
 
-use crate::cache::{
-    ADD, COUNT_WHERE, Cache, DATA, ENTRIES, FUNCTION, GT, NUMBER, SUM_BY, TAKE, VARIABLE, packed,
-};
+use crate::cache::{Cache, ENTRIES, packed};
 use crate::figures::Figures;
+use crate::member::Member::{Add, CountWhere, Gt, SumBy, Take};
 use crate::{proved, table, timing};
+use engine::memory::{DATA, FUNCTION, NUMBER, VARIABLE};
 use std::hint::black_box;
 
 const HELD: usize = 384;
@@ -20,12 +20,12 @@ pub fn full(readings: &[i32]) -> Cache {
     let mut i = 0;
     while cache.heads[0] as usize + 6 <= ENTRIES {
         let (v, number, other) = (i % 10, numbers[i % 100], numbers[(i / 10 + 50) % 100]);
-        let window = cache.member(TAKE, data, number);
-        let sum = cache.member(ADD, variables[v], number);
-        let test = cache.member(GT, sum, other);
+        let window = cache.member(Take, data, number);
+        let sum = cache.member(Add, variables[v], number);
+        let test = cache.member(Gt, sum, other);
         let function = cache.function(names[v], test);
-        cache.member(COUNT_WHERE, window, function);
-        cache.member(SUM_BY, data, function);
+        cache.member(CountWhere, window, function);
+        cache.member(SumBy, data, function);
         i += 1;
     }
     while (cache.heads[0] as usize) < ENTRIES {
@@ -71,12 +71,12 @@ pub fn records() -> [u64; 256] {
         let held = 70 * (i % 10) - 300;
         let key = (i64::from(if i % 2 == 0 { held } else { 5_000 + i }) + (1 << 31)) as u64;
         let number = put(NUMBER, key, NONE, NONE);
-        let window = put(TAKE, 0, data, number);
-        let sum = put(ADD, 0, bpm, number);
-        let test = put(GT, 0, sum, number);
+        let window = put(Take.kind(), 0, data, number);
+        let sum = put(Add.kind(), 0, bpm, number);
+        let test = put(Gt.kind(), 0, sum, number);
         let function = put(FUNCTION, packed("bpm"), test, NONE);
-        put(COUNT_WHERE, 0, window, function);
-        put(SUM_BY, 0, data, function);
+        put(CountWhere.kind(), 0, window, function);
+        put(SumBy.kind(), 0, data, function);
     }
     assert_eq!(count, RECORDS);
     records

@@ -142,6 +142,13 @@ pub fn sums_in_body() -> String {
     format!(r"data.sumBy(\b -> {windows}{sums})")
 }
 
+/// A run of a body with 29 best sums, as many as a text has parts for, of the whole recording by a window that depends on the variable. Their
+/// lengths differ, so that they are 29 entries.
+pub fn stretches_in_body() -> String {
+    let sums: String = (1..=29).map(|w| format!(".sub(w.bestSum({w}))")).collect();
+    format!(r"data.sumBy(\b -> let w = data.take(b.mul(1024)) in b{sums})")
+}
+
 /// Runs within runs, 22 deep, in 127 parts: each let's function runs the one before it, over a window that depends on its own variable. No
 /// text is deeper: docs/NESTING.md.
 pub fn nested_runs() -> String {

@@ -1,34 +1,9 @@
 //! A plain tree interpreter: boxed nodes, an environment of names, and nothing kept from one evaluation to the next. A let is evaluated
 //! once, where it stands.
 
+use crate::member::Member::{self, *};
 use crate::reader::{self, Builder, Node, Refusal};
-
-#[derive(Clone, Copy)]
-pub enum Member {
-    Add,
-    Sub,
-    Mul,
-    Div,
-    Gt,
-    Eq,
-    Skip,
-    Take,
-    Count,
-    Sum,
-    Min,
-    Max,
-    At,
-    CountWhere,
-    LongestRun,
-    SumBy,
-}
-
-use Member::*;
-
-/// The members in the order of the reader's numbers.
-const MEMBERS: [Member; 16] = [
-    Add, Sub, Mul, Div, Gt, Eq, Skip, Take, Count, Sum, Min, Max, At, CountWhere, LongestRun, SumBy,
-];
+use crate::stretches;
 
 pub enum Tree {
     Number(i32),
@@ -51,9 +26,7 @@ impl Builder for Trees {
             Node::Variable(name) | Node::Unbound(name) => Tree::Name(name),
             Node::Data => Tree::Data,
             Node::Function(name, body) => Tree::Function(name, body),
-            Node::Member(member, receiver, argument) => {
-                Tree::Member(MEMBERS[member as usize], receiver, argument)
-            }
+            Node::Member(member, receiver, argument) => Tree::Member(member, receiver, argument),
         })
     }
 
@@ -223,6 +196,14 @@ impl<'a> Interpreter<'a> {
                 (Take, Ok(n)) => Value::Window(start, n.min(length)),
                 (At, Ok(n)) if n < length => Value::Number(self.readings[(start + n) as usize]),
                 (Skip | Take | At, _) => Value::Missing(5),
+                (BestSum, _) => {
+                    let best = stretches::best(self.readings(start, length), n);
+                    best.map_or(Value::Missing(5), |(sum, _)| ranged(sum))
+                }
+                (BestAt, _) => {
+                    let best = stretches::best(self.readings(start, length), n);
+                    best.map_or(Value::Missing(5), |(_, at)| Value::Number(at as i32))
+                }
                 _ => Value::Missing(2),
             },
             (Value::Window(start, length), Value::Function(name, body, scope))

@@ -5,9 +5,11 @@ use crate::{proved, timing};
 use std::hint::black_box;
 
 const NUMBER: i64 = (1 << 31) + 1;
-const MISSING: u64 = 1 << 35;
+/// A reason is kept as this and the reason.
+pub const MISSING: u64 = 1 << 35;
 
-fn packed(total: i64) -> u64 {
+/// A number as it is kept, or reason 4.
+pub fn packed(total: i64) -> u64 {
     if i32::try_from(total).is_ok() { (total + NUMBER) as u64 } else { MISSING + 4 }
 }
 

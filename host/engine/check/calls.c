@@ -74,6 +74,12 @@ int main(void)
     depth(32);
     depth(31);
     depth(33);
+    edit("data.bestSum(2)");
+    preview(33, 512);
+    edit("data.bestAt(2)");
+    preview(34, 512);
+    edit("data.bestSum(6)");
+    preview(36, 512);
     memset(&cache, 0xff, sizeof cache);
     depth(511);
     depth(512);

@@ -1,10 +1,11 @@
 /*
  * Asks formula_cache_run_depth about every entry of caches with contents that no edit makes, and writes the greatest
- * answer for each sort of them. Run under sanitizers.
+ * answer for each sort of them. Run under sanitizers. The argument is the first number that is no kind of an entry.
  */
 #include "formula.h"
 
 #include <stdio.h>
+#include <stdlib.h>
 #include <string.h>
 
 static formula_cache cache;
@@ -80,15 +81,19 @@ static unsigned most_runs(void)
     return deepest();
 }
 
-int main(void)
+int main(int argc, char **argv)
 {
+    uint64_t unknown = argc == 2 ? strtoul(argv[1], NULL, 10) : 0;
     unsigned any = 0;
     unsigned runs = 0;
     unsigned round;
+    if (unknown == 0) {
+        return 1;
+    }
     memset(&cache, 0xff, sizeof cache);
     printf("all bits set: %u\n", deepest());
-    for (round = 0; round < 100; round++) {
-        unsigned depth = any_contents(round % 2 == 0 ? 22 : 65536, round % 3 == 0 ? 514 : 65536, 3);
+    for (round = 0; round < 300; round++) {
+        unsigned depth = any_contents(round % 2 == 0 ? unknown + 1 : 65536, round % 3 == 0 ? 514 : 65536, 3);
         any = any > depth ? any : depth;
         depth = any_runs();
         runs = runs > depth ? runs : depth;

@@ -32,7 +32,7 @@ int main(void)
     memset(&cache, 0xff, sizeof cache);
     type("data.sum()");
     type("data.sum().add(1)");
-    cache.links[0] = 21;
+    cache.links[0] = UINT16_MAX;
     type("data.sum().add(1)");
     type_and_damage("data.max()");
     type("data.max()");

@@ -6,8 +6,6 @@ use crate::memory::{Memory, State};
 use plain::model::{Answer, Call, Model};
 use plain::random::rng::Rng;
 use plain::samples::Step;
-use plain::shown::Shown;
-use std::collections::BTreeMap;
 
 /// Both, after the same calls.
 pub struct Pair {
@@ -64,49 +62,5 @@ impl Pair {
 pub fn follow(cache: &mut Cache, steps: &[Step]) {
     for (call, answer) in steps {
         assert_eq!(cache.call(call), *answer, "{call:?}");
-    }
-}
-
-/// How often each answer came.
-#[derive(Default)]
-pub struct Tally(BTreeMap<String, usize>);
-
-impl Tally {
-    pub fn count(&mut self, answer: &Answer) {
-        *self.0.entry(label(answer)).or_default() += 1;
-    }
-
-    pub fn add(&mut self, other: Tally) {
-        for (label, count) in other.0 {
-            *self.0.entry(label).or_default() += count;
-        }
-    }
-
-    pub fn total(&self) -> usize {
-        self.0.values().sum()
-    }
-
-    /// That all answers of these labels came at least so often.
-    pub fn check(&self, labels: &[&str], least: usize) {
-        for label in labels {
-            let count = self.0.get(*label).copied().unwrap_or(0);
-            assert!(count >= least, "{label} came {count} times: {:?}", self.0);
-        }
-    }
-}
-
-fn label(answer: &Answer) -> String {
-    match answer {
-        Answer::Opened => "opened".into(),
-        Answer::Edited { .. } => "edited".into(),
-        Answer::NotYet { .. } => "not yet".into(),
-        Answer::Refused { number, .. } => format!("refused {number}"),
-        Answer::Finished { shown, .. } => match shown {
-            Shown::Number(_) => "number".into(),
-            Shown::Window(_) => "window".into(),
-            Shown::Function(_) => "function".into(),
-            Shown::Delayed(names) => format!("delayed {}", names.len()),
-            Shown::Missing(reason) => format!("missing {reason}"),
-        },
     }
 }

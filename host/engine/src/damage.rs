@@ -1,13 +1,15 @@
 //! Caches that no call leaves: damaged ones, and such as are made at random.
 
-use crate::memory::{KEPT_DELAYED, KEPT_FUNCTION, Memory};
-use plain::form::{Form, Forms};
+use crate::memory::{
+    DATA, FUNCTION, KEPT_DELAYED, KEPT_FUNCTION, MEMBERS, Memory, NUMBER, UNBOUND, VARIABLE,
+    first_unknown, member,
+};
+use plain::member::{Kind, Member};
 use plain::random::rng::Rng;
-use plain::rule::Rule;
 
 /// Cells at and around the limits of keys and kept values.
 #[rustfmt::skip]
-const CELLS: [u64; 34] = [
+const CELLS: &[u64] = &[
     0, 1, 2, 5, 1 << 31, (1 << 31) + 1, (1 << 32) - 1, 1 << 32, (1 << 32) + 1, (1 << 33) - 1,
     1 << 33, (1 << 33) + 1, (1 << 33) + 65_536, (1 << 33) + 65_537, (1 << 33) + (1 << 32) - 1,
     (1 << 33) + (1 << 32), 1 << 34, (1 << 34) + 1, 3 << 33, (3 << 33) + 1, 1 << 35,
@@ -22,7 +24,7 @@ fn cell(rng: &mut Rng, old: u64) -> u64 {
         1 => old.wrapping_sub(1),
         2 => old ^ 1 << rng.below(64),
         3 => rng.draw(),
-        _ => rng.pick(&CELLS),
+        _ => rng.pick(CELLS),
     }
 }
 
@@ -31,7 +33,7 @@ fn link(rng: &mut Rng, old: u16) -> u16 {
         0 => old.wrapping_add(1),
         1 => old.wrapping_sub(1),
         2 => rng.draw() as u16,
-        3 => rng.below(24) as u16,
+        3 => rng.below(u64::from(first_unknown()) + 3) as u16,
         _ => rng.below(513) as u16,
     }
 }
@@ -79,32 +81,74 @@ fn copy_kept(memory: &mut Memory, from: usize, to: usize) {
     memory.cells.copy_within(4 * from + 1..4 * from + 4, 4 * to + 1);
 }
 
-/// Kinds of entries to make up: first those without dependencies.
-const KINDS: [u16; 24] =
-    [3, 0, 1, 1, 2, 4, 4, 5, 5, 6, 7, 8, 9, 10, 11, 12, 13, 14, 15, 16, 17, 18, 19, 20];
+/// The kind of an entry to make up, seldom the first that is unknown. The first entries
+/// depend on nothing, and mostly are the recording and a number.
+fn kind(rng: &mut Rng, entry: usize) -> u16 {
+    match entry {
+        _ if rng.one_in(60) => first_unknown(),
+        0 if !rng.one_in(3) => DATA,
+        1 if !rng.one_in(3) => NUMBER,
+        0 | 1 => rng.pick(&[DATA, NUMBER, VARIABLE, VARIABLE, UNBOUND]),
+        _ if rng.one_in(6) => rng.pick(&[DATA, NUMBER, NUMBER, VARIABLE, UNBOUND]),
+        _ if rng.one_in(8) => FUNCTION,
+        _ => MEMBERS + rng.below(u64::from(first_unknown() - MEMBERS)) as u16,
+    }
+}
+
+/// For each dependency of an entry of this kind, the kind of result that it should have,
+/// or none if any will do.
+fn wanted(kind: u16) -> Vec<Option<Kind>> {
+    match (kind, member(kind)) {
+        (FUNCTION, _) => vec![None],
+        (_, Some(member)) => {
+            let argument = member.argument().map(Some);
+            [Some(member.receiver())].into_iter().chain(argument).collect()
+        }
+        _ => vec![],
+    }
+}
+
+/// The kind of result that an entry most likely has.
+fn result(memory: &Memory, entry: usize) -> Option<Kind> {
+    match memory.kind(entry) {
+        NUMBER => Some(Kind::Number),
+        DATA => Some(Kind::Window),
+        FUNCTION => Some(Kind::Function),
+        kind => member(kind).map(Member::result),
+    }
+}
+
+/// The link to a lower entry, most likely to one that has the wanted kind of result.
+fn lower(rng: &mut Rng, memory: &Memory, entry: usize, wanted: Option<Kind>) -> u16 {
+    let is_fitting = |lower: &usize| wanted.is_some() && result(memory, *lower) == wanted;
+    let fitting: Vec<usize> = (0..entry).filter(is_fitting).collect();
+    let is_any = fitting.is_empty() || rng.one_in(3);
+    let lower = if is_any { rng.below(entry as u64) as usize } else { rng.pick(&fitting) };
+    1 + lower as u16
+}
+
+/// The key of a number: most are from -1 to 4, as counts, indices and lengths are.
+fn number_key(rng: &mut Rng) -> u64 {
+    if rng.one_in(4) { rng.below(1 << 32) } else { (1 << 31) - 1 + rng.below(6) }
+}
 
 /// Memory of a few entries, each made at random and mostly of the right shape.
 pub fn made_up(rng: &mut Rng) -> Memory {
     let mut memory = Memory::filled(|| rng.draw());
-    memory.heads = vec![rng.below(9) as u32, rng.below(7) as u32];
+    memory.heads = vec![rng.below(13) as u32, rng.below(9) as u32];
     for entry in 0..memory.entries() {
-        let kind = if entry < 2 { rng.pick(&KINDS[..5]) } else { rng.pick(&KINDS) };
-        let dependencies = match kind {
-            0..=3 => 0,
-            4 | 13..=16 => 1,
-            _ => 2,
-        };
+        let kind = kind(rng, entry);
         memory.links[3 * entry] = kind;
-        for at in 1..3 {
-            let lower = 1 + rng.below(entry.max(1) as u64) as u16;
-            memory.links[3 * entry + at] = if at <= dependencies { lower } else { 0 };
+        memory.links[3 * entry + 1..3 * entry + 3].fill(0);
+        for (at, wanted) in wanted(kind).into_iter().enumerate() {
+            memory.links[3 * entry + 1 + at] = lower(rng, &memory, entry, wanted);
         }
         let key = match kind {
-            0 => rng.below(1 << 32),
-            1 | 2 | 4 => rng.pick(&[0x61, 0x62, 0x63, 0x7831]),
+            NUMBER => number_key(rng),
+            VARIABLE | UNBOUND | FUNCTION => rng.pick(&[0x61, 0x62, 0x63, 0x7831]),
             _ => 0,
         };
-        let kept = if kind >= 4 && rng.one_in(8) { rng.pick(&CELLS) } else { 0 };
+        let kept = if kind >= FUNCTION && rng.one_in(16) { rng.pick(CELLS) } else { 0 };
         let is_named = kept == KEPT_FUNCTION || kept == KEPT_DELAYED;
         let name = if is_named { 0x61 } else { 0 };
         memory.cells[4 * entry..4 * entry + 4].copy_from_slice(&[key, kept, name, 0]);
@@ -120,18 +164,4 @@ pub fn with_spare(rng: &mut Rng, memory: &Memory) -> Memory {
     longer.links.extend((0..30).map(|_| rng.draw() as u16));
     longer.cells.extend((0..40).map(|_| rng.draw()));
     longer
-}
-
-/// Whether every entry takes few runs over so many readings, so that a preview takes
-/// little time.
-pub fn is_affordable(forms: &Forms, readings: usize) -> bool {
-    let mut depths: Vec<u32> = Vec::new();
-    for form in &forms.list {
-        let below = form.dependencies().into_iter().map(|number| depths[number]).max();
-        let is_run =
-            matches!(form, Form::Member(member, _) if matches!(member.rule(), Rule::Runs(_)));
-        depths.push(below.unwrap_or(0) + u32::from(is_run));
-    }
-    let depth = depths.into_iter().max().unwrap_or(0);
-    readings.checked_pow(depth).is_some_and(|runs| runs <= 5_000)
 }

@@ -158,6 +158,11 @@ pub fn is_kept_value(value: u64, readings: usize) -> bool {
     is_number || is_window || is_missing || value == KEPT_FUNCTION || value == KEPT_DELAYED
 }
 
+/// The first number that is no kind.
+pub fn first_unknown() -> u16 {
+    MEMBERS + Member::all().count() as u16
+}
+
 /// The member of a kind, if it is one.
 pub fn member(kind: u16) -> Option<Member> {
     Member::all().nth(usize::from(kind.checked_sub(MEMBERS)?))

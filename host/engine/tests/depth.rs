@@ -1,6 +1,7 @@
 //! The header's run depth: the deepest nest of runs at an entry or below it, as the plain
 //! evaluator finds it in the forms.
 
+use engine::memory::first_unknown;
 use engine::program::{check, linked, run, sanitized, text, written};
 use plain::bind::bind;
 use plain::form::Forms;
@@ -56,6 +57,10 @@ fn known_depths() -> Vec<(String, u32)> {
         (r"1.sumBy(\q -> q)", 0),
         // no function to run
         (r"data.sumBy(\p -> data.sumBy(p))", 1),
+        // a function, but no member that runs it
+        (r"data.sumBy(\p -> data.bestSum(\q -> q.add(p)))", 1),
+        (r"data.bestAt(\q -> q)", 0),
+        (r"data.sumBy(\p -> data.bestAt(p))", 1),
         (r"data.take(3).sum()", 0),
         (r"\p -> data.take(p).sumBy(\q -> q)", 1),
         (MEAN_AND_DISTANCE, 1),
@@ -165,6 +170,7 @@ fn random_texts() {
 #[test]
 fn any_contents() {
     let program = sanitized(&check("contents.c"), &program("contents"));
-    let lines = written(&run(&mut Command::new(program), b""));
-    assert_eq!(lines, "all bits set: 0\nany contents: 1\nany runs: 4\nmost runs: 254\n");
+    let kinds = first_unknown().to_string();
+    let lines = written(&run(Command::new(program).arg(kinds), b""));
+    assert_eq!(lines, "all bits set: 0\nany contents: 1\nany runs: 5\nmost runs: 254\n");
 }

@@ -5,22 +5,24 @@
 //! `Cache` at each call.
 
 use engine::cache::Cache;
-use engine::compare::{Pair, Tally};
-use engine::damage::{damage, is_affordable, made_up, with_spare};
+use engine::compare::Pair;
+use engine::damage::{damage, made_up, with_spare};
 use engine::judge::is_well_formed;
-use engine::memory::Memory;
+use engine::memory::{MEMBERS, Memory, first_unknown};
 use plain::bind::bind;
 use plain::eval::Evaluation;
-use plain::form::Forms;
+use plain::form::{Form, Forms};
+use plain::member::Member;
 use plain::model::Answer;
 use plain::random::formula::{formula, join};
 use plain::random::limit::wide;
 use plain::random::rng::Rng;
-use plain::random::session;
+use plain::random::{are_affordable, session};
 use plain::refusal::{NO_SUCH_ENTRY, TABLE_FULL};
 use plain::samples::{ALL, RECORDING, edit, open, preview};
 use plain::shown::Shown;
 use plain::syntax::parse;
+use plain::tally::Tally;
 
 const ILL_FORMED: Answer = Answer::Refused { number: 4, place: 0 };
 
@@ -83,6 +85,11 @@ fn shown_by_forms(memory: &Memory) -> Option<Vec<Shown>> {
 }
 
 fn check_preview(memory: &Memory, entry: u32, allowance: u32) -> Answer {
+    count_preview(memory, entry, allowance, &mut Tally::default())
+}
+
+/// Checks a preview, and counts the results of rules that it worked out.
+fn count_preview(memory: &Memory, entry: u32, allowance: u32, tally: &mut Tally) -> Answer {
     let mut cache = Cache::new(memory);
     let answer = cache.call(&preview(entry, allowance));
     if !is_well_formed(memory) {
@@ -109,6 +116,11 @@ fn check_preview(memory: &Memory, entry: u32, allowance: u32) -> Answer {
     if let Some(shown) = shown_by_forms(memory) {
         for number in unworked {
             assert_eq!(after.shown(number).as_ref(), Some(&shown[number]), "entry {number}");
+            if let Form::Member(member, operands) = &memory.forms().list[number] {
+                let operands: Vec<Shown> =
+                    operands.iter().map(|operand| shown[*operand].clone()).collect();
+                tally.count_rule(*member, &operands, &shown[number]);
+            }
         }
     }
     answer
@@ -122,14 +134,18 @@ fn check(rng: &mut Rng, memory: &Memory, tally: &mut Tally) {
     tally.count(&check_edit(memory, &text));
     let is_cheap = !is_well_formed(memory) || {
         let readings = memory.heads[1] as usize;
-        is_affordable(&memory.forms(), readings)
+        are_affordable(&memory.forms(), readings)
     };
     if is_cheap {
         let held = memory.heads[0];
-        let is_held = held > 0 && !rng.one_in(8);
-        let entry = if is_held { rng.below(held.into()) as u32 } else { held };
+        let entry = match rng.below(8) {
+            1..=3 if held > 0 => held - 1,
+            4.. if held > 0 => rng.below(held.into()) as u32,
+            _ => held,
+        };
         let allowance = rng.pick(&[0, 1, 2, 3, 512, u32::MAX]);
-        tally.count(&check_preview(memory, entry, allowance));
+        let answer = count_preview(memory, entry, allowance, tally);
+        tally.count(&answer);
     }
 }
 
@@ -156,12 +172,15 @@ fn damaged_caches() {
 fn made_up_caches() {
     let mut tally = Tally::default();
     let mut rng = Rng::new(21);
-    for _ in 0..20_000 {
+    for _ in 0..30_000 {
         let memory = made_up(&mut rng);
         check(&mut rng, &memory, &mut tally);
     }
     tally.check(&["refused 4", "refused 14", "edited", "not yet", "number", "window"], 100);
     tally.check(&["function", "delayed 1", "delayed 2", "missing 1", "missing 2"], 5);
+    tally.check_rules(&[("bestSum", "number"), ("bestAt", "number")], 5);
+    tally.check_rules(&[("bestSum", "missing 4"), ("bestSum", "missing 5")], 5);
+    tally.check_rules(&[("bestAt", "missing 5")], 5);
 }
 
 #[test]
@@ -234,7 +253,7 @@ fn changed(change: Change) -> Memory {
 fn clauses_of_refusal_4() {
     use Change::{Cell, Link};
     let clauses = [
-        ("unknown kind", Link(9, 0, 21)),
+        ("unknown kind", Link(9, 0, first_unknown())),
         ("unknown kind", Link(2, 0, u16::MAX)),
         ("a name that is none: empty", Cell(9, 0, 0)),
         ("a name that is none: a digit first", Cell(9, 0, 0x3161)),
@@ -281,6 +300,28 @@ fn clauses_of_refusal_4() {
         assert!(!is_well_formed(&memory), "{clause}");
         assert_eq!(check_edit(&memory, b"data"), ILL_FORMED, "{clause}");
         assert_eq!(check_preview(&memory, 0, 1), ILL_FORMED, "{clause}");
+    }
+}
+
+/// Each member by its kind, on as many dependencies as it takes: entry 2 has a receiver
+/// and an argument, entry 10 a receiver alone. With any other number of them, and for the
+/// kind behind the last, the cache is ill-formed.
+#[test]
+fn kinds_of_members() {
+    let mut unknown = MEMBERS;
+    for member in Member::all() {
+        let (right, wrong) = if member.arguments() == 1 { (2, 10) } else { (10, 2) };
+        let mut memory = changed(Change::Link(right, 0, unknown));
+        memory.cells[4 * right + 1] = 0;
+        assert!(is_well_formed(&memory), "{member:?}");
+        let answer = check_preview(&memory, right as u32, ALL);
+        assert!(matches!(answer, Answer::Finished { worked: 1, .. }), "{member:?}: {answer:?}");
+        let memory = changed(Change::Link(wrong, 0, unknown));
+        assert_eq!(check_edit(&memory, b"data"), ILL_FORMED, "{member:?}");
+        unknown += 1;
+    }
+    for entry in [2, 10] {
+        assert_eq!(check_edit(&changed(Change::Link(entry, 0, unknown)), b"data"), ILL_FORMED);
     }
 }
 

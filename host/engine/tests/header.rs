@@ -1,9 +1,11 @@
 //! include/formula.h: what it says is what the Rust side and the rules say, it compiles as
 //! C and C++ of all standards, and calls through its wrappers get the engine's answers.
+//! And docs/MEMORY.md, which it refers to, has the kinds of the member table.
 
 use engine::ffi::{EditAnswer, PreviewAnswer};
 use engine::memory;
 use engine::program::{check, compiler, exists, linked, root, run, text, written};
+use plain::member::Member;
 use plain::{limits, refusal, shown};
 use std::collections::BTreeMap;
 use std::mem::{offset_of, size_of};
@@ -194,6 +196,17 @@ fn the_assertions_refuse_other_sizes() {
     }
 }
 
+/// docs/MEMORY.md lists the kind of each member, in the order of the table.
+#[test]
+fn kinds_of_members_on_the_page() {
+    let page = std::fs::read_to_string(root().join("docs/MEMORY.md")).expect("the page is there");
+    let page = page.split_whitespace().collect::<Vec<_>>().join(" ");
+    let members = (memory::MEMBERS..).zip(Member::all());
+    let kinds: Vec<String> = members.map(|(kind, member)| format!("{kind} {member:?}")).collect();
+    let list = format!("member table: {}.", kinds.join(", "));
+    assert!(page.contains(&list), "{list}");
+}
+
 /// A program in C over the wrappers: every field of every answer.
 #[test]
 fn calls_from_c() {
@@ -223,6 +236,12 @@ fn calls_from_c() {
         depth 2\ndepth 1\ndepth 1\ndepth 0\ndepth 0\n\
         edit 0 0 32 18 11: 32 27 1 23 22 26 25 24 1 28 27 30 1 29 27 32 1 31\n\
         depth 2\ndepth 0\ndepth 0\n\
+        edit 0 0 33 3 1: 1 33 0\n\
+        preview 0 1 1 1 312 0 [] []\n\
+        edit 0 0 34 3 1: 1 34 0\n\
+        preview 0 1 1 1 1 0 [] []\n\
+        edit 0 0 36 3 2: 1 36 35\n\
+        preview 0 1 1 5 5 0 [] []\n\
         depth 0\ndepth 0\n";
     assert_eq!(said("calls"), expected);
 }

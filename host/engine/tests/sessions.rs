@@ -3,16 +3,18 @@
 //! FORMULA_SEED and FORMULA_CALLS set another first seed and number of calls:
 //!     FORMULA_SEED=77 FORMULA_CALLS=5000000 cargo test --release -p engine --test sessions
 
-use engine::compare::{Pair, Tally};
+use engine::compare::Pair;
 use plain::limits::TABLE_ENTRIES;
 use plain::model::Answer;
 use plain::random::formula::{formula, join};
 use plain::random::limit::wide;
 use plain::random::nested::nested;
 use plain::random::rng::Rng;
+use plain::random::single::single;
 use plain::random::{is_affordable, session};
 use plain::refusal::TABLE_FULL;
 use plain::samples::{edit, open, preview};
+use plain::tally::Tally;
 use std::thread;
 
 const CALLS_OF_SESSION: usize = 80;
@@ -35,6 +37,7 @@ fn run(seed: u64) -> Tally {
         tally.count(&answer);
     }
     pair.check_state();
+    tally.count_rules(&pair.model);
     tally
 }
 
@@ -57,7 +60,7 @@ fn run_all(first: u64, sessions: u64) -> Tally {
     all
 }
 
-/// Each kind of answer comes often enough to be of use.
+/// Each kind of answer, and each result of a member, comes often enough to be of use.
 #[test]
 fn random_sessions() {
     let calls = setting("FORMULA_CALLS", 200_000);
@@ -65,12 +68,7 @@ fn random_sessions() {
     let tally = run_all(setting("FORMULA_SEED", 0), sessions);
     assert!(tally.total() as u64 >= calls);
     if calls >= 200_000 {
-        let refused = [1, 2, 3, 5, 6, 7, 8, 9, 10, 11, 12, 13, 14];
-        let labels = refused.map(|number| format!("refused {number}"));
-        tally.check(&labels.each_ref().map(String::as_str), 50);
-        tally.check(&["opened", "edited", "not yet", "number", "window", "function"], 50);
-        tally.check(&["delayed 1", "delayed 2"], 50);
-        tally.check(&["missing 1", "missing 2", "missing 3", "missing 4", "missing 5"], 50);
+        tally.check_all(50, 20);
     }
 }
 
@@ -146,7 +144,7 @@ fn recordings() -> Vec<Vec<i32>> {
 
 /// Every member at the limits of recordings and numbers.
 #[rustfmt::skip]
-const TEXTS: [&str; 36] = [
+const TEXTS: &[&str] = &[
     "data", "data.sum()", "data.min()", "data.max()", "data.count()",
     "data.at(0)", "data.at(1022)", "data.at(1023)", "data.at(1024)", "data.at(-1)",
     "data.at(2147483647)", "data.skip(1023)", "data.skip(1024)", "data.skip(1025)",
@@ -159,6 +157,17 @@ const TEXTS: [&str; 36] = [
     "data.longestRun(\\x -> x.eq(2147483647))", "data.longestRun(\\x -> x.gt(0))",
     "data.countWhere(\\x -> data.skip(x))", "data.take(0).countWhere(\\x -> y)",
     "data.take(30).sumBy(\\p -> data.skip(990).countWhere(\\q -> q.gt(p)))",
+    "data.bestSum(-2147483648)", "data.bestSum(-1)", "data.bestSum(0)", "data.bestSum(1)",
+    "data.bestSum(2)", "data.bestSum(3)", "data.bestSum(511)", "data.bestSum(512)",
+    "data.bestSum(1022)", "data.bestSum(1023)", "data.bestSum(1024)", "data.bestSum(1025)",
+    "data.bestSum(2147483647)", "data.bestSum(65537)", "data.bestAt(-2147483648)",
+    "data.bestAt(-1)", "data.bestAt(0)", "data.bestAt(1)", "data.bestAt(2)", "data.bestAt(3)",
+    "data.bestAt(511)", "data.bestAt(512)", "data.bestAt(1022)", "data.bestAt(1023)",
+    "data.bestAt(1024)", "data.bestAt(1025)", "data.bestAt(2147483647)", "data.bestAt(65537)",
+    "data.skip(512).take(511).bestSum(2)", "data.skip(512).take(511).bestAt(2)",
+    "data.skip(512).take(511).bestAt(511)", "data.skip(512).take(511).bestSum(512)",
+    "data.skip(1022).bestAt(2)", "data.skip(1024).bestSum(1)", "data.take(0).bestAt(1)",
+    "data.take(9).sumBy(\\w -> data.bestAt(w))", "data.take(9).sumBy(\\w -> data.bestSum(w))",
 ];
 
 /// Edits a text and previews it to the end, over a new opening if the table is full.
@@ -184,7 +193,11 @@ fn extreme_recordings() {
             show(&mut pair, recording, text.as_bytes(), [1, 2, u32::MAX][at % 3]);
         }
         for _ in 0..150 {
-            let tokens = if rng.one_in(2) { formula(&mut rng) } else { nested(&mut rng) };
+            let tokens = match rng.below(5) {
+                0 | 1 => formula(&mut rng),
+                2 | 3 => nested(&mut rng),
+                _ => single(&mut rng),
+            };
             let text = join(&mut rng, &tokens);
             if is_affordable(&text, recording.len()) {
                 show(&mut pair, recording, &text, 1);
@@ -192,6 +205,46 @@ fn extreme_recordings() {
         }
         pair.check_state();
     }
+}
+
+/// A recording for best stretches: readings of any size, or so few different ones that
+/// many stretches have the greatest sum.
+fn readings(rng: &mut Rng) -> Vec<i32> {
+    let length = rng.pick(&[0, 1, 2, 3, 5, 8, 13, 33]);
+    let sort = rng.below(4);
+    let reading = |rng: &mut Rng| match sort {
+        0 => rng.reading(),
+        1 => rng.draw() as i32,
+        2 => rng.below(3) as i32 - 1,
+        _ => rng.pick(&[i32::MIN, -1, 0, i32::MAX]),
+    };
+    (0..length).map(|_| reading(rng)).collect()
+}
+
+/// Stretches of every length, and of one too short and too long, in windows and parts of
+/// them.
+#[test]
+fn best_stretches() {
+    let mut tally = Tally::default();
+    for seed in 0..100 {
+        let mut rng = Rng::new(seed);
+        let recording = readings(&mut rng);
+        let mut pair = Pair::new(seed);
+        pair.call(&open(&recording));
+        for w in -1..=recording.len() as i32 + 1 {
+            for window in ["data", "data.skip(1)", "data.skip(1).take(4)"] {
+                for member in ["bestSum", "bestAt"] {
+                    let text = format!("{window}.{member}({w})");
+                    show(&mut pair, &recording, text.as_bytes(), u32::MAX);
+                }
+            }
+        }
+        pair.check_state();
+        tally.count_rules(&pair.model);
+    }
+    tally.check_rules(&[("bestSum", "number"), ("bestAt", "number")], 500);
+    tally.check_rules(&[("bestSum", "missing 4")], 200);
+    tally.check_rules(&[("bestSum", "missing 5"), ("bestAt", "missing 5")], 500);
 }
 
 #[test]

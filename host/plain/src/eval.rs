@@ -90,7 +90,7 @@ impl<'a> Evaluation<'a> {
                 rule(i64::from(*left), i64::from(*right))?
             }
             (Rule::Readings(rule), [Shown::Window(window)]) => rule(self.readings(*window))?,
-            (Rule::Index(rule), [Shown::Window(window), Shown::Number(n)]) => {
+            (Rule::ReadingsAndNumber(rule), [Shown::Window(window), Shown::Number(n)]) => {
                 rule(self.readings(*window), *n)?
             }
             (Rule::Runs(rule), [Shown::Window(window), Shown::Function(_)]) => {

@@ -1,12 +1,13 @@
 //! The reference model of the formula engine (01: the plain book).
 //!
-//! It answers the calls open, edit and preview as document 01 says, with plain
-//! recursion and without speed in mind, so that the engine can be compared with it
-//! call by call. One edit passes through the modules in this order: `token` cuts
-//! the text into tokens, `syntax` reads them or refuses one, `bind` turns the tree
-//! into let-free forms, `form` numbers them. One preview takes `eval`, which knows
-//! the members by the table in `member` and their rules in `rule`. `model` holds
-//! the state and decides each call. `samples` and `random` are data for tests.
+//! It answers the calls open, edit and preview as document 01 says, with request T-01
+//! of 02, by plain recursion and without speed in mind, so that the engine can be
+//! compared with it call by call. One edit passes through the modules in this order:
+//! `token` cuts the text into tokens, `syntax` reads them or refuses one, `bind` turns
+//! the tree into let-free forms, `form` numbers them. One preview takes `eval`, which
+//! knows the members by the table in `member` and their rules in `rule`. `model` holds
+//! the state and decides each call. `samples` and `random` are data for tests, and
+//! `tally` counts what random data reaches.
 
 pub mod bind;
 pub mod eval;
@@ -23,4 +24,5 @@ pub mod rule;
 pub mod samples;
 pub mod shown;
 pub mod syntax;
+pub mod tally;
 pub mod token;

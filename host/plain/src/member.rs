@@ -5,7 +5,7 @@ use std::fmt;
 
 /// Each member's name and rule. The kind of rule says the receiver's kind, the
 /// arguments' kinds and so their count.
-const TABLE: [(&str, Rule); 16] = [
+const TABLE: &[(&str, Rule)] = &[
     ("add", Rule::Numbers(rule::add)),
     ("sub", Rule::Numbers(rule::sub)),
     ("mul", Rule::Numbers(rule::mul)),
@@ -18,11 +18,21 @@ const TABLE: [(&str, Rule); 16] = [
     ("sum", Rule::Readings(rule::sum)),
     ("min", Rule::Readings(rule::min)),
     ("max", Rule::Readings(rule::max)),
-    ("at", Rule::Index(rule::at)),
+    ("at", Rule::ReadingsAndNumber(rule::at)),
     ("countWhere", Rule::Runs(rule::count_where)),
     ("longestRun", Rule::Runs(rule::longest_run)),
     ("sumBy", Rule::Runs(rule::sum_by)),
+    ("bestSum", Rule::ReadingsAndNumber(rule::best_sum)),
+    ("bestAt", Rule::ReadingsAndNumber(rule::best_at)),
 ];
+
+/// What a member takes and gives.
+#[derive(Clone, Copy, PartialEq, Eq, Debug)]
+pub enum Kind {
+    Number,
+    Window,
+    Function,
+}
 
 /// A member, as its row in the table.
 #[derive(Clone, Copy, PartialEq, Eq, PartialOrd, Ord, Hash)]
@@ -47,12 +57,38 @@ impl Member {
         TABLE[self.0].1
     }
 
-    /// How many arguments the member takes, the receiver not counted.
-    pub fn arguments(self) -> usize {
+    /// The kind of its receiver.
+    pub fn receiver(self) -> Kind {
         match self.rule() {
-            Rule::Readings(_) => 0,
-            Rule::Numbers(_) | Rule::Cut(_) | Rule::Index(_) | Rule::Runs(_) => 1,
+            Rule::Numbers(_) => Kind::Number,
+            Rule::Cut(_) | Rule::Readings(_) | Rule::ReadingsAndNumber(_) | Rule::Runs(_) => {
+                Kind::Window
+            }
         }
+    }
+
+    /// The kind of its argument, or none if it takes none.
+    pub fn argument(self) -> Option<Kind> {
+        match self.rule() {
+            Rule::Numbers(_) | Rule::Cut(_) | Rule::ReadingsAndNumber(_) => Some(Kind::Number),
+            Rule::Runs(_) => Some(Kind::Function),
+            Rule::Readings(_) => None,
+        }
+    }
+
+    /// The kind of its result.
+    pub fn result(self) -> Kind {
+        match self.rule() {
+            Rule::Cut(_) => Kind::Window,
+            Rule::Numbers(_) | Rule::Readings(_) | Rule::ReadingsAndNumber(_) | Rule::Runs(_) => {
+                Kind::Number
+            }
+        }
+    }
+
+    /// How many arguments it takes, the receiver not counted.
+    pub fn arguments(self) -> usize {
+        usize::from(self.argument().is_some())
     }
 }
 

@@ -2,8 +2,8 @@
 //! parts that a text needs for it.
 
 use crate::form::{Form, Forms};
+use crate::member::Kind;
 use crate::name::Name;
-use crate::rule::Rule;
 use std::collections::BTreeSet;
 
 /// For each form, the most runs that are under way at once when it is worked out
@@ -25,7 +25,7 @@ pub fn nesting(forms: &Forms) -> Vec<u32> {
 /// The name and body of the function that a form runs over a window.
 fn function_run(form: &Form, forms: &Forms) -> Option<(Name, usize)> {
     let Form::Member(member, operands) = form else { return None };
-    let is_run = matches!(member.rule(), Rule::Runs(_));
+    let is_run = member.argument() == Some(Kind::Function);
     match operands[..] {
         [receiver, argument] if is_run && is_window(&forms.list[receiver]) => {
             match forms.list[argument] {
@@ -41,7 +41,7 @@ fn function_run(form: &Form, forms: &Forms) -> Option<(Name, usize)> {
 fn is_window(form: &Form) -> bool {
     match form {
         Form::Data => true,
-        Form::Member(member, _) => matches!(member.rule(), Rule::Cut(_)),
+        Form::Member(member, _) => member.result() == Kind::Window,
         _ => false,
     }
 }

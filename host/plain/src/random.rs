@@ -6,17 +6,19 @@ pub mod formula;
 pub mod limit;
 pub mod nested;
 pub mod rng;
+pub mod single;
 
 use crate::bind::bind;
 use crate::form::{Form, Forms};
+use crate::member::Kind;
 use crate::model::{Answer, Call, Model};
-use crate::rule::Rule;
 use crate::syntax::parse;
 use damage::{damaged, token_soup};
 use formula::{formula, join};
 use limit::{deep, wide};
 use nested::nested;
 use rng::Rng;
+use single::single;
 
 /// Bound on the runs that one entry of a random text may need, so that a session
 /// takes little time.
@@ -126,7 +128,7 @@ impl Generator {
         if self.is_filling && self.rng.one_in(3) {
             return wide(&mut self.rng);
         }
-        match self.rng.below(24) {
+        match self.rng.below(28) {
             0..=7 => {
                 let tokens = formula(&mut self.rng);
                 join(&mut self.rng, &tokens)
@@ -143,6 +145,10 @@ impl Generator {
             19 => deep(&mut self.rng),
             20 => token_soup(&mut self.rng),
             21 => self.padded_text(),
+            22..=25 => {
+                let tokens = single(&mut self.rng);
+                join(&mut self.rng, &tokens)
+            }
             _ => self.changed_text(),
         }
     }
@@ -178,7 +184,12 @@ pub fn is_affordable(text: &[u8], readings: usize) -> bool {
     };
     let mut forms = Forms::default();
     bind(&text, &mut forms);
-    let depth = run_depths(&forms).into_iter().max().unwrap_or(0);
+    are_affordable(&forms, readings)
+}
+
+/// Whether each of these forms needs at most `MOST_RUNS` runs.
+pub fn are_affordable(forms: &Forms, readings: usize) -> bool {
+    let depth = run_depths(forms).into_iter().max().unwrap_or(0);
     readings.checked_pow(depth).is_some_and(|runs| runs <= MOST_RUNS)
 }
 
@@ -195,5 +206,5 @@ fn run_depths(forms: &Forms) -> Vec<u32> {
 }
 
 fn runs_function(form: &Form) -> bool {
-    matches!(form, Form::Member(member, _) if matches!(member.rule(), Rule::Runs(_)))
+    matches!(form, Form::Member(member, _) if member.argument() == Some(Kind::Function))
 }

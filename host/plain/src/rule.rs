@@ -16,7 +16,7 @@ pub enum Rule {
     /// A window, given by its readings, gives a number.
     Readings(fn(&[i32]) -> Result<i64, Reason>),
     /// A window, given by its readings, and a number give a number.
-    Index(fn(&[i32], i32) -> Result<i64, Reason>),
+    ReadingsAndNumber(fn(&[i32], i32) -> Result<i64, Reason>),
     /// A window and a function give a number. The rule is fed what the function
     /// gives for each reading, in order.
     Runs(fn(&[i32]) -> Result<i64, Reason>),
@@ -108,4 +108,26 @@ pub fn longest_run(results: &[i32]) -> Result<i64, Reason> {
 /// The total of the results.
 pub fn sum_by(results: &[i32]) -> Result<i64, Reason> {
     sum(results)
+}
+
+/// The sums of all stretches of `w` readings next to each other, by where they begin. No
+/// stretch has fewer than one reading or more than there are.
+fn stretch_sums(readings: &[i32], w: i32) -> Result<Vec<i64>, Reason> {
+    match usize::try_from(w) {
+        Ok(w) if (1..=readings.len()).contains(&w) => readings.windows(w).map(sum).collect(),
+        _ => Err(OUTSIDE_WINDOW),
+    }
+}
+
+/// The greatest sum of a stretch.
+pub fn best_sum(readings: &[i32], w: i32) -> Result<i64, Reason> {
+    stretch_sums(readings, w)?.into_iter().max().ok_or(OUTSIDE_WINDOW)
+}
+
+/// Where the first stretch of the greatest sum begins, counted in the window. The sum
+/// itself may be beyond 32 bits.
+pub fn best_at(readings: &[i32], w: i32) -> Result<i64, Reason> {
+    let greatest = best_sum(readings, w)?;
+    let sums = stretch_sums(readings, w)?.into_iter();
+    Ok(sums.take_while(|sum| *sum != greatest).count() as i64)
 }

@@ -1,4 +1,4 @@
-//! Samples as data: calls with the answers that 01 asks for, worked out by hand.
+//! Samples as data: calls with the answers that 01 and 02 ask for, worked out by hand.
 //! Tests of the model use them, and tests of the engine can use them as well.
 
 pub mod calls;
@@ -17,7 +17,7 @@ pub const RECORDING: [i32; 5] = [140, 152, 160, 148, 155];
 /// An allowance that covers every entry of a full table.
 pub const ALL: u32 = 512;
 
-/// A sample preview of 01.
+/// A sample preview.
 pub struct Sample {
     /// Whether 01 stars it.
     pub starred: bool,
@@ -99,9 +99,14 @@ fn missing(reason: u8) -> Shown {
     Shown::Missing(reason)
 }
 
+/// All sample previews: those of 01, then those of the members that 02 adds.
+pub fn previews() -> Vec<Sample> {
+    scope_previews().into_iter().chain(stretch_previews()).collect()
+}
+
 /// The sample previews of 01, in its order. Where 01 gives only what is shown, the
 /// other figures follow from 'Binding' and 'Working out'.
-pub fn previews() -> Vec<Sample> {
+pub fn scope_previews() -> Vec<Sample> {
     let first: Figures = (5, 4, &[4, 0, 1, 3, 2, 4, 0]);
     let second: Figures = (2, 6, &[6, 5, 1, 3, 2, 6, 5]);
     let runs: Figures = (6, 5, &[0, 5, 4, 1, 3, 2]);
@@ -128,5 +133,22 @@ pub fn previews() -> Vec<Sample> {
         sample("data.skip(9)", one_call, 1, window(5, 0)),
         sample("data.skip(9).min()", (1, 3, &[0, 2, 1, 3]), 1, missing(5)).following(),
         sample("1.add(data)", one_call, 1, missing(2)),
+    ]
+}
+
+/// Best stretches (02, T-01). The last two are one stretch: it begins with the reading
+/// 152, at 1 in the recording and at 0 in the window.
+fn stretch_previews() -> Vec<Sample> {
+    let one_call: Figures = (3, 2, &[0, 2, 1]);
+    let other_member: Figures = (1, 3, &[0, 3, 1]);
+    let of_part: Figures = (5, 8, &[0, 5, 4, 7, 6, 8, 1]);
+    vec![
+        sample("data.bestSum(5)", one_call, 1, number(755)),
+        sample("data.bestAt(5)", other_member, 1, number(0)).following(),
+        sample("data.bestSum(6)", one_call, 1, missing(5)),
+        sample("data.bestAt(6)", other_member, 1, missing(5)).following(),
+        sample("data.bestSum(2)", one_call, 1, number(312)),
+        sample("data.bestAt(2)", other_member, 1, number(1)).following(),
+        sample("data.skip(1).take(3).bestAt(2)", of_part, 3, number(0)).following(),
     ]
 }

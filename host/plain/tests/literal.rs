@@ -11,6 +11,7 @@ use plain::name::Name;
 use plain::random::formula::{formula, join};
 use plain::random::nested::nested;
 use plain::random::rng::Rng;
+use plain::random::single::single;
 use plain::rule::{Rule, fit};
 use plain::shown::{Shown, UNBOUND_NAME, WRONG_KIND, Window};
 use plain::syntax::{Expression, parse};
@@ -188,7 +189,9 @@ fn show_member(member: Member, operands: &[Tree], recording: &[i32]) -> Shown {
             rule((*left).into(), (*right).into())
         }
         (Rule::Readings(rule), [Shown::Window(window)]) => rule(part(window)),
-        (Rule::Index(rule), [Shown::Window(window), Shown::Number(n)]) => rule(part(window), *n),
+        (Rule::ReadingsAndNumber(rule), [Shown::Window(window), Shown::Number(n)]) => {
+            rule(part(window), *n)
+        }
         (Rule::Runs(rule), [Shown::Window(window), Shown::Function(_)]) => {
             run_over(&operands[1], part(window), recording).and_then(|results| rule(&results))
         }
@@ -249,7 +252,11 @@ fn random_texts_agree_with_literal_substitution() {
     let mut rng = Rng::new(1);
     let mut compared = 0;
     for _ in 0..4000 {
-        let tokens = if rng.one_in(2) { formula(&mut rng) } else { nested(&mut rng) };
+        let tokens = match rng.below(5) {
+            0 | 1 => formula(&mut rng),
+            2 | 3 => nested(&mut rng),
+            _ => single(&mut rng),
+        };
         let text = join(&mut rng, &tokens);
         let recording: Vec<i32> = (0..rng.below(5)).map(|_| rng.reading()).collect();
         compared += usize::from(agrees(&text, &recording));
@@ -268,6 +275,7 @@ fn chosen_texts_agree_with_literal_substitution() {
         "\\a -> let y = a in let a = 1 in y.add(a)",
         "let a = a in let b = a in \\a -> b.add(a)",
         "data.sumBy(\\p -> data.take(0).countWhere(\\q -> 1.div(p)))",
+        "let w = data.skip(1) in data.skip(1).sumBy(\\p -> w.bestSum(p.sub(1)).add(w.bestAt(1)))",
     ] {
         assert!(agrees(text.as_bytes(), &[0, 2, 3]), "{text}");
     }

@@ -3,6 +3,9 @@
 mod common;
 
 use common::{check_shown, delayed, function, missing, number, shown, window};
+use plain::model::Answer;
+use plain::samples::RECORDING;
+use plain::shown::Shown;
 
 #[test]
 fn numbers() {
@@ -118,6 +121,151 @@ fn the_first_run_without_a_number_decides() {
     let wide = "data.sumBy(\\b -> b.mul(b))";
     assert_eq!(shown(&[40000, 40000], wide), missing(4));
     assert_eq!(shown(&[30000, 30000], wide), number(1_800_000_000));
+}
+
+/// Over 140, 152, 160, 148, 155: the greatest sum of so many readings next to each
+/// other, and where the first such stretch begins.
+#[test]
+fn best_stretches() {
+    check_shown(&[
+        ("data.bestSum(1)", number(160)),
+        ("data.bestAt(1)", number(2)),
+        ("data.bestSum(2)", number(312)),
+        ("data.bestAt(2)", number(1)),
+        ("data.bestSum(3)", number(463)),
+        ("data.bestAt(3)", number(2)),
+        ("data.bestSum(4)", number(615)),
+        ("data.bestAt(4)", number(1)),
+        ("data.bestSum(5)", number(755)),
+        ("data.bestAt(5)", number(0)),
+        ("data.bestSum(2).eq(data.skip(data.bestAt(2)).take(2).sum())", number(1)),
+    ]);
+}
+
+/// The index is counted in the window, not in the recording.
+#[test]
+fn best_stretches_of_a_part() {
+    check_shown(&[
+        ("data.skip(1).take(3).bestSum(2)", number(312)),
+        ("data.skip(1).take(3).bestAt(2)", number(0)),
+        ("data.skip(1).bestAt(1)", number(1)),
+        ("data.skip(2).bestSum(2)", number(308)),
+        ("data.skip(2).bestAt(2)", number(0)),
+        ("data.skip(3).bestSum(2)", number(303)),
+        ("data.take(2).bestAt(1)", number(1)),
+        ("data.skip(4).bestSum(1)", number(155)),
+        ("data.skip(4).bestAt(1)", number(0)),
+    ]);
+}
+
+/// No stretch has fewer than one reading, or more than the window.
+#[test]
+fn stretches_outside_the_window() {
+    for member in ["bestSum", "bestAt"] {
+        for w in ["0", "-1", "6", "7", "2147483647", "-2147483648"] {
+            let text = format!("data.{member}({w})");
+            assert_eq!(shown(&RECORDING, &text), missing(5), "{text}");
+        }
+        for part in ["data.take(0)", "data.skip(5)", "data.skip(9)"] {
+            for w in ["0", "1", "5"] {
+                let text = format!("{part}.{member}({w})");
+                assert_eq!(shown(&RECORDING, &text), missing(5), "{text}");
+            }
+        }
+        let past = format!("data.skip(1).take(3).{member}(4)");
+        assert_eq!(shown(&RECORDING, &past), missing(5), "{past}");
+        assert_eq!(shown(&[], &format!("data.{member}(1)")), missing(5));
+    }
+}
+
+/// What `bestSum(w)` and `bestAt(w)` show.
+fn best(recording: &[i32], w: usize) -> (Shown, Shown) {
+    let show = |member: &str| shown(recording, &format!("data.{member}({w})"));
+    (show("bestSum"), show("bestAt"))
+}
+
+#[test]
+fn of_equal_stretches_the_first_is_the_best() {
+    assert_eq!(best(&[5, 5, 5, 5], 2), (number(10), number(0)));
+    assert_eq!(best(&[0; 1024], 512), (number(0), number(0)));
+    assert_eq!(best(&[1, 3, 2, 3, 2], 1), (number(3), number(1)));
+    assert_eq!(best(&[1, 3, 2, 3, 2], 2), (number(5), number(1)));
+    assert_eq!(best(&[9, 0, 1, 8, 2, 7], 2), (number(10), number(3)));
+    assert_eq!(best(&[2, 7, 0, 7, 2, 0, 9], 2), (number(9), number(0)));
+}
+
+#[test]
+fn best_stretches_of_negative_readings() {
+    let recording = [-5, -1, -7, -2, -2];
+    assert_eq!(best(&recording, 1), (number(-1), number(1)));
+    assert_eq!(best(&recording, 2), (number(-4), number(3)));
+    assert_eq!(best(&recording, 3), (number(-10), number(1)));
+    assert_eq!(best(&recording, 5), (number(-17), number(0)));
+    assert_eq!(best(&[-1, 0, -1], 2), (number(-1), number(0)));
+    assert_eq!(best(&[i32::MIN, i32::MIN], 1), (number(i32::MIN), number(0)));
+}
+
+/// Reason 4 is for the greatest sum alone, and `bestAt` has none: not at 2147483648, nor
+/// where every stretch is beyond the least number.
+#[test]
+fn greatest_sums_beyond_32_bits() {
+    let half = 1 << 30;
+    assert_eq!(best(&[0, half, half - 1], 2), (number(i32::MAX), number(1)));
+    assert_eq!(best(&[0, half, half], 2), (missing(4), number(1)));
+    assert_eq!(best(&[1, i32::MAX, 0, i32::MAX, 2], 2), (missing(4), number(3)));
+    assert_eq!(best(&[i32::MAX; 1024], 1024), (missing(4), number(0)));
+    assert_eq!(best(&[i32::MIN, 0, i32::MIN], 2), (number(i32::MIN), number(0)));
+    assert_eq!(best(&[i32::MIN, -2, i32::MIN, -1, i32::MIN], 2), (missing(4), number(2)));
+    assert_eq!(best(&[i32::MIN; 1024], 1023), (missing(4), number(0)));
+}
+
+/// A stretch beyond 32 bits that is not the greatest is no reason.
+#[test]
+fn other_sums_beyond_32_bits() {
+    assert_eq!(best(&[i32::MIN, i32::MIN, 3, 4, i32::MIN], 2), (number(7), number(2)));
+    assert_eq!(best(&[i32::MIN, -1, -1, i32::MIN, -1], 2), (number(-2), number(1)));
+    let far = [i32::MIN, i32::MIN, i32::MAX, i32::MAX, i32::MIN];
+    assert_eq!(best(&far, 4), (number(-2), number(0)));
+    assert_eq!(best(&far, 5), (missing(4), number(0)));
+}
+
+#[test]
+fn best_stretches_take_a_window_and_a_number() {
+    check_shown(&[
+        ("data.bestSum(data)", missing(2)),
+        ("data.bestAt(\\a -> a)", missing(2)),
+        ("1.bestSum(2)", missing(2)),
+        ("1.bestAt(2)", missing(2)),
+        ("1.bestAt(0)", missing(2)),
+        ("(\\a -> a).bestSum(1)", missing(2)),
+        ("data.bestSum(1.div(0))", missing(3)),
+        ("data.bestAt(y)", missing(1)),
+        ("y.bestSum(1.div(0))", missing(1)),
+        ("data.skip(-1).bestAt(data)", missing(5)),
+    ]);
+}
+
+/// A length that awaits a variable, and lengths that runs put for it.
+#[test]
+fn best_stretches_in_functions() {
+    for (text, place, worked) in
+        [("\\a -> data.bestSum(a)", 2, 1), ("\\a -> data.take(a).bestAt(9)", 4, 2)]
+    {
+        let mut model = common::opened(&RECORDING);
+        let (_, _, places) = common::edited(&mut model, text);
+        let answer = model.call(&plain::samples::preview(places[place], 512));
+        assert_eq!(answer, Answer::Finished { worked, shown: delayed(&["a"]) }, "{text}");
+        assert_eq!(shown(&RECORDING, text), function("a"), "{text}");
+    }
+    let lengths = [2, 1, 3, 1];
+    assert_eq!(shown(&lengths, "data.sumBy(\\w -> data.bestSum(w))"), number(4 + 3 + 6 + 3));
+    assert_eq!(shown(&lengths, "data.sumBy(\\w -> data.bestAt(w))"), number(1 + 2 + 2));
+    assert_eq!(shown(&lengths, "data.countWhere(\\w -> data.bestAt(w).eq(2))"), number(2));
+    assert_eq!(shown(&lengths, "data.sumBy(\\w -> data.take(2).bestSum(w))"), missing(5));
+    assert_eq!(
+        shown(&lengths, "data.sumBy(\\w -> data.skip(w).bestSum(1))"),
+        number(3 + 3 + 1 + 3)
+    );
 }
 
 /// Each run's result is tested for 32 bits by the member inside; the total is exact.

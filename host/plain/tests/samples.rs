@@ -5,7 +5,7 @@ mod common;
 use common::{edited, follow, opened};
 use plain::model::{Answer, Model};
 use plain::samples::calls::sessions;
-use plain::samples::{ALL, RECORDING, preview, previews};
+use plain::samples::{ALL, RECORDING, Sample, preview, previews, scope_previews};
 
 #[test]
 fn sample_previews_give_all_their_figures() {
@@ -16,9 +16,10 @@ fn sample_previews_give_all_their_figures() {
 }
 
 #[test]
-fn eleven_samples_are_starred_and_five_are_not() {
-    let starred = previews().iter().filter(|sample| sample.starred).count();
-    assert_eq!((starred, previews().len() - starred), (11, 5));
+fn eleven_samples_of_01_are_starred_and_five_are_not() {
+    let starred = |samples: &[Sample]| samples.iter().filter(|sample| sample.starred).count();
+    assert_eq!((starred(&scope_previews()), scope_previews().len()), (11, 16));
+    assert_eq!(starred(&previews()), 11);
 }
 
 #[test]

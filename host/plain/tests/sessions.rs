@@ -8,6 +8,7 @@ use plain::model::{Answer, Call, Model};
 use plain::random::session;
 use plain::samples::preview;
 use plain::shown::Shown;
+use plain::tally::Tally;
 use std::collections::BTreeMap;
 
 /// Checks one answer against the states before and after the call.
@@ -160,40 +161,17 @@ fn a_seed_always_gives_the_same_session() {
     assert!(matches!(&session(7, 1)[..], [Call::Open { enough: true, .. }]));
 }
 
-/// Sessions meet every answer and every kind of result often enough to be of use.
+/// Sessions meet every answer, and every result of a member, often enough to be of use.
 #[test]
 fn sessions_reach_all_kinds_of_answers() {
-    let mut counts: BTreeMap<String, usize> = BTreeMap::new();
-    for seed in 0..300 {
+    let mut tally = Tally::default();
+    for seed in 0..600 {
         let mut model = Model::new();
         for call in session(seed, 60) {
-            let answer = model.call(&call);
-            *counts.entry(label(&answer)).or_default() += 1;
+            tally.count(&model.call(&call));
         }
+        tally.count_rules(&model);
     }
-    println!("{counts:#?}");
-    let numbers = [1, 2, 3, 5, 6, 7, 8, 9, 10, 11, 12, 13, 14];
-    let refused = numbers.map(|number| format!("refused {number}"));
-    let missing = [1, 2, 3, 4, 5].map(|reason| format!("missing {reason}"));
-    let others = ["opened", "edited", "not yet", "number", "window", "function", "delayed"];
-    let expected = refused.into_iter().chain(missing).chain(others.map(String::from));
-    for label in expected {
-        assert!(counts.get(&label).is_some_and(|count| *count >= 5), "{label}: {counts:?}");
-    }
-}
-
-fn label(answer: &Answer) -> String {
-    match answer {
-        Answer::Opened => "opened".into(),
-        Answer::Edited { .. } => "edited".into(),
-        Answer::NotYet { .. } => "not yet".into(),
-        Answer::Refused { number, .. } => format!("refused {number}"),
-        Answer::Finished { shown, .. } => match shown {
-            Shown::Number(_) => "number".into(),
-            Shown::Window(_) => "window".into(),
-            Shown::Function(_) => "function".into(),
-            Shown::Delayed(_) => "delayed".into(),
-            Shown::Missing(reason) => format!("missing {reason}"),
-        },
-    }
+    println!("{tally:?}");
+    tally.check_all(5, 5);
 }

@@ -1,5 +1,7 @@
 -- Each number is matched with the member of its row; past the last there is none. Assumes nothing.
 use mathlib.Core.Path.{sym}
+use lib.ListN.{length}
+use Rattle.members.specs.Members.{members}
 use Rattle.members.specs.MembersLaws.{none-of, number-at, number-beyond}
 use Rattle.members.proofs.member_at.Statement.{statement}
 use Rattle.members.proofs.member_at.Tie as tie
@@ -24,4 +26,6 @@ member-at-spec =
     (λ c. number-at _ _ (c .match .keys14))
     (λ c. number-at _ _ (c .match .keys15))
     (λ c. number-at _ _ (c .match .keys16))
-    (λ c. sym (number-beyond _ (none-of 16 _ (c .match .rest)))))
+    (λ c. number-at _ _ (c .match .keys17))
+    (λ c. number-at _ _ (c .match .keys18))
+    (λ c. sym (number-beyond _ (none-of (length members) _ (c .match .rest)))))

@@ -6,151 +6,44 @@ use Rattle.members.specs.Members.{row, padded}
 use Rattle.members.proofs.name_of.Statement.{statement}
 use Rattle.members.proofs.name_of.Tie as tie
 
-enum-told : tie.Need-enum-told
-enum-told c = search needs
-
-enum-told-2 : tie.Need-enum-told-2
-enum-told-2 c = search needs
-
-enum-told-3 : tie.Need-enum-told-3
-enum-told-3 c = search needs
-
-enum-told-4 : tie.Need-enum-told-4
-enum-told-4 c = search needs
-
-enum-told-5 : tie.Need-enum-told-5
-enum-told-5 c = search needs
-
-enum-told-6 : tie.Need-enum-told-6
-enum-told-6 c = search needs
-
-enum-told-7 : tie.Need-enum-told-7
-enum-told-7 c = search needs
-
-enum-told-8 : tie.Need-enum-told-8
-enum-told-8 c = search needs
-
-enum-told-9 : tie.Need-enum-told-9
-enum-told-9 c = search needs
-
-enum-told-10 : tie.Need-enum-told-10
-enum-told-10 c = search needs
-
-enum-told-11 : tie.Need-enum-told-11
-enum-told-11 c = search needs
-
-enum-told-12 : tie.Need-enum-told-12
-enum-told-12 c = search needs
-
-enum-told-13 : tie.Need-enum-told-13
-enum-told-13 c = search needs
-
-enum-told-14 : tie.Need-enum-told-14
-enum-told-14 c = search needs
-
-enum-told-15 : tie.Need-enum-told-15
-enum-told-15 c = search needs
-
-enum-told-16 : tie.Need-enum-told-16
-enum-told-16 c = search needs
-
-returns : tie.Need-returns
-unfolding padded row bytes
-returns c = ap padded (sym (c .before .before .enum-told .given .1))
-
-returns-2 : tie.Need-returns-2
-unfolding padded row bytes
-returns-2 c = ap padded (sym (c .before .before .enum-told2 .given .1))
-
-returns-3 : tie.Need-returns-3
-unfolding padded row bytes
-returns-3 c = ap padded (sym (c .before .before .enum-told3 .given .1))
-
-returns-4 : tie.Need-returns-4
-unfolding padded row bytes
-returns-4 c = ap padded (sym (c .before .before .enum-told4 .given .1))
-
-returns-5 : tie.Need-returns-5
-unfolding padded row bytes
-returns-5 c = ap padded (sym (c .before .before .enum-told5 .given .1))
-
-returns-6 : tie.Need-returns-6
-unfolding padded row bytes
-returns-6 c = ap padded (sym (c .before .before .enum-told6 .given .1))
-
-returns-7 : tie.Need-returns-7
-unfolding padded row bytes
-returns-7 c = ap padded (sym (c .before .before .enum-told7 .given .1))
-
-returns-8 : tie.Need-returns-8
-unfolding padded row bytes
-returns-8 c = ap padded (sym (c .before .before .enum-told8 .given .1))
-
-returns-9 : tie.Need-returns-9
-unfolding padded row bytes
-returns-9 c = ap padded (sym (c .before .before .enum-told9 .given .1))
-
-returns-10 : tie.Need-returns-10
-unfolding padded row bytes
-returns-10 c = ap padded (sym (c .before .before .enum-told10 .given .1))
-
-returns-11 : tie.Need-returns-11
-unfolding padded row bytes
-returns-11 c = ap padded (sym (c .before .before .enum-told11 .given .1))
-
-returns-12 : tie.Need-returns-12
-unfolding padded row bytes
-returns-12 c = ap padded (sym (c .before .before .enum-told12 .given .1))
-
-returns-13 : tie.Need-returns-13
-unfolding padded row bytes
-returns-13 c = ap padded (sym (c .before .before .enum-told13 .given .1))
-
-returns-14 : tie.Need-returns-14
-unfolding padded row bytes
-returns-14 c = ap padded (sym (c .before .before .enum-told14 .given .1))
-
-returns-15 : tie.Need-returns-15
-unfolding padded row bytes
-returns-15 c = ap padded (sym (c .before .before .enum-told15 .given .1))
-
-returns-16 : tie.Need-returns-16
-unfolding padded row bytes
-returns-16 c = ap padded (sym (c .before .before .enum-told16 .given .1))
-
 pub name-of-spec : {M : Type 1} → statement M
+unfolding padded row bytes
 name-of-spec =
     tie.close
     (tie.spec
-    enum-told
-    enum-told-2
-    enum-told-3
-    enum-told-4
-    enum-told-5
-    enum-told-6
-    enum-told-7
-    enum-told-8
-    enum-told-9
-    enum-told-10
-    enum-told-11
-    enum-told-12
-    enum-told-13
-    enum-told-14
-    enum-told-15
-    enum-told-16
-    returns
-    returns-2
-    returns-3
-    returns-4
-    returns-5
-    returns-6
-    returns-7
-    returns-8
-    returns-9
-    returns-10
-    returns-11
-    returns-12
-    returns-13
-    returns-14
-    returns-15
-    returns-16)
+    (λ c. search needs)
+    (λ c. search needs)
+    (λ c. search needs)
+    (λ c. search needs)
+    (λ c. search needs)
+    (λ c. search needs)
+    (λ c. search needs)
+    (λ c. search needs)
+    (λ c. search needs)
+    (λ c. search needs)
+    (λ c. search needs)
+    (λ c. search needs)
+    (λ c. search needs)
+    (λ c. search needs)
+    (λ c. search needs)
+    (λ c. search needs)
+    (λ c. search needs)
+    (λ c. search needs)
+    (λ c. ap padded (sym (c .before .before .enum-told .given .1)))
+    (λ c. ap padded (sym (c .before .before .enum-told2 .given .1)))
+    (λ c. ap padded (sym (c .before .before .enum-told3 .given .1)))
+    (λ c. ap padded (sym (c .before .before .enum-told4 .given .1)))
+    (λ c. ap padded (sym (c .before .before .enum-told5 .given .1)))
+    (λ c. ap padded (sym (c .before .before .enum-told6 .given .1)))
+    (λ c. ap padded (sym (c .before .before .enum-told7 .given .1)))
+    (λ c. ap padded (sym (c .before .before .enum-told8 .given .1)))
+    (λ c. ap padded (sym (c .before .before .enum-told9 .given .1)))
+    (λ c. ap padded (sym (c .before .before .enum-told10 .given .1)))
+    (λ c. ap padded (sym (c .before .before .enum-told11 .given .1)))
+    (λ c. ap padded (sym (c .before .before .enum-told12 .given .1)))
+    (λ c. ap padded (sym (c .before .before .enum-told13 .given .1)))
+    (λ c. ap padded (sym (c .before .before .enum-told14 .given .1)))
+    (λ c. ap padded (sym (c .before .before .enum-told15 .given .1)))
+    (λ c. ap padded (sym (c .before .before .enum-told16 .given .1)))
+    (λ c. ap padded (sym (c .before .before .enum-told17 .given .1)))
+    (λ c. ap padded (sym (c .before .before .enum-told18 .given .1))))

@@ -1,4 +1,4 @@
-//! Runs the sample previews of 01 through the reference model and writes what each text shows, or formulas read from the command line.
+//! Runs the sample previews through the reference model and writes what each text shows, or formulas read from the command line.
 
 use plain::model::{Answer, Model};
 use plain::samples::{ALL, RECORDING, previews};

@@ -3,16 +3,30 @@
 
 use super::formula::join;
 use super::rng::Rng;
+use crate::member::Member;
 
 /// Tokens, and bytes that start none, to put into texts.
 #[rustfmt::skip]
-const PIECES: [&str; 40] = [
+const PIECES: &[&str] = &[
     "let", "in", "\\", "->", "=", ".", ",", "(", ")", "()", ".count()", "\\a ->", "let x =",
-    "data", "a", "b", "x", "abcdefgh", "heartrate", "-", ">", "#", "_",
+    "data", "a", "b", "x", "abcdefgh", "heartrate", "-", ">", "#", "_", "foo",
     "0", "-1", "2147483647", "2147483648", "-2147483648", "-2147483649",
-    "foo", "count", "sum", "skip", "add", "div", "at", "countWhere", "sumBy", "longestRun",
-    "longestRunX",
 ];
+
+/// A piece, quite often the name of a member or a word that is close to one.
+fn piece(rng: &mut Rng) -> String {
+    if !rng.one_in(4) {
+        return rng.pick(PIECES).to_string();
+    }
+    let member = rng.pick(&Member::all().collect::<Vec<_>>());
+    let name = member.name();
+    match rng.below(8) {
+        0 => format!("{name}X"),
+        1 => name[..name.len() - 1].to_string(),
+        2 => name.to_lowercase(),
+        _ => name.to_string(),
+    }
+}
 
 /// The text of a formula with one or two tokens changed, and sometimes a byte.
 pub fn damaged(rng: &mut Rng, mut tokens: Vec<String>) -> Vec<u8> {
@@ -29,13 +43,13 @@ pub fn damaged(rng: &mut Rng, mut tokens: Vec<String>) -> Vec<u8> {
 /// Up to thirty pieces in any order.
 pub fn token_soup(rng: &mut Rng) -> Vec<u8> {
     let count = rng.below(30);
-    let tokens: Vec<String> = (0..count).map(|_| rng.pick(&PIECES).to_string()).collect();
+    let tokens: Vec<String> = (0..count).map(|_| piece(rng)).collect();
     join(rng, &tokens)
 }
 
 fn change_token(rng: &mut Rng, tokens: &mut Vec<String>) {
     let place = rng.below(tokens.len() as u64) as usize;
-    let piece = rng.pick(&PIECES).to_string();
+    let piece = piece(rng);
     match rng.below(5) {
         0 if tokens.len() > 1 => {
             tokens.remove(place);

@@ -2,16 +2,7 @@
 //! but not all.
 
 use super::rng::Rng;
-use crate::member::Member;
-use crate::rule::Rule;
-
-/// The kind of an expression's result.
-#[derive(Clone, Copy, PartialEq, Eq)]
-pub(super) enum Kind {
-    Number,
-    Window,
-    Function,
-}
+use crate::member::{Kind, Member};
 
 const KINDS: [Kind; 3] = [Kind::Number, Kind::Window, Kind::Function];
 pub(super) const NAMES: [&str; 8] = ["a", "b", "x", "y", "h", "x1", "abcdefgh", "abcdefgi"];
@@ -93,7 +84,7 @@ impl Writer<'_> {
 
     /// A lambda, or a name or number where two lambdas are open already.
     fn lambda(&mut self, depth: u32) {
-        if self.lambdas.len() == 2 && !self.rng.one_in(6) {
+        if self.lambdas.len() == 2 && !self.rng.one_in(4) {
             return self.name_or(Kind::Function, "0");
         }
         let name = self.name_to_bind();
@@ -114,17 +105,18 @@ impl Writer<'_> {
             return self.atom(kind, depth);
         }
         let member = self.member_giving(kind);
-        self.chain(receiver(member), depth - 1);
+        self.chain(member.receiver(), depth - 1);
         self.put(&[".", member.name(), "("]);
-        match argument(member) {
-            Some(Kind::Number) if is_window(member) && !self.rng.one_in(3) => self.small_number(),
+        let is_window = member.receiver() == Kind::Window;
+        match member.argument() {
+            Some(Kind::Number) if is_window && !self.rng.one_in(3) => self.small_number(),
             Some(argument) => self.expression(argument, depth - 1),
             None => (),
         }
         self.put(&[")"]);
     }
 
-    /// A number that is a likely count or index.
+    /// A number that is a likely count, index or length.
     fn small_number(&mut self) {
         let number = self.rng.pick(&["0", "0", "1", "1", "2", "3"]);
         self.put(&[number]);
@@ -133,11 +125,14 @@ impl Writer<'_> {
     /// A member with this kind of result, quite often one that runs a function.
     fn member_giving(&mut self, kind: Kind) -> Member {
         let prefers_runs = kind == Kind::Number && self.rng.one_in(3);
-        let is_wanted = |member: &Member| {
-            result(*member) == kind && (!prefers_runs || argument(*member) == Some(Kind::Function))
-        };
-        let members: Vec<Member> = Member::all().filter(is_wanted).collect();
-        self.rng.pick(&members)
+        self.member_where(|member| {
+            member.result() == kind && (!prefers_runs || member.argument() == Some(Kind::Function))
+        })
+    }
+
+    /// A member of those that are wanted.
+    pub(super) fn member_where(&mut self, is_wanted: impl Fn(&Member) -> bool) -> Member {
+        self.rng.pick(&Member::all().filter(is_wanted).collect::<Vec<_>>())
     }
 
     fn atom(&mut self, kind: Kind, depth: u32) {
@@ -166,31 +161,5 @@ impl Writer<'_> {
             let name = self.rng.pick(&names);
             self.put(&[name]);
         }
-    }
-}
-
-fn is_window(member: Member) -> bool {
-    receiver(member) == Kind::Window
-}
-
-fn receiver(member: Member) -> Kind {
-    match member.rule() {
-        Rule::Numbers(_) => Kind::Number,
-        _ => Kind::Window,
-    }
-}
-
-fn argument(member: Member) -> Option<Kind> {
-    match member.rule() {
-        Rule::Numbers(_) | Rule::Cut(_) | Rule::Index(_) => Some(Kind::Number),
-        Rule::Runs(_) => Some(Kind::Function),
-        Rule::Readings(_) => None,
-    }
-}
-
-fn result(member: Member) -> Kind {
-    match member.rule() {
-        Rule::Cut(_) => Kind::Window,
-        _ => Kind::Number,
     }
 }

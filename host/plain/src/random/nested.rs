@@ -1,7 +1,8 @@
 //! Random formulas in which functions run within runs of functions.
 
-use super::formula::{Kind, NAMES, Writer};
+use super::formula::{NAMES, Writer};
 use super::rng::Rng;
+use crate::member::Kind;
 
 /// A formula as its tokens. Some of its functions stand in lets.
 pub fn nested(rng: &mut Rng) -> Vec<String> {
@@ -23,13 +24,13 @@ impl Writer<'_> {
     fn nested_run(&mut self, levels: u32) {
         self.put(&["data"]);
         if self.rng.one_in(2) {
-            let member = self.rng.pick(&["skip", "take"]);
-            self.put(&[".", member, "("]);
+            let member = self.member_where(|member| member.result() == Kind::Window);
+            self.put(&[".", member.name(), "("]);
             self.name_or(Kind::Number, "1");
             self.put(&[")"]);
         }
-        let member = self.rng.pick(&["sumBy", "sumBy", "countWhere", "longestRun"]);
-        self.put(&[".", member, "("]);
+        let member = self.member_where(|member| member.argument() == Some(Kind::Function));
+        self.put(&[".", member.name(), "("]);
         let has_function = self.scope.iter().any(|(_, kind)| *kind == Kind::Function);
         if self.lambdas.len() == 2 || has_function && self.rng.one_in(3) {
             self.name_or(Kind::Function, "data");
@@ -49,14 +50,27 @@ impl Writer<'_> {
         self.scope.push((name, Kind::Number));
         if levels > 0 && !self.rng.one_in(4) {
             self.nested_run(levels);
+        } else if self.rng.one_in(4) {
+            self.by_number();
         } else {
             self.name_or(Kind::Number, "2");
         }
-        let member = self.rng.pick(&["add", "sub", "mul", "div", "gt", "gt", "eq"]);
-        self.put(&[".", member, "("]);
+        let member = self.member_where(|member| member.receiver() == Kind::Number);
+        self.put(&[".", member.name(), "("]);
         self.name_or(Kind::Number, "150");
         self.put(&[")"]);
         self.scope.pop();
         self.lambdas.pop();
+    }
+
+    /// A member of the recording and a number, which mostly is a lambda's variable.
+    fn by_number(&mut self) {
+        let member = self.member_where(|member| {
+            let kinds = (member.receiver(), member.argument(), member.result());
+            kinds == (Kind::Window, Some(Kind::Number), Kind::Number)
+        });
+        self.put(&["data", ".", member.name(), "("]);
+        self.name_or(Kind::Number, "2");
+        self.put(&[")"]);
     }
 }

@@ -187,6 +187,11 @@ fn calls() -> Vec<RefusedText> {
         ("data.coun()", 9, 5),
         ("data.counts()", 9, 5),
         ("data.countwhere(1)", 9, 5),
+        ("data.best(1)", 9, 5),
+        ("data.bestsum(1)", 9, 5),
+        ("data.bestSumm(1)", 9, 5),
+        ("data.bestSu(1)", 9, 5),
+        ("data.BestAt(1)", 9, 5),
         ("data.heartrates()", 9, 5),
         ("data.abcdefghijklmnopqrstuvwxyz", 9, 5),
         ("data. foo()", 9, 6),
@@ -225,6 +230,11 @@ fn calls() -> Vec<RefusedText> {
         ("data.skip(1 in", 5, 12),
         ("data.skip(data.count(),1)", 9, 22),
         ("1.add().foo()", 9, 6),
+        ("data.bestSum", 5, 12),
+        ("data.bestSum()", 9, 13),
+        ("data.bestAt( )", 9, 13),
+        ("data.bestAt(1,2)", 9, 13),
+        ("data.bestSum(data.bestAt(1),2)", 9, 27),
     ])
 }
 

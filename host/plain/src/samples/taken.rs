@@ -85,6 +85,7 @@ fn names_and_scopes() -> Vec<TakenText> {
         taken("let data5 = 1 in data5", 3),
         taken("let dat = 1 in Data", 3),
         taken("let count = data.count() in count", 4),
+        taken("let bestSum = data.bestSum(1) in \\bestAt -> bestSum.add(bestAt)", 8),
         taken("let lets = 1 in inn", 3),
         taken("(\\a -> a).add(\\a -> a)", 5),
         taken("(\\a -> \\b -> a).add(\\b -> \\a -> b)", 7),

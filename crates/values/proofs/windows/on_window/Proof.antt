@@ -23,6 +23,18 @@ enum-told-3 c = search needs
 at-requires : tie.Need-at-requires
 at-requires c κs = search needs
 
+enum-told-4 : tie.Need-enum-told-4
+enum-told-4 c = search needs
+
+best-sum-requires : tie.Need-best-sum-requires
+best-sum-requires c κs = search needs
+
+enum-told-5 : tie.Need-enum-told-5
+enum-told-5 c = search needs
+
+best-at-requires : tie.Need-best-at-requires
+best-at-requires c κs = search needs
+
 returns : tie.Need-returns
 returns c = search window-rules
 
@@ -35,6 +47,12 @@ returns-3 c = search window-rules
 returns-4 : tie.Need-returns-4
 returns-4 c = search window-rules
 
+returns-5 : tie.Need-returns-5
+returns-5 c = search window-rules
+
+returns-6 : tie.Need-returns-6
+returns-6 c = search window-rules
+
 pub on-window-spec : {M : Type 1} → statement M
 on-window-spec =
     tie.close
@@ -45,7 +63,13 @@ on-window-spec =
     take-requires
     enum-told-3
     at-requires
+    enum-told-4
+    best-sum-requires
+    enum-told-5
+    best-at-requires
     returns
     returns-2
     returns-3
-    returns-4)
+    returns-4
+    returns-5
+    returns-6)

@@ -1,69 +1,20 @@
--- `values::windows::sum` meets its contract. At the loop's head the total and the sum of the readings from i on make the whole sum, and
--- the total is at most i times 2^31 in size.
--- The measure is how many readings are left. Assumes nothing.
+-- `values::windows::sum` meets its contract: the exact sum of the window's readings, tested for its range. Assumes nothing.
 use borrow.Author.Needs.{needs}
-use Prim.Native.Nat.{_-_}
-use lib.ListN as L
-use mir.Syntax.{w64}
-use mir.Val.{toZ}
-use Rattle.values.specs.WindowLaws.{Summed}
 use Rattle.values.proofs.WindowRules.{window-rules}
-use Rattle.values.proofs.windows.sum.Statement.{statement}
 use Rattle.values.proofs.windows.sum.Tie as tie
+use Rattle.values.proofs.windows.sum.Statement.{statement}
 
-abbrev Inv-loop : tie.InvT-loop
-Inv-loop xs start length readings total₀ i₀ total i = Summed readings (toZ w64 total) i
-
-abbrev μ-loop : tie.MeasureT-loop
-μ-loop xs start length readings total₀ i₀ total i = L.length readings - i
-
-part-requires : tie.Need-part-requires Inv-loop μ-loop
+part-requires : tie.Need-part-requires
 part-requires c κs = search needs
 
-loop-holds : tie.Need-loop-holds Inv-loop μ-loop
-loop-holds c = search window-rules
+total-of-requires : tie.Need-total-of-requires
+total-of-requires c κs = search window-rules
 
-mul-total : tie.Need-mul-total Inv-loop μ-loop
-mul-total c = search needs
-
-shared-slice-copy-out-total : tie.Need-shared-slice-copy-out-total Inv-loop μ-loop
-shared-slice-copy-out-total c = search needs
-
-cast-total : tie.Need-cast-total Inv-loop μ-loop
-cast-total c = search window-rules
-
-add-total : tie.Need-add-total Inv-loop μ-loop
-add-total c = search window-rules
-
-add-i : tie.Need-add-i Inv-loop μ-loop
-add-i c = search needs
-
-loop-less : tie.Need-loop-less Inv-loop μ-loop
-loop-less c = search needs
-
-loop-again : tie.Need-loop-again Inv-loop μ-loop
-loop-again c = search window-rules
-
-number-requires : tie.Need-number-requires Inv-loop μ-loop
+number-requires : tie.Need-number-requires
 number-requires c κs = search needs
 
-returns : tie.Need-returns Inv-loop μ-loop
+returns : tie.Need-returns
 returns c = search window-rules
 
 pub sum-spec : {M : Type 1} → statement M
-sum-spec =
-    tie.close
-    (tie.spec
-    Inv-loop
-    μ-loop
-    part-requires
-    loop-holds
-    mul-total
-    shared-slice-copy-out-total
-    cast-total
-    add-total
-    add-i
-    loop-less
-    loop-again
-    number-requires
-    returns)
+sum-spec = tie.close (tie.spec part-requires total-of-requires number-requires returns)

@@ -1,0 +1,27 @@
+-- `measured::measured_best_sum` meets its contract: what is packed is what the member gives. Assumes nothing.
+use mathlib.Core.Path.{ap, _∙_}
+use borrow.Author.Needs.{needs}
+use lib.IntN.{ℤ}
+use denote.Ref.{now}
+use mir.Facts.{toZ-ofZ}
+use Rattle.members.specs.declared.Member.the-variants.{BestSum}
+use Rattle.values.specs.Packing.{packOf}
+use Rattle.rules.specs.Rules.{onWindow}
+use Rattle.measured.proofs.measured_best_sum.Statement.{statement}
+use Rattle.measured.proofs.measured_best_sum.Tie as tie
+
+best-sum-requires : tie.Need-best-sum-requires
+best-sum-requires c κs = search needs
+
+pack-requires : tie.Need-pack-requires
+pack-requires c κs = search needs
+
+returns : tie.Need-returns
+returns c =
+    c .pack .ensures
+    ∙ ap packOf (c .before .best-sum .ensures
+    ∙ ap (λ (n : ℤ). onWindow BestSum (now (c .before .before .args .readings)) (c .before .before .args .start) (c .before .before .args .length) n)
+    (toZ-ofZ (c .before .before .fits .width)))
+
+pub measured-best-sum-spec : {M : Type 1} → statement M
+measured-best-sum-spec = tie.close (tie.spec best-sum-requires pack-requires returns)

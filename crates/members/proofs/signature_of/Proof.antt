@@ -1,0 +1,47 @@
+-- Each arm's signature is the one of its row. Assumes nothing.
+use mathlib.Core.Path.{sym, ap}
+use borrow.Author.Needs.{needs}
+use Rattle.members.specs.Members.{listed}
+use Rattle.members.proofs.signature_of.Statement.{statement}
+use Rattle.members.proofs.signature_of.Tie as tie
+
+pub signature-of-spec : {M : Type 1} → statement M
+signature-of-spec =
+    tie.close
+    (tie.spec
+    (λ c. search needs)
+    (λ c. search needs)
+    (λ c. search needs)
+    (λ c. search needs)
+    (λ c. search needs)
+    (λ c. search needs)
+    (λ c. search needs)
+    (λ c. search needs)
+    (λ c. search needs)
+    (λ c. search needs)
+    (λ c. search needs)
+    (λ c. search needs)
+    (λ c. search needs)
+    (λ c. search needs)
+    (λ c. search needs)
+    (λ c. search needs)
+    (λ c. search needs)
+    (λ c. search needs)
+    (λ c. ap (λ k. listed k .2) (sym (c .enum-told .given .1)))
+    (λ c. ap (λ k. listed k .2) (sym (c .enum-told2 .given .1)))
+    (λ c. ap (λ k. listed k .2) (sym (c .enum-told3 .given .1)))
+    (λ c. ap (λ k. listed k .2) (sym (c .enum-told4 .given .1)))
+    (λ c. ap (λ k. listed k .2) (sym (c .enum-told5 .given .1)))
+    (λ c. ap (λ k. listed k .2) (sym (c .enum-told6 .given .1)))
+    (λ c. ap (λ k. listed k .2) (sym (c .enum-told7 .given .1)))
+    (λ c. ap (λ k. listed k .2) (sym (c .enum-told8 .given .1)))
+    (λ c. ap (λ k. listed k .2) (sym (c .enum-told9 .given .1)))
+    (λ c. ap (λ k. listed k .2) (sym (c .enum-told10 .given .1)))
+    (λ c. ap (λ k. listed k .2) (sym (c .enum-told11 .given .1)))
+    (λ c. ap (λ k. listed k .2) (sym (c .enum-told12 .given .1)))
+    (λ c. ap (λ k. listed k .2) (sym (c .enum-told13 .given .1)))
+    (λ c. ap (λ k. listed k .2) (sym (c .enum-told14 .given .1)))
+    (λ c. ap (λ k. listed k .2) (sym (c .enum-told15 .given .1)))
+    (λ c. ap (λ k. listed k .2) (sym (c .enum-told16 .given .1)))
+    (λ c. ap (λ k. listed k .2) (sym (c .enum-told17 .given .1)))
+    (λ c. ap (λ k. listed k .2) (sym (c .enum-told18 .given .1))))

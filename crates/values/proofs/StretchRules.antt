@@ -1,0 +1,153 @@
+-- What the proofs of the best stretch cite, in the shape that `search` finds: the laws of SlidingLaws at the locals' bits. Assumes nothing.
+use mathlib.Core.Path.{_≡_, refl, sym, ap, _∙_}
+use mathlib.Core.Bool.{Bool, true, false, cond}
+use mathlib.Core.List.{List}
+use Prim.Native.Nat.{ℕ, _+_, _-_, _≤_, _<_}
+use native.Mathlib.Omega.{arith}
+use borrow.Author.Needs.{needs}
+use borrow.Author.Tests.{lt-ltb, le-ltb, ltb-true}
+use lib.Dec.{ltb}
+use lib.IntN.{ℤ, pos, negsuc, natAbs, _+ℤ_, _-ℤ_}
+use lib.ListN.{length, take, getD, length-take}
+use lib.Signed.{ltZ}
+use mir.Syntax.{w16, w32, w64}
+use mir.Val.{Fits, SFits, toZ, ofZ}
+use mir.Facts.{toZ-pos, toZ-ofZ}
+use Rattle.members.specs.declared.Member.the-variants.{BestSum, BestAt}
+use Rattle.rules.specs.declared.Value.{Value}
+use Rattle.rules.specs.declared.Value.the-variants.{Number, Missing}
+use Rattle.rules.specs.Values.{ranged, outsideWindow}
+use Rattle.rules.specs.Windows.{readingsIn}
+use Rattle.rules.specs.Stretches.{sums, ofGreatest, firstAt, ofWidth, bestSum, bestAt}
+use Rattle.rules.specs.Rules.{rule, onWindow}
+use Rattle.values.specs.declared.stretches.Best.{Best}
+use Rattle.values.specs.Ranges.{mag-abs, total-range, slide-range}
+use Rattle.values.specs.Sliding.{Totals, widthIn, better, best}
+use Rattle.values.specs.SlidingLaws.{best-greatest, best-index, width-none, width-some, Slid, slid-none, slid-more, slid-all}
+use Rattle.values.proofs.Signed.{widens, wide, wide-is, read-lt}
+use Rattle.values.proofs.WindowRules.{part-few, count-cast, index-cast}
+
+-- ---- the width
+
+module _ (n : ℤ) (l : ℕ) where
+  negative : ltZ n (pos 0) ≡ true → 0 ≡ widthIn n l
+  negative h = by n h
+    where
+      by : (n : ℤ) → ltZ n (pos 0) ≡ true → 0 ≡ widthIn n l
+      by (pos w) h = absurd (omega (arith, ltb-true w 0 h))
+      by (negsuc w) h = refl
+
+  counted : ltZ n (pos 0) ≡ false → widthIn n l ≡ cond (ltb l (natAbs n)) 0 (natAbs n)
+  counted h = by n h
+    where
+      by : (n : ℤ) → ltZ n (pos 0) ≡ false → widthIn n l ≡ cond (ltb l (natAbs n)) 0 (natAbs n)
+      by (pos w) h = refl
+      by (negsuc w) h = cc
+
+  module _ (g : SFits w32 n) where
+    pub width-negative : ltZ (toZ w32 (ofZ w32 n)) (pos 0) ≡ true → 0 ≡ widthIn n l
+    width-negative h = negative (rw (toZ-ofZ g) at h)
+
+    module _ (h : ltZ (toZ w32 (ofZ w32 n)) (pos 0) ≡ false) where
+      as-counted : widthIn n l ≡ cond (ltb l (natAbs (toZ w32 (ofZ w32 n)))) 0 (natAbs (toZ w32 (ofZ w32 n)))
+      as-counted = rw (toZ-ofZ g) (counted (rw (toZ-ofZ g) at h))
+
+      pub width-beyond : l < natAbs (toZ w32 (ofZ w32 n)) → 0 ≡ widthIn n l
+      width-beyond k = sym (as-counted ∙ ap (λ (t : Bool). cond t 0 (natAbs (toZ w32 (ofZ w32 n)))) (lt-ltb l _ k))
+
+      pub width-inside : natAbs (toZ w32 (ofZ w32 n)) ≤ l → natAbs (toZ w32 (ofZ w32 n)) ≡ widthIn n l
+      width-inside k = sym (as-counted ∙ ap (λ (t : Bool). cond t 0 (natAbs (toZ w32 (ofZ w32 n)))) (le-ltb l _ k))
+
+-- ---- the better of two
+
+module _ (b : Best) (z : ℤ) (i : ℕ) (fb : SFits w64 (b .sum)) (fz : SFits w64 z) where
+  pub better-later : ltZ (toZ w64 (ofZ w64 (b .sum))) (toZ w64 (ofZ w64 z)) ≡ true → record { sum = toZ w64 (ofZ w64 z); at = i } ≡ better b z i
+  better-later h = simp (toZ-ofZ fz, read-lt w64 fb fz h)
+
+  pub better-earlier : ltZ (toZ w64 (ofZ w64 (b .sum))) (toZ w64 (ofZ w64 z)) ≡ false → b ≡ better b z i
+  better-earlier h = simp (read-lt w64 fb fz h)
+
+-- ---- the first stretch
+
+pub front-few : (ys : List ℤ) (w : ℕ) → length ys ≤ 65535 → length (take (w - 0) ys) ≤ 65535
+front-few ys w h = omega (arith, length-take (w - 0) ys)
+
+module _ (ys : List ℤ) (w : ℕ) (t : ℤ) (f : SFits w64 t) where
+  pub first-slid : w ≤ length ys → Totals (take (w - 0) ys) t → Slid ys w (toZ w64 (ofZ w64 t)) (record { sum = toZ w64 (ofZ w64 t); at = 0 }) 0
+  first-slid h k =
+      let e : w - 0 ≡ w = omega arith in
+      rw (toZ-ofZ f) (slid-none ys w t h (rw e at k))
+
+-- ---- one reading in, one out
+
+module _ (ys : List ℤ) (w : ℕ) (t : ℤ) (b : Best) (i : ℕ) (s : Slid ys w t b i) (few : length ys ≤ 65535) (inside : w ≤ length ys) (k : i < length ys - w)
+    (fi : SFits w32 (getD ys (i + w) (pos 0))) where
+  abbrev come : ℤ
+  come = getD ys (i + w) (pos 0)
+
+  in-fits : SFits w64 (t +ℤ come)
+  in-fits = record { sfits = omega (arith, mag-abs (t +ℤ come), total-range 2147483648 (w + i + i) t come (s .small) (fi .sfits)) }
+
+  pub slide-in : SFits w64 (t +ℤ wide come)
+  slide-in = rw (wide-is fi) in-fits
+
+  module _ (fo : SFits w32 (getD ys i (pos 0))) where
+    abbrev gone : ℤ
+    gone = getD ys i (pos 0)
+
+    operands : toZ w64 (ofZ w64 (t +ℤ wide come)) -ℤ wide gone ≡ t +ℤ come -ℤ gone
+    operands = λ j. (ap (λ (y : ℤ). toZ w64 (ofZ w64 (t +ℤ y))) (wide-is fi) ∙ toZ-ofZ in-fits) j -ℤ wide-is fo j
+
+    out-fits : SFits w64 (t +ℤ come -ℤ gone)
+    out-fits = record { sfits = omega (arith, mag-abs (t +ℤ come -ℤ gone), slide-range 2147483648 (w + i + i) t come gone (s .small) (fi .sfits) (fo .sfits)) }
+
+    pub slide-out : SFits w64 (toZ w64 (ofZ w64 (t +ℤ wide come)) -ℤ wide gone)
+    slide-out = rw operands out-fits
+
+    abbrev next : ℤ
+    next = toZ w64 (ofZ w64 (toZ w64 (ofZ w64 (t +ℤ wide come)) -ℤ wide gone))
+
+    next-is : next ≡ t +ℤ come -ℤ gone
+    next-is = ap (λ (y : ℤ). toZ w64 (ofZ w64 y)) operands ∙ toZ-ofZ out-fits
+
+    pub next-slid : (r : Best) → r ≡ better b next (i + 1) → Slid ys w next r (i + 1)
+    next-slid r e = rw e (slid-more ys w t b i s k (fi .sfits) (fo .sfits) next next-is)
+
+pub last-slid : (ys : List ℤ) (w : ℕ) (t : ℤ) (b : Best) (i : ℕ) → Slid ys w t b i → length ys - w ≤ i → b ≡ best ys w
+last-slid ys w t b i s h = slid-all ys w t b i s h
+
+-- ---- the members
+
+module _ (xs ys : List ℤ) (s l : ℕ) (e : ys ≡ readingsIn xs s l) (n : ℤ) (g : SFits w32 n) (w : ℕ) (q : w ≡ widthIn (toZ w32 (ofZ w32 n)) (length ys)) where
+  width-is : w ≡ widthIn n (length ys)
+  width-is = q ∙ ap (λ (z : ℤ). widthIn z (length ys)) (toZ-ofZ g)
+
+  pub sum-none : w ≡ 0 → Missing outsideWindow ≡ onWindow BestSum xs s l n
+  unfolding onWindow rule bestSum
+  sum-none z = width-none (length ys) _ n (sym width-is ∙ z) ∙ ap (λ (zs : List ℤ). bestSum zs n) e
+
+  pub index-none : w ≡ 0 → Missing outsideWindow ≡ onWindow BestAt xs s l n
+  unfolding onWindow rule bestAt
+  index-none z = width-none (length ys) _ n (sym width-is ∙ z) ∙ ap (λ (zs : List ℤ). bestAt zs n) e
+
+  module _ (some : w ≡ 0 → ⊥) where
+    chosen : (f : ℕ → Value) → (widthIn n (length ys) ≤ length ys) × (f (widthIn n (length ys)) ≡ ofWidth n (length ys) f)
+    chosen f = width-some (length ys) f n (λ z. some (width-is ∙ z))
+
+    pub width-within : w ≤ length ys
+    width-within = rw width-is (chosen (λ k. Missing outsideWindow) .0)
+
+    module _ (b : Best) (is : b ≡ best ys w) where
+      pub sum-found : {r : Value} → SFits w64 (b .sum) → r ≡ ranged (toZ w64 (ofZ w64 (b .sum))) → r ≡ onWindow BestSum xs s l n
+      unfolding onWindow rule bestSum
+      sum-found f k =
+          k ∙ ap ranged (toZ-ofZ f ∙ ap (λ (c : Best). c .sum) is) ∙ best-greatest ys w width-within ranged
+          ∙ ap (λ (j : ℕ). ofGreatest ranged (sums ys j)) width-is ∙ chosen _ .1 ∙ ap (λ (zs : List ℤ). bestSum zs n) e
+
+      pub index-found : Fits w16 (b .at) → Number (toZ w32 (b .at)) ≡ onWindow BestAt xs s l n
+      unfolding onWindow rule bestAt
+      index-found f =
+          ap Number (toZ-pos w32 (omega (arith, f .fits))) ∙ ap (λ (c : Best). Number (pos (c .at))) is ∙ best-index ys w width-within
+          ∙ ap (λ (j : ℕ). ofGreatest (λ z. Number (pos (firstAt z (sums ys j)))) (sums ys j)) width-is ∙ chosen _ .1 ∙ ap (λ (zs : List ℤ). bestAt zs n) e
+
+pub ruleset stretch-rules = (needs, widens, part-few, count-cast, index-cast, width-negative, width-beyond, width-inside, better-later, better-earlier, front-few, first-slid, slide-in, slide-out, next-slid, last-slid, sum-none, index-none, width-within, sum-found, index-found)

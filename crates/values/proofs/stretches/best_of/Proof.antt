@@ -1,0 +1,118 @@
+-- `values::stretches::best_of` meets its contract. At the loop's head the sum is that of the stretch that begins at `out`, and the best so far
+-- against the stretches that begin after it is the best of all. The sum has taken in the width's readings and at most one more for each step,
+-- and let out as many, so that it fits. The measure is how many stretches are left. Assumes nothing.
+use Prim.Native.Nat.{_-_}
+use lib.ListN as L
+use mir.Syntax.{w64}
+use mir.Val.{toZ}
+use native.Mathlib.Omega.{arith}
+use borrow.Author.Needs.{needs}
+use Rattle.values.specs.SlidingLaws.{Slid}
+use Rattle.values.proofs.StretchRules.{stretch-rules}
+use Rattle.values.proofs.stretches.best_of.Tie as tie
+use Rattle.values.proofs.stretches.best_of.Statement.{statement}
+
+abbrev Inv-loop : tie.InvT-loop
+Inv-loop readings width sum₀ so-far₀ out₀ sum so-far out = Slid readings width (toZ w64 sum) so-far out
+
+abbrev μ-loop : tie.MeasureT-loop
+μ-loop readings width sum₀ so-far₀ out₀ sum so-far out = L.length readings - width - out
+
+sub-total-of : tie.Need-sub-total-of Inv-loop μ-loop
+sub-total-of c = search needs
+
+part-total-of-start : tie.Need-part-total-of-start Inv-loop μ-loop
+part-total-of-start c = search needs
+
+part-total-of-end : tie.Need-part-total-of-end Inv-loop μ-loop
+part-total-of-end c = search needs
+
+total-of-requires : tie.Need-total-of-requires Inv-loop μ-loop
+total-of-requires c κs = search stretch-rules
+
+loop-holds : tie.Need-loop-holds Inv-loop μ-loop
+loop-holds c = search stretch-rules
+
+cast-loop : tie.Need-cast-loop Inv-loop μ-loop
+cast-loop c = search needs
+
+sub-loop : tie.Need-sub-loop Inv-loop μ-loop
+sub-loop c = omega arith
+
+cast-gone : tie.Need-cast-gone Inv-loop μ-loop
+cast-gone c = search needs
+
+mul-gone : tie.Need-mul-gone Inv-loop μ-loop
+mul-gone c = search needs
+
+shared-slice-copy-out-gone : tie.Need-shared-slice-copy-out-gone Inv-loop μ-loop
+shared-slice-copy-out-gone c = search needs
+
+cast-gone-2 : tie.Need-cast-gone-2 Inv-loop μ-loop
+cast-gone-2 c = search stretch-rules
+
+cast-sum : tie.Need-cast-sum Inv-loop μ-loop
+cast-sum c = search needs
+
+add-sum : tie.Need-add-sum Inv-loop μ-loop
+add-sum c = omega arith
+
+mul-sum : tie.Need-mul-sum Inv-loop μ-loop
+mul-sum c = search needs
+
+shared-slice-copy-out-sum : tie.Need-shared-slice-copy-out-sum Inv-loop μ-loop
+shared-slice-copy-out-sum c = search needs
+
+cast-sum-2 : tie.Need-cast-sum-2 Inv-loop μ-loop
+cast-sum-2 c = search stretch-rules
+
+add-sum-2 : tie.Need-add-sum-2 Inv-loop μ-loop
+add-sum-2 c = search stretch-rules
+
+sub-sum : tie.Need-sub-sum Inv-loop μ-loop
+sub-sum c = search stretch-rules
+
+add-out : tie.Need-add-out Inv-loop μ-loop
+add-out c = search needs
+
+better-of-requires : tie.Need-better-of-requires Inv-loop μ-loop
+better-of-requires c κs = search needs
+
+loop-less : tie.Need-loop-less Inv-loop μ-loop
+loop-less c = search needs
+
+loop-again : tie.Need-loop-again Inv-loop μ-loop
+loop-again c = search stretch-rules
+
+returns : tie.Need-returns Inv-loop μ-loop
+returns c = search stretch-rules
+
+pub best-of-spec : {M : Type 1} → statement M
+best-of-spec =
+    tie.close
+    (tie.spec
+    Inv-loop
+    μ-loop
+    sub-total-of
+    part-total-of-start
+    part-total-of-end
+    total-of-requires
+    loop-holds
+    cast-loop
+    sub-loop
+    cast-gone
+    mul-gone
+    shared-slice-copy-out-gone
+    cast-gone-2
+    cast-sum
+    add-sum
+    mul-sum
+    shared-slice-copy-out-sum
+    cast-sum-2
+    add-sum-2
+    sub-sum
+    add-out
+    better-of-requires
+    loop-less
+    loop-again
+    returns)

@@ -1,0 +1,143 @@
+//! How often each kind of answer came and what each member's rule came to, so that tests
+//! over random calls can ask for enough of each.
+
+use crate::eval::Evaluation;
+use crate::form::Form;
+use crate::member::{Kind, Member};
+use crate::model::{Answer, Model};
+use crate::refusal::{NO_SUCH_ENTRY, TEXT_TOO_LONG};
+use crate::shown::{OUTSIDE_WINDOW, Shown, UNBOUND_NAME};
+use std::collections::BTreeMap;
+
+/// Number 4, an ill-formed cache, never comes up in a session.
+const ILL_FORMED: u8 = 4;
+
+type Counts<Key> = BTreeMap<Key, usize>;
+
+#[derive(Default, Debug)]
+pub struct Tally {
+    /// Answers, as `edited`, `refused 5` or `missing 2`.
+    answers: Counts<String>,
+    /// Results of rules, by the member's name.
+    rules: Counts<(&'static str, String)>,
+}
+
+impl Tally {
+    pub fn count(&mut self, answer: &Answer) {
+        *self.answers.entry(label(answer)).or_default() += 1;
+    }
+
+    /// Counts what a member shows by its own rule. With a dependency that is missing or
+    /// delayed no rule is applied.
+    pub fn count_rule(&mut self, member: Member, operands: &[Shown], shown: &Shown) {
+        let is_there = |operand: &Shown| !matches!(operand, Shown::Missing(_) | Shown::Delayed(_));
+        if operands.iter().all(is_there) {
+            *self.rules.entry((member.name(), shown_label(shown))).or_default() += 1;
+        }
+    }
+
+    /// Counts what the marked members show by their rules.
+    pub fn count_rules(&mut self, model: &Model) {
+        let mut evaluation = Evaluation::new(model.forms(), model.recording());
+        for (number, shown) in model.marks() {
+            if let Form::Member(member, operands) = &model.forms().list[*number] {
+                let kept = |operand: &usize| model.marks().get(operand).cloned();
+                let operands: Vec<Shown> = operands
+                    .iter()
+                    .map(|operand| kept(operand).unwrap_or_else(|| evaluation.show(*operand)))
+                    .collect();
+                self.count_rule(*member, &operands, shown);
+            }
+        }
+    }
+
+    pub fn add(&mut self, other: Tally) {
+        add(&mut self.answers, other.answers);
+        add(&mut self.rules, other.rules);
+    }
+
+    /// How many answers were counted.
+    pub fn total(&self) -> usize {
+        self.answers.values().sum()
+    }
+
+    /// That all answers of these labels came at least so often.
+    pub fn check(&self, labels: &[&str], least: usize) {
+        for label in labels {
+            let count = self.answers.get(*label).copied().unwrap_or(0);
+            assert!(count >= least, "{label} came {count} times: {:?}", self.answers);
+        }
+    }
+
+    /// That the rules of these members came to these results at least so often.
+    pub fn check_rules(&self, rows: &[(&'static str, &str)], least: usize) {
+        for (member, label) in rows {
+            let count = self.rules.get(&(*member, label.to_string())).copied().unwrap_or(0);
+            assert!(count >= least, "{member}: {label} came {count} times: {:?}", self.rules);
+        }
+    }
+
+    /// That each answer to a session's calls came at least `least` times, and each result
+    /// of a member at least `least_rules` times: a number or a window, and the reasons in
+    /// the list.
+    pub fn check_all(&self, least: usize, least_rules: usize) {
+        let refused = (TEXT_TOO_LONG..=NO_SUCH_ENTRY).filter(|number| *number != ILL_FORMED);
+        let refused = refused.map(|number| format!("refused {number}"));
+        let missing = (UNBOUND_NAME..=OUTSIDE_WINDOW).map(|reason| format!("missing {reason}"));
+        for label in refused.chain(missing) {
+            self.check(&[&label], least);
+        }
+        self.check(&["opened", "edited", "not yet", "number", "window", "function"], least);
+        self.check(&["delayed 1", "delayed 2"], least);
+        for member in Member::all() {
+            let is_window = member.result() == Kind::Window;
+            let label = if is_window { "window" } else { "number" };
+            self.check_rules(&[(member.name(), label)], least_rules);
+        }
+        self.check_rules(REASONS, least_rules);
+    }
+}
+
+/// Reasons that rules give by themselves, other than 2.
+const REASONS: &[(&str, &str)] = &[
+    ("add", "missing 4"),
+    ("sub", "missing 4"),
+    ("mul", "missing 4"),
+    ("div", "missing 3"),
+    ("skip", "missing 5"),
+    ("take", "missing 5"),
+    ("sum", "missing 4"),
+    ("min", "missing 5"),
+    ("max", "missing 5"),
+    ("at", "missing 5"),
+    ("sumBy", "missing 4"),
+    ("bestSum", "missing 4"),
+    ("bestSum", "missing 5"),
+    ("bestAt", "missing 5"),
+];
+
+fn add<Key: Ord>(counts: &mut Counts<Key>, others: Counts<Key>) {
+    for (key, count) in others {
+        *counts.entry(key).or_default() += count;
+    }
+}
+
+fn label(answer: &Answer) -> String {
+    match answer {
+        Answer::Opened => "opened".into(),
+        Answer::Edited { .. } => "edited".into(),
+        Answer::NotYet { .. } => "not yet".into(),
+        Answer::Refused { number, .. } => format!("refused {number}"),
+        Answer::Finished { shown, .. } => shown_label(shown),
+    }
+}
+
+fn shown_label(shown: &Shown) -> String {
+    match shown {
+        Shown::Number(_) => "number".into(),
+        Shown::Window(_) => "window".into(),
+        Shown::Function(_) => "function".into(),
+        Shown::Delayed(names) => format!("delayed {}", names.len()),
+        Shown::Missing(reason) => format!("missing {reason}"),
+    }
+}
