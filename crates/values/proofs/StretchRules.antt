@@ -21,7 +21,7 @@ use Rattle.rules.specs.Windows.{readingsIn}
 use Rattle.rules.specs.Stretches.{sums, ofGreatest, firstAt, ofWidth, bestSum, bestAt}
 use Rattle.rules.specs.Rules.{rule, onWindow}
 use Rattle.values.specs.declared.stretches.Best.{Best}
-use Rattle.values.specs.Ranges.{mag-abs, total-range, slide-range}
+use Rattle.values.specs.Ranges.{mag-abs, abs-mag, abs-sum, abs-difference}
 use Rattle.values.specs.Sliding.{Totals, widthIn, better, best}
 use Rattle.values.specs.SlidingLaws.{best-greatest, best-index, width-none, width-some, Slid, slid-none, slid-more, slid-all}
 use Rattle.values.proofs.Signed.{widens, wide, wide-is, read-lt}
@@ -80,38 +80,47 @@ module _ (ys : List ℤ) (w : ℕ) (t : ℤ) (f : SFits w64 t) where
 
 -- ---- one reading in, one out
 
-module _ (ys : List ℤ) (w : ℕ) (t : ℤ) (b : Best) (i : ℕ) (s : Slid ys w t b i) (few : length ys ≤ 65535) (inside : w ≤ length ys) (k : i < length ys - w)
-    (fi : SFits w32 (getD ys (i + w) (pos 0))) where
-  abbrev come : ℤ
-  come = getD ys (i + w) (pos 0)
+module _ (t x y : ℤ) (small : natAbs t ≤ 4611686018427387904) (ft : SFits w64 t) (fx : SFits w32 x) where
+  in-fits : SFits w64 (t +ℤ x)
+  in-fits = record { sfits = omega (arith, mag-abs (t +ℤ x), abs-sum t x, abs-mag x, fx .sfits) }
 
-  in-fits : SFits w64 (t +ℤ come)
-  in-fits = record { sfits = omega (arith, mag-abs (t +ℤ come), total-range 2147483648 (w + i + i) t come (s .small) (fi .sfits)) }
+  abbrev taken : ℤ
+  taken = toZ w64 (ofZ w64 t) +ℤ wide x
 
-  pub slide-in : SFits w64 (t +ℤ wide come)
-  slide-in = rw (wide-is fi) in-fits
+  taken-is : taken ≡ t +ℤ x
+  taken-is = λ i. toZ-ofZ ft i +ℤ wide-is fx i
 
-  module _ (fo : SFits w32 (getD ys i (pos 0))) where
-    abbrev gone : ℤ
-    gone = getD ys i (pos 0)
+  pub slide-in : SFits w64 taken
+  slide-in = rw taken-is in-fits
 
-    operands : toZ w64 (ofZ w64 (t +ℤ wide come)) -ℤ wide gone ≡ t +ℤ come -ℤ gone
-    operands = λ j. (ap (λ (y : ℤ). toZ w64 (ofZ w64 (t +ℤ y))) (wide-is fi) ∙ toZ-ofZ in-fits) j -ℤ wide-is fo j
+  module _ (fy : SFits w32 y) where
+    abbrev moved : ℤ
+    moved = toZ w64 (ofZ w64 taken) -ℤ wide y
 
-    out-fits : SFits w64 (t +ℤ come -ℤ gone)
-    out-fits = record { sfits = omega (arith, mag-abs (t +ℤ come -ℤ gone), slide-range 2147483648 (w + i + i) t come gone (s .small) (fi .sfits) (fo .sfits)) }
+    moved-is : moved ≡ t +ℤ x -ℤ y
+    moved-is = λ i. (ap (λ (z : ℤ). toZ w64 (ofZ w64 z)) taken-is ∙ toZ-ofZ in-fits) i -ℤ wide-is fy i
 
-    pub slide-out : SFits w64 (toZ w64 (ofZ w64 (t +ℤ wide come)) -ℤ wide gone)
-    slide-out = rw operands out-fits
+    out-fits : SFits w64 (t +ℤ x -ℤ y)
+    out-fits =
+        record { sfits = omega (arith, mag-abs (t +ℤ x -ℤ y), abs-difference (t +ℤ x) y, abs-sum t x, abs-mag x, fx .sfits, abs-mag y, fy .sfits) }
 
-    abbrev next : ℤ
-    next = toZ w64 (ofZ w64 (toZ w64 (ofZ w64 (t +ℤ wide come)) -ℤ wide gone))
+    pub slide-out : SFits w64 moved
+    slide-out = rw moved-is out-fits
 
-    next-is : next ≡ t +ℤ come -ℤ gone
-    next-is = ap (λ (y : ℤ). toZ w64 (ofZ w64 y)) operands ∙ toZ-ofZ out-fits
+    pub slide-is : toZ w64 (ofZ w64 moved) ≡ t +ℤ x -ℤ y
+    slide-is = ap (λ (z : ℤ). toZ w64 (ofZ w64 z)) moved-is ∙ toZ-ofZ out-fits
 
-    pub next-slid : (r : Best) → r ≡ better b next (i + 1) → Slid ys w next r (i + 1)
-    next-slid r e = rw e (slid-more ys w t b i s k (fi .sfits) (fo .sfits) next next-is)
+module _ (ys : List ℤ) (w : ℕ) (t : ℕ) (b : Best) (i : ℕ) (s : Slid ys w (toZ w64 t) b i) (few : length ys ≤ 65535) (inside : w ≤ length ys)
+    (k : i < length ys - w) where
+  pub slid-small : natAbs (toZ w64 t) ≤ 4611686018427387904
+  slid-small = omega (arith, s .small, s .within)
+
+  pub next-slid : (z : ℤ) (r : Best) → SFits w32 (getD ys (i + w) (pos 0)) → SFits w32 (getD ys i (pos 0)) → SFits w64 z
+      → z ≡ toZ w64 t +ℤ toZ w32 (ofZ w32 (getD ys (i + w) (pos 0))) -ℤ toZ w32 (ofZ w32 (getD ys i (pos 0)))
+      → r ≡ better b (toZ w64 (ofZ w64 z)) (i + 1) → Slid ys w (toZ w64 (ofZ w64 z)) r (i + 1)
+  next-slid z r fx fy fz e q =
+      rw q (slid-more ys w (toZ w64 t) b i s k (fx .sfits) (fy .sfits) (toZ w64 (ofZ w64 z))
+      (toZ-ofZ fz ∙ e ∙ (λ j. toZ w64 t +ℤ toZ-ofZ fx j -ℤ toZ-ofZ fy j)))
 
 pub last-slid : (ys : List ℤ) (w : ℕ) (t : ℤ) (b : Best) (i : ℕ) → Slid ys w t b i → length ys - w ≤ i → b ≡ best ys w
 last-slid ys w t b i s h = slid-all ys w t b i s h
@@ -150,4 +159,4 @@ module _ (xs ys : List ℤ) (s l : ℕ) (e : ys ≡ readingsIn xs s l) (n : ℤ)
           ap Number (toZ-pos w32 (omega (arith, f .fits))) ∙ ap (λ (c : Best). Number (pos (c .at))) is ∙ best-index ys w width-within
           ∙ ap (λ (j : ℕ). ofGreatest (λ z. Number (pos (firstAt z (sums ys j)))) (sums ys j)) width-is ∙ chosen _ .1 ∙ ap (λ (zs : List ℤ). bestAt zs n) e
 
-pub ruleset stretch-rules = (needs, widens, part-few, count-cast, index-cast, width-negative, width-beyond, width-inside, better-later, better-earlier, front-few, first-slid, slide-in, slide-out, next-slid, last-slid, sum-none, index-none, width-within, sum-found, index-found)
+pub ruleset stretch-rules = (needs, widens, part-few, count-cast, index-cast, width-negative, width-beyond, width-inside, better-later, better-earlier, front-few, first-slid, slide-in, slide-out, slide-is, slid-small, next-slid, last-slid, sum-none, index-none, width-within, sum-found, index-found)

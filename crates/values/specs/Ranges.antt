@@ -54,7 +54,7 @@ abs-sum (pos a) (negsuc b) = omega (arith, abs-either (ltb a (suc b)) (suc b - s
 abs-sum (negsuc a) (pos b) = omega (arith, abs-either (ltb b (suc a)) (suc a - suc b) (b - suc a))
 abs-sum (negsuc a) (negsuc b) = omega arith
 
-abs-difference : (a b : ℤ) → natAbs (a -ℤ b) ≤ natAbs a + natAbs b
+pub abs-difference : (a b : ℤ) → natAbs (a -ℤ b) ≤ natAbs a + natAbs b
 abs-difference a b = omega (arith, abs-sum a (negℤ b), abs-neg b)
 
 abs-product : (a b : ℤ) → natAbs (a *ℤ b) ≡ natAbs a * natAbs b

@@ -6,6 +6,7 @@ use crate::windows::total_of;
 use rules::Value;
 ghost use mathlib.Core.Path.{_≡_};
 ghost use Prim.Native.Nat.{_≤_};
+ghost use lib.IntN.{natAbs, _+ℤ_, _-ℤ_};
 ghost use lib.ListN.{length};
 ghost use Rattle.members.specs.declared.Member.the-variants as Members;
 ghost use Rattle.rules.specs.Rules.{onWindow};
@@ -39,6 +40,14 @@ fn better_of(so_far: Best, sum: i64, at: u16) -> Best
     }
 }
 
+// The sum of the next stretch: one reading comes in, and one goes out.
+fn slid(sum: i64, come: i32, gone: i32) -> i64
+    requires { ⌜ natAbs sum ≤ 4611686018427387904 ⌝ }
+    ensures { λ r. ⌜ r ≡ sum +ℤ come -ℤ gone ⌝ }
+{
+    sum + come as i64 - gone as i64
+}
+
 // The best stretch of so many readings.
 fn best_of(readings: &[i32], width: usize) -> Best
     requires { ⌜ (width ≤ length (now readings)) × (length (now readings) ≤ 65535) ⌝ }
@@ -48,8 +57,7 @@ fn best_of(readings: &[i32], width: usize) -> Best
     let mut so_far = Best { sum, at: 0 };
     let mut out: u16 = 0;
     while (out as usize) < readings.len() - width {
-        let gone = readings[out as usize] as i64;
-        sum = sum + readings[out as usize + width] as i64 - gone;
+        sum = slid(sum, readings[out as usize + width], readings[out as usize]);
         out += 1;
         so_far = better_of(so_far, sum, out);
     }

@@ -1,6 +1,5 @@
 -- `values::stretches::best_of` meets its contract. At the loop's head the sum is that of the stretch that begins at `out`, and the best so far
--- against the stretches that begin after it is the best of all. The sum has taken in the width's readings and at most one more for each step,
--- and let out as many, so that it fits. The measure is how many stretches are left. Assumes nothing.
+-- against the stretches that begin after it is the best of all. The measure is how many stretches are left. Assumes nothing.
 use Prim.Native.Nat.{_-_}
 use lib.ListN as L
 use mir.Syntax.{w64}
@@ -9,8 +8,8 @@ use native.Mathlib.Omega.{arith}
 use borrow.Author.Needs.{needs}
 use Rattle.values.specs.SlidingLaws.{Slid}
 use Rattle.values.proofs.StretchRules.{stretch-rules}
-use Rattle.values.proofs.stretches.best_of.Tie as tie
 use Rattle.values.proofs.stretches.best_of.Statement.{statement}
+use Rattle.values.proofs.stretches.best_of.Tie as tie
 
 abbrev Inv-loop : tie.InvT-loop
 Inv-loop readings width sum₀ so-far₀ out₀ sum so-far out = Slid readings width (toZ w64 sum) so-far out
@@ -39,44 +38,35 @@ cast-loop c = search needs
 sub-loop : tie.Need-sub-loop Inv-loop μ-loop
 sub-loop c = omega arith
 
-cast-gone : tie.Need-cast-gone Inv-loop μ-loop
-cast-gone c = search needs
+cast-slid : tie.Need-cast-slid Inv-loop μ-loop
+cast-slid c = search needs
 
-mul-gone : tie.Need-mul-gone Inv-loop μ-loop
-mul-gone c = search needs
+add-slid : tie.Need-add-slid Inv-loop μ-loop
+add-slid c = search needs
 
-shared-slice-copy-out-gone : tie.Need-shared-slice-copy-out-gone Inv-loop μ-loop
-shared-slice-copy-out-gone c = search needs
+mul-slid : tie.Need-mul-slid Inv-loop μ-loop
+mul-slid c = search needs
 
-cast-gone-2 : tie.Need-cast-gone-2 Inv-loop μ-loop
-cast-gone-2 c = search stretch-rules
+shared-slice-copy-out-slid : tie.Need-shared-slice-copy-out-slid Inv-loop μ-loop
+shared-slice-copy-out-slid c = search needs
 
-cast-sum : tie.Need-cast-sum Inv-loop μ-loop
-cast-sum c = search needs
+cast-slid-2 : tie.Need-cast-slid-2 Inv-loop μ-loop
+cast-slid-2 c = search needs
 
-add-sum : tie.Need-add-sum Inv-loop μ-loop
-add-sum c = omega arith
+mul-slid-2 : tie.Need-mul-slid-2 Inv-loop μ-loop
+mul-slid-2 c = search needs
 
-mul-sum : tie.Need-mul-sum Inv-loop μ-loop
-mul-sum c = search needs
+shared-slice-copy-out-slid-2 : tie.Need-shared-slice-copy-out-slid-2 Inv-loop μ-loop
+shared-slice-copy-out-slid-2 c = search needs
 
-shared-slice-copy-out-sum : tie.Need-shared-slice-copy-out-sum Inv-loop μ-loop
-shared-slice-copy-out-sum c = search needs
-
-cast-sum-2 : tie.Need-cast-sum-2 Inv-loop μ-loop
-cast-sum-2 c = search stretch-rules
-
-add-sum-2 : tie.Need-add-sum-2 Inv-loop μ-loop
-add-sum-2 c = search stretch-rules
-
-sub-sum : tie.Need-sub-sum Inv-loop μ-loop
-sub-sum c = search stretch-rules
+slid-requires : tie.Need-slid-requires Inv-loop μ-loop
+slid-requires c κs = search stretch-rules
 
 add-out : tie.Need-add-out Inv-loop μ-loop
 add-out c = search needs
 
 better-of-requires : tie.Need-better-of-requires Inv-loop μ-loop
-better-of-requires c κs = search needs
+better-of-requires c κs = search stretch-rules
 
 loop-less : tie.Need-loop-less Inv-loop μ-loop
 loop-less c = search needs
@@ -100,17 +90,14 @@ best-of-spec =
     loop-holds
     cast-loop
     sub-loop
-    cast-gone
-    mul-gone
-    shared-slice-copy-out-gone
-    cast-gone-2
-    cast-sum
-    add-sum
-    mul-sum
-    shared-slice-copy-out-sum
-    cast-sum-2
-    add-sum-2
-    sub-sum
+    cast-slid
+    add-slid
+    mul-slid
+    shared-slice-copy-out-slid
+    cast-slid-2
+    mul-slid-2
+    shared-slice-copy-out-slid-2
+    slid-requires
     add-out
     better-of-requires
     loop-less
