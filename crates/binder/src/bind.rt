@@ -81,7 +81,9 @@ fn bind_one(
 ) -> u16
     requires { ⌜ Ready (now links) (now cells) count total r (now numbers) (now fresh) (now chain) ⌝ }
     requires { ⌜ r < textParts ⌝ }
-    ensures { λ t. ⌜ BoundOne (now (links .entry)) (now (cells .entry)) count total (now (records .entry)) r (now (numbers .entry)) (now (fresh .entry)) t (now (numbers .exit)) (now (fresh .exit)) (now (chain .exit)) ⌝ }
+    ensures { λ t. ⌜ BoundOne (now (links .entry)) (now (cells .entry)) count total
+        (now (records .entry)) r (now (numbers .entry)) (now (fresh .entry))
+        t (now (numbers .exit)) (now (fresh .exit)) (now (chain .exit)) ⌝ }
 {
     let x = relink(records, numbers, r);
     let h = hash(x);

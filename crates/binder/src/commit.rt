@@ -23,7 +23,9 @@ ghost use Rattle.binder.specs.Written.{Whole, placed};
 pub fn append(heads: &mut [u32], links: &mut [u16], cells: &mut [u64], x: Shape)
     requires { ⌜ Whole (now heads) (now links) (now cells) ⌝ }
     requires { ⌜ getD (now heads) 0 0 < tableEntries ⌝ }
-    ensures { λ _. ⌜ ((readings : List ℤ) → memory readings (now (heads .exit)) (now (links .exit)) (now (cells .exit)) ≡ append (memory readings (now (heads .entry)) (now (links .entry)) (now (cells .entry))) (shaped x)) ⌝ }
+    ensures { λ _. ⌜ ((readings : List ℤ)
+        → memory readings (now (heads .exit)) (now (links .exit)) (now (cells .exit))
+        ≡ append (memory readings (now (heads .entry)) (now (links .entry)) (now (cells .entry))) (shaped x)) ⌝ }
 {
     let count = at32(heads, 0);
     put_links(links, count as usize, x.kind, x.first, x.second);
@@ -43,7 +45,10 @@ pub fn commit(
     requires { ⌜ Whole (now heads) (now links) (now cells) ⌝ }
     requires { ⌜ getD (now heads) 0 0 ≡ count ⌝ }
     requires { ⌜ (count ≤ total) × (total ≤ tableEntries) ⌝ }
-    ensures { λ _. ⌜ ((readings : List ℤ) → memory readings (now (heads .exit)) (now (links .exit)) (now (cells .exit)) ≡ appendAll (memory readings (now (heads .entry)) (now (links .entry)) (now (cells .entry))) (numbered (freshAt (now (fresh .entry))) 0 (total - count))) ⌝ }
+    ensures { λ _. ⌜ ((readings : List ℤ)
+        → memory readings (now (heads .exit)) (now (links .exit)) (now (cells .exit))
+        ≡ appendAll (memory readings (now (heads .entry)) (now (links .entry)) (now (cells .entry)))
+        (numbered (freshAt (now (fresh .entry))) 0 (total - count))) ⌝ }
 {
     let n = total - count;
     let mut i: u16 = 0;

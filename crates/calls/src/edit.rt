@@ -31,7 +31,11 @@ fn edit_checked(
 ) -> Edited
     requires { ⌜ Whole (now heads) (now links) (now cells) × (textParts ≤ length (now places)) ⌝ }
     requires { ⌜ ((readings : List ℤ) → wellFormed (memory readings (now heads) (now links) (now cells)) ≡ true) ⌝ }
-    ensures { λ r. ⌜ ((readings : List ℤ) → EditsRead (memory readings (now (heads .entry)) (now (links .entry)) (now (cells .entry))) (now (places .entry)) (now (text .entry)) (memory readings (now (heads .exit)) (now (links .exit)) (now (cells .exit))) (now (places .exit)) r) ⌝ }
+    ensures { λ r. ⌜ ((readings : List ℤ) → EditsRead
+        (memory readings (now (heads .entry)) (now (links .entry)) (now (cells .entry)))
+        (now (places .entry)) (now (text .entry))
+        (memory readings (now (heads .exit)) (now (links .exit)) (now (cells .exit)))
+        (now (places .exit)) r) ⌝ }
 {
     let count = at32(heads, 0) as u16;
     let mut parts = [0u16; Text::PARTS];
@@ -71,7 +75,11 @@ pub fn edit(
     links: &mut [u16],
     cells: &mut [u64],
 ) -> Edited
-    ensures { λ r. ⌜ Edits (memory (now (readings .entry)) (now (heads .entry)) (now (links .entry)) (now (cells .entry))) (now (places .entry)) (now (text .entry)) (memory (now (readings .entry)) (now (heads .exit)) (now (links .exit)) (now (cells .exit))) (now (places .exit)) r ⌝ }
+    ensures { λ r. ⌜ Edits
+        (memory (now (readings .entry)) (now (heads .entry)) (now (links .entry)) (now (cells .entry)))
+        (now (places .entry)) (now (text .entry))
+        (memory (now (readings .entry)) (now (heads .exit)) (now (links .exit)) (now (cells .exit)))
+        (now (places .exit)) r ⌝ }
 {
     if Text::BYTES < text.len() {
         return Edited::Refused {

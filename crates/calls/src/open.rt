@@ -29,7 +29,10 @@ pub fn open(
     links: &[u16],
     cells: &[u64],
 ) -> Opened
-    ensures { λ r. ⌜ Opens (memory (now (readings .entry)) (now (heads .entry)) (now (links .entry)) (now (cells .entry))) (now (recording .entry)) (memory (now (readings .exit)) (now (heads .exit)) (now (links .entry)) (now (cells .entry))) r ⌝ }
+    ensures { λ r. ⌜ Opens
+        (memory (now (readings .entry)) (now (heads .entry)) (now (links .entry)) (now (cells .entry)))
+        (now (recording .entry))
+        (memory (now (readings .exit)) (now (heads .exit)) (now (links .entry)) (now (cells .entry))) r ⌝ }
 {
     let n = recording.len();
     if Table::READINGS < n {

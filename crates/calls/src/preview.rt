@@ -16,7 +16,10 @@ pub fn preview(
     links: &[u16],
     cells: &mut [u64],
 ) -> Previewed
-    ensures { λ r. ⌜ Previews (memory (now (readings .entry)) (now (heads .entry)) (now (links .entry)) (now (cells .entry))) entry allowance (memory (now (readings .entry)) (now (heads .entry)) (now (links .entry)) (now (cells .exit))) r ⌝ }
+    ensures { λ r. ⌜ Previews
+        (memory (now (readings .entry)) (now (heads .entry)) (now (links .entry)) (now (cells .entry)))
+        entry allowance
+        (memory (now (readings .entry)) (now (heads .entry)) (now (links .entry)) (now (cells .exit))) r ⌝ }
 {
     let refused = refusal(entry, readings, heads, links, cells);
     if refused == 0 {

@@ -101,7 +101,10 @@ pub extern "C" fn formula_open(
     links: &[u16],
     cells: &[u64],
 ) -> u32
-    ensures { λ r. ⌜ OpensForC (memory (now (readings .entry)) (now (heads .entry)) (now (links .entry)) (now (cells .entry))) (now (recording .entry)) (memory (now (readings .exit)) (now (heads .exit)) (now (links .entry)) (now (cells .entry))) r ⌝ }
+    ensures { λ r. ⌜ OpensForC
+        (memory (now (readings .entry)) (now (heads .entry)) (now (links .entry)) (now (cells .entry)))
+        (now (recording .entry))
+        (memory (now (readings .exit)) (now (heads .exit)) (now (links .entry)) (now (cells .entry))) r ⌝ }
 {
     open_number(open(recording, readings, heads, links, cells))
 }
@@ -115,7 +118,11 @@ pub extern "C" fn formula_edit(
     links: &mut [u16],
     cells: &mut [u64],
 ) -> EditAnswer
-    ensures { λ r. ⌜ EditsForC (memory (now (readings .entry)) (now (heads .entry)) (now (links .entry)) (now (cells .entry))) (now (places .entry)) (now (text .entry)) (memory (now (readings .entry)) (now (heads .exit)) (now (links .exit)) (now (cells .exit))) (now (places .exit)) r ⌝ }
+    ensures { λ r. ⌜ EditsForC
+        (memory (now (readings .entry)) (now (heads .entry)) (now (links .entry)) (now (cells .entry)))
+        (now (places .entry)) (now (text .entry))
+        (memory (now (readings .entry)) (now (heads .exit)) (now (links .exit)) (now (cells .exit)))
+        (now (places .exit)) r ⌝ }
 {
     edit_numbers(edit(text, places, readings, heads, links, cells))
 }
@@ -129,7 +136,10 @@ pub extern "C" fn formula_preview(
     links: &[u16],
     cells: &mut [u64],
 ) -> PreviewAnswer
-    ensures { λ r. ⌜ PreviewsForC (memory (now (readings .entry)) (now (heads .entry)) (now (links .entry)) (now (cells .entry))) entry allowance (memory (now (readings .entry)) (now (heads .entry)) (now (links .entry)) (now (cells .exit))) r ⌝ }
+    ensures { λ r. ⌜ PreviewsForC
+        (memory (now (readings .entry)) (now (heads .entry)) (now (links .entry)) (now (cells .entry)))
+        entry allowance
+        (memory (now (readings .entry)) (now (heads .entry)) (now (links .entry)) (now (cells .exit))) r ⌝ }
 {
     preview_numbers(preview(entry, allowance, readings, heads, links, cells))
 }

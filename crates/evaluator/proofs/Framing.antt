@@ -97,4 +97,23 @@ module _ (frame : List ℕ) (w base : ℕ) where
     unfolding functionOf
     function-closed t = rw (lt-leb _ _ h, ← e, t)
 
-pub ruleset framing = (needs, past, leaf-number, leaf-variable, leaf-unbound, leaf-readings, start-leaf, start-kept, bound-yes, bound-no, unset-is, unset-far, unset-none, open-first, open-second, function-missing, function-open, function-closed)
+pub ruleset framing = (
+  needs,
+  past,
+  leaf-number,
+  leaf-variable,
+  leaf-unbound,
+  leaf-readings,
+  start-leaf,
+  start-kept,
+  bound-yes,
+  bound-no,
+  unset-is,
+  unset-far,
+  unset-none,
+  open-first,
+  open-second,
+  function-missing,
+  function-open,
+  function-closed,
+)

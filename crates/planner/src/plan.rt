@@ -41,7 +41,9 @@ pub fn plan_edit(
 ) -> Plan
     requires { ⌜ (count ≤ tableEntries) × (length (now parts) ≡ textParts) × (length (now numbers) ≡ textParts) × (length (now fresh) ≡ 256) ⌝ }
     requires { ⌜ distinct (numbered (nodeAt (now links) (now cells)) 0 count) ≡ true ⌝ }
-    ensures { λ p. ⌜ ((readings : List ℤ) (heads : List ℕ) → getD heads 0 0 ≡ count → Planned (memory readings heads (now (links .entry)) (now (cells .entry))) (now (text .entry)) p (now (parts .exit)) (now (numbers .exit)) (now (fresh .exit))) ⌝ }
+    ensures { λ p. ⌜ ((readings : List ℤ) (heads : List ℕ) → getD heads 0 0 ≡ count
+        → Planned (memory readings heads (now (links .entry)) (now (cells .entry)))
+        (now (text .entry)) p (now (parts .exit)) (now (numbers .exit)) (now (fresh .exit))) ⌝ }
 {
     let mut records = [0u64; TEXT_WORDS];
     match read(text, &mut records, parts) {

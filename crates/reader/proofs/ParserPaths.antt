@@ -189,7 +189,10 @@ module _ (text : List ℕ) where
         → Continues (inMore (callOf k) marks depth) marks depth text c R P S r R P S
     more-refused x r e p q g =
         stopped (refusing-some 4 c r g)
-        (record { reads = subst (λ (v : C.Cursor). Reads end (inMore (callOf k) marks depth) s (moved s v)) (sym g) (PathsCalls.more-refused end marks depth s (callOf k) (not-ahead c x e 8 p) (not-ahead c x e 9 q)) })
+        (record {
+          reads = subst (λ (v : C.Cursor). Reads end (inMore (callOf k) marks depth) s (moved s v)) (sym g)
+              (PathsCalls.more-refused end marks depth s (callOf k) (not-ahead c x e 8 p) (not-ahead c x e 9 q));
+        })
 
     module _ (x : Lexed) (n : ℕ) (h : Cursor) (e : x ≡ lexAt text (c .at)) (q : x .kind ≡ 9) (o : n ≡ C.atComma (k .takes)) (p : cursorOf text h ≡ passing text n c) where
       comma-is : cursorOf text h ≡ passing text (C.atComma (k .takes)) c
@@ -487,7 +490,10 @@ module _ (text : List ℕ) where
           module _ (b : Cursor) (u : v .number ≡ 0) (g : cursorOf text b ≡ C.need end 2 (cursorOf text v)) where
             pub let-in-refused : (b .number ≡ 0 → ⊥) → Parses E text c R P S b R₁ P₁ S₁
             let-in-refused t =
-                record { reads = Paths.let-in-refused end w marks depth at-it (cursorOf text h) (f .ahead) p (eq-eqb (h .number) 0 z) (cursorOf text b) value-reads (eq-eqb (v .number) 0 u) g (ne-eqb (b .number) 0 t) }
+                record {
+                  reads = Paths.let-in-refused end w marks depth at-it (cursorOf text h) (f .ahead) p (eq-eqb (h .number) 0 z)
+                      (cursorOf text b) value-reads (eq-eqb (v .number) 0 u) g (ne-eqb (b .number) 0 t);
+                }
 
             module _ (t : b .number ≡ 0) (S₂ : List ℕ) (q : S₂ ≡ set (set S₁ (2 * depth) (h .name)) (2 * depth + 1) (v .root + 1)) where
               bound : D.enter depth (h .name) (suc (v .root)) (stateOf text b R₁ P₁ S₁) ≡ stateOf text b R₁ P₁ S₂
@@ -511,7 +517,11 @@ module _ (text : List ℕ) where
 
                 pub let-body-refused : (r .number ≡ 0 → ⊥) → Parses E text c R P S r R₂ P₂ S₃
                 let-body-refused a =
-                    record { reads = Paths.let-body-refused end w marks depth at-it (cursorOf text h) (f .ahead) p (eq-eqb (h .number) 0 z) (cursorOf text b) value-reads (eq-eqb (v .number) 0 u) g (eq-eqb (b .number) 0 t) in-reads (ne-eqb (r .number) 0 a) }
+                    record {
+                      reads = Paths.let-body-refused end w marks depth at-it (cursorOf text h) (f .ahead) p (eq-eqb (h .number) 0 z)
+                          (cursorOf text b) value-reads (eq-eqb (v .number) 0 u) g (eq-eqb (b .number) 0 t)
+                          in-reads (ne-eqb (r .number) 0 a);
+                    }
 
                 module _ (a : r .number ≡ 0) where
                   pub let-root : r .root < 128
@@ -522,7 +532,9 @@ module _ (text : List ℕ) where
                   let-read P₃ d =
                       record {
                         reads = subst (λ (l : List ℕ). Reads end E at-it (stateOf text r R₂ l S₃)) (sym d)
-                            (Paths.let-read end w marks depth at-it (cursorOf text h) (f .ahead) p (eq-eqb (h .number) 0 z) (cursorOf text b) value-reads (eq-eqb (v .number) 0 u) g (eq-eqb (b .number) 0 t) in-reads (eq-eqb (r .number) 0 a));
+                            (Paths.let-read end w marks depth at-it (cursorOf text h) (f .ahead) p (eq-eqb (h .number) 0 z)
+                            (cursorOf text b) value-reads (eq-eqb (v .number) 0 u) g (eq-eqb (b .number) 0 t)
+                            in-reads (eq-eqb (r .number) 0 a));
                       }
 
 -- ---- a call behind an argument

@@ -70,7 +70,9 @@ fn expression(
     scope: &mut [u64; 32],
 ) -> Cursor
     requires { ⌜ Ready (inExpression w marks depth) (now text) c (now records) (now places) (now scope) ⌝ }
-    ensures { λ r. ⌜ Parses (inExpression w marks depth) (now (text .entry)) c (now (records .entry)) (now (places .entry)) (now (scope .entry)) r (now (records .exit)) (now (places .exit)) (now (scope .exit)) ⌝ }
+    ensures { λ r. ⌜ Parses (inExpression w marks depth) (now (text .entry)) c
+        (now (records .entry)) (now (places .entry)) (now (scope .entry))
+        r (now (records .exit)) (now (places .exit)) (now (scope .exit)) ⌝ }
 {
     let x = tokens::token(text, c.at);
     let kind = x.kind;
@@ -100,7 +102,9 @@ fn atom(
     scope: &mut [u64; 32],
 ) -> Cursor
     requires { ⌜ ReadyAtom x (inExpression w marks depth) (now text) c (now records) (now places) (now scope) ⌝ }
-    ensures { λ r. ⌜ Continues (inExpression w marks depth) marks depth (now (text .entry)) c (now (records .entry)) (now (places .entry)) (now (scope .entry)) r (now (records .exit)) (now (places .exit)) (now (scope .exit)) ⌝ }
+    ensures { λ r. ⌜ Continues (inExpression w marks depth) marks depth (now (text .entry)) c
+        (now (records .entry)) (now (places .entry)) (now (scope .entry))
+        r (now (records .exit)) (now (places .exit)) (now (scope .exit)) ⌝ }
 {
     let kind = x.kind;
     if kind == Lexed::OPEN {
@@ -127,7 +131,9 @@ fn read_let(
     scope: &mut [u64; 32],
 ) -> Cursor
     requires { ⌜ ReadyAt letKind (inExpression w marks depth) (now text) c (now records) (now places) (now scope) ⌝ }
-    ensures { λ r. ⌜ Parses (inExpression w marks depth) (now (text .entry)) c (now (records .entry)) (now (places .entry)) (now (scope .entry)) r (now (records .exit)) (now (places .exit)) (now (scope .exit)) ⌝ }
+    ensures { λ r. ⌜ Parses (inExpression w marks depth) (now (text .entry)) c
+        (now (records .entry)) (now (places .entry)) (now (scope .entry))
+        r (now (records .exit)) (now (places .exit)) (now (scope .exit)) ⌝ }
 {
     let h = cursor::let_head(text, w, marks, c);
     if h.number == 0 {
@@ -166,7 +172,9 @@ fn read_lambda(
     scope: &mut [u64; 32],
 ) -> Cursor
     requires { ⌜ ReadyAt lambdaKind (inExpression w marks depth) (now text) c (now records) (now places) (now scope) ⌝ }
-    ensures { λ r. ⌜ Parses (inExpression w marks depth) (now (text .entry)) c (now (records .entry)) (now (places .entry)) (now (scope .entry)) r (now (records .exit)) (now (places .exit)) (now (scope .exit)) ⌝ }
+    ensures { λ r. ⌜ Parses (inExpression w marks depth) (now (text .entry)) c
+        (now (records .entry)) (now (places .entry)) (now (scope .entry))
+        r (now (records .exit)) (now (places .exit)) (now (scope .exit)) ⌝ }
 {
     let h = cursor::lambda_head(text, w, marks, depth, scope, c);
     if h.number == 0 {
@@ -203,7 +211,9 @@ fn read_bracket(
     scope: &mut [u64; 32],
 ) -> Cursor
     requires { ⌜ ReadyAt openKind (inExpression w marks depth) (now text) c (now records) (now places) (now scope) ⌝ }
-    ensures { λ r. ⌜ Continues (inExpression w marks depth) marks depth (now (text .entry)) c (now (records .entry)) (now (places .entry)) (now (scope .entry)) r (now (records .exit)) (now (places .exit)) (now (scope .exit)) ⌝ }
+    ensures { λ r. ⌜ Continues (inExpression w marks depth) marks depth (now (text .entry)) c
+        (now (records .entry)) (now (places .entry)) (now (scope .entry))
+        r (now (records .exit)) (now (places .exit)) (now (scope .exit)) ⌝ }
 {
     let h = cursor::judged(text, cursor::at_bracket(w, marks), c);
     if h.number == 0 {
@@ -237,7 +247,9 @@ fn calls(
     scope: &mut [u64; 32],
 ) -> Cursor
     requires { ⌜ Ready (inCalls marks depth) (now text) c (now records) (now places) (now scope) ⌝ }
-    ensures { λ r. ⌜ Parses (inCalls marks depth) (now (text .entry)) c (now (records .entry)) (now (places .entry)) (now (scope .entry)) r (now (records .exit)) (now (places .exit)) (now (scope .exit)) ⌝ }
+    ensures { λ r. ⌜ Parses (inCalls marks depth) (now (text .entry)) c
+        (now (records .entry)) (now (places .entry)) (now (scope .entry))
+        r (now (records .exit)) (now (places .exit)) (now (scope .exit)) ⌝ }
 {
     let mut a = c;
     while is_call(text, a.at) {
@@ -260,7 +272,9 @@ fn call(
     scope: &mut [u64; 32],
 ) -> Cursor
     requires { ⌜ ReadyAt dotKind (inCalls marks depth) (now text) c (now records) (now places) (now scope) ⌝ }
-    ensures { λ r. ⌜ Continues (inCalls marks depth) marks depth (now (text .entry)) c (now (records .entry)) (now (places .entry)) (now (scope .entry)) r (now (records .exit)) (now (places .exit)) (now (scope .exit)) ⌝ }
+    ensures { λ r. ⌜ Continues (inCalls marks depth) marks depth (now (text .entry)) c
+        (now (records .entry)) (now (places .entry)) (now (scope .entry))
+        r (now (records .exit)) (now (places .exit)) (now (scope .exit)) ⌝ }
 {
     let h = cursor::call_head(text, marks, c);
     if h.number == 0 {
@@ -289,7 +303,9 @@ fn arguments(
     scope: &mut [u64; 32],
 ) -> Cursor
     requires { ⌜ Ready (inArguments (callOf k) marks depth) (now text) c (now records) (now places) (now scope) ⌝ }
-    ensures { λ r. ⌜ Continues (inArguments (callOf k) marks depth) marks depth (now (text .entry)) c (now (records .entry)) (now (places .entry)) (now (scope .entry)) r (now (records .exit)) (now (places .exit)) (now (scope .exit)) ⌝ }
+    ensures { λ r. ⌜ Continues (inArguments (callOf k) marks depth) marks depth (now (text .entry)) c
+        (now (records .entry)) (now (places .entry)) (now (scope .entry))
+        r (now (records .exit)) (now (places .exit)) (now (scope .exit)) ⌝ }
 {
     let x = tokens::token(text, c.at);
     if x.kind == Lexed::SHUT {
@@ -334,7 +350,9 @@ fn more(
     scope: &mut [u64; 32],
 ) -> Cursor
     requires { ⌜ Ready (inMore (callOf k) marks depth) (now text) c (now records) (now places) (now scope) ⌝ }
-    ensures { λ r. ⌜ Continues (inMore (callOf k) marks depth) marks depth (now (text .entry)) c (now (records .entry)) (now (places .entry)) (now (scope .entry)) r (now (records .exit)) (now (places .exit)) (now (scope .exit)) ⌝ }
+    ensures { λ r. ⌜ Continues (inMore (callOf k) marks depth) marks depth (now (text .entry)) c
+        (now (records .entry)) (now (places .entry)) (now (scope .entry))
+        r (now (records .exit)) (now (places .exit)) (now (scope .exit)) ⌝ }
 {
     let x = tokens::token(text, c.at);
     let kind = x.kind;

@@ -116,7 +116,9 @@ module _ (xs : List ℤ) (links begins : List ℕ) (n allowance : ℕ) (waits fl
     next : workFrom (applyAt (graph links waits xs) tableEntries) links waits flags allowance (n + 1 - i) i cells frame count
         ≡ cond (chosen links flags frame i)
         (cond (ltb count allowance)
-        (workFrom (applyAt (graph links waits xs) tableEntries) links waits flags allowance (n + 1 - (i + 1)) (i + 1) (kept cells i (applyAt (graph links waits xs) tableEntries frame i) (getD waits i 0)) (set frame i (applyAt (graph links waits xs) tableEntries frame i)) (count + 1))
+        (workFrom (applyAt (graph links waits xs) tableEntries) links waits flags allowance (n + 1 - (i + 1)) (i + 1)
+        (kept cells i (applyAt (graph links waits xs) tableEntries frame i) (getD waits i 0))
+        (set frame i (applyAt (graph links waits xs) tableEntries frame i)) (count + 1))
         (workOf cells count true))
         (workFrom (applyAt (graph links waits xs) tableEntries) links waits flags allowance (n + 1 - (i + 1)) (i + 1) cells frame count)
     unfolding workFrom
@@ -146,7 +148,8 @@ work-begin xs links cells n allowance waits frame flags p q r =
     let s : n + 1 ≡ suc n = omega arith in
     record { within = omega arith; size = refl; paid = omega arith; same = rw (p, q, r, s, sub-zero) refl }
 
-module _ (size : ℕ) (links cells : List ℕ) (n c : ℕ) (e : c ≡ startAt size links cells n) (v : Value) (p : v ≡ unpackOf c) (s : Shown) (q : s ≡ shownNumbers v) (kind : ℕ) (k : kind ≡ kindAt links n) where
+module _ (size : ℕ) (links cells : List ℕ) (n c : ℕ) (e : c ≡ startAt size links cells n)
+    (v : Value) (p : v ≡ unpackOf c) (s : Shown) (q : s ≡ shownNumbers v) (kind : ℕ) (k : kind ≡ kindAt links n) where
   shown : s ≡ shownNumbers (unpackOf (startAt size links cells n))
   shown = q ∙ ap shownNumbers (p ∙ ap unpackOf e)
 

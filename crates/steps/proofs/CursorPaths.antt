@@ -201,7 +201,16 @@ module _ (text : List ℕ) (c : Cursor) (x : Lexed) (e : x ≡ lexAt text (c .at
   part-here : cursorOf text (partTo c (x .end)) ≡ D.passPart C
   unfolding D.passPart
   part-here =
-      λ i. record { rest = sym (behind-head text (c .at) x e) i; parts = add-one (c .parts) i; count = c .count; root = c .root; name = c .name; takes = c .takes; number = c .number; place = c .place }
+      λ i. record {
+        rest = sym (behind-head text (c .at) x e) i;
+        parts = add-one (c .parts) i;
+        count = c .count;
+        root = c .root;
+        name = c .name;
+        takes = c .takes;
+        number = c .number;
+        place = c .place;
+      }
 
   named-here : (n n′ t t′ : ℕ) → n ≡ n′ → t ≡ t′ → cursorOf text (namedTo c (x .end) n t)
       ≡ record { rest = D.behindHead left; parts = c .parts; count = c .count; root = c .root; name = n′; takes = t′; number = c .number; place = c .place }

@@ -189,7 +189,9 @@ pub fn read_name(
     places: &mut [u16; 128],
 ) -> Cursor
     requires { ⌜ NameAhead (now text) depth c (now scope) ⌝ }
-    ensures { λ r. ⌜ stateOf (now (text .entry)) r (now (records .exit)) (now (places .exit)) (now (scope .entry)) ≡ readName (length (now (text .entry))) w depth (stateOf (now (text .entry)) c (now (records .entry)) (now (places .entry)) (now (scope .entry))) ⌝ }
+    ensures { λ r. ⌜ stateOf (now (text .entry)) r (now (records .exit)) (now (places .exit)) (now (scope .entry))
+        ≡ readName (length (now (text .entry))) w depth
+        (stateOf (now (text .entry)) c (now (records .entry)) (now (places .entry)) (now (scope .entry))) ⌝ }
 {
     let x = tokens::token(text, c.at);
     let number = cursor::at_name(w, tokens::is_long(text, x.start, x.end), c.parts);

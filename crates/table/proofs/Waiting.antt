@@ -117,4 +117,27 @@ module _ (b f : ℕ) (r : Bool) (e : r ≡ hasSlot f (b / 65536)) where
     unfolding ownOf
     own-second u = rw (sym e ∙ t, sym d ∙ u)
 
-pub ruleset waiting = (needs, awaits-is, join-first, join-full, join-same, join-both, named-is, named-none, without-first, without-second, without-none, waits-below, waits-none, at-variable, at-leaf, at-function, at-member, covers-is, few-here, own-first, own-none, own-second)
+pub ruleset waiting = (
+  needs,
+  awaits-is,
+  join-first,
+  join-full,
+  join-same,
+  join-both,
+  named-is,
+  named-none,
+  without-first,
+  without-second,
+  without-none,
+  waits-below,
+  waits-none,
+  at-variable,
+  at-leaf,
+  at-function,
+  at-member,
+  covers-is,
+  few-here,
+  own-first,
+  own-none,
+  own-second,
+)

@@ -13,7 +13,11 @@ use Rattle.binder.proofs.bind.bind.Statement.{statement}
 use Rattle.binder.proofs.bind.bind.Tie as tie
 
 abbrev Inv-loop : tie.InvT-loop
-Inv-loop links cells count records n numbers₀ fresh₀ chain₀ total₀ r₀ numbers fresh chain total r = (r ≤ n) × Ready links cells count total r numbers fresh chain × (bindAll (boundNow links cells count total r numbers fresh) (numbered (recordAt records) r (n - r)) ≡ bindAll (bound (numbered (nodeAt links cells) 0 count) []) (numbered (recordAt records) 0 n))
+Inv-loop links cells count records n numbers₀ fresh₀ chain₀ total₀ r₀ numbers fresh chain total r =
+    (r ≤ n)
+    × Ready links cells count total r numbers fresh chain
+    × (bindAll (boundNow links cells count total r numbers fresh) (numbered (recordAt records) r (n - r))
+    ≡ bindAll (bound (numbered (nodeAt links cells) 0 count) []) (numbered (recordAt records) 0 n))
 
 abbrev μ-loop : tie.MeasureT-loop
 μ-loop links cells count records n numbers₀ fresh₀ chain₀ total₀ r₀ numbers fresh chain total r = n - r

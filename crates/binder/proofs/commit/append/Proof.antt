@@ -36,7 +36,13 @@ same-length-3 : tie.Need-same-length-3
 same-length-3 c = search needs
 
 returns : tie.Need-returns
-returns c = append-is (c .before .before .before .before .before .before .before .before .before .before .before .before .before .args .heads .now) _ _ _ _ _ _ _ (c .before .before .before .before .before .before .before .before .at32 .ensures) (c .before .before .before .before .before .before .put-links .ensures) (c .before .before .put-cells .ensures) refl
+returns c =
+    let at-put-cells = c .before .before in
+    let at-put-links = at-put-cells .before .before .before .before in
+    let at-at32 = at-put-links .before .before in
+    let at-args = at-at32 .before .before .before .before .before in
+    append-is (at-args .args .heads .now) _ _ _ _ _ _ _
+    (at-at32 .at32 .ensures) (at-put-links .put-links .ensures) (at-put-cells .put-cells .ensures) refl
 
 pub append-spec : {M : Type 1} → statement M
 append-spec =

@@ -8,7 +8,13 @@ use Rattle.binder.proofs.commit.commit.Statement.{statement}
 use Rattle.binder.proofs.commit.commit.Tie as tie
 
 abbrev Inv-loop : tie.InvT-loop
-Inv-loop heads₀ links₀ cells₀ fresh count total n i₀ heads links cells i = (i ≤ n) × (length heads ≡ length heads₀) × (length links ≡ length links₀) × (length cells ≡ length cells₀) × (getD heads 0 0 ≡ count + i) × Appends fresh i n heads₀ links₀ cells₀ heads links cells
+Inv-loop heads₀ links₀ cells₀ fresh count total n i₀ heads links cells i =
+    (i ≤ n)
+    × (length heads ≡ length heads₀)
+    × (length links ≡ length links₀)
+    × (length cells ≡ length cells₀)
+    × (getD heads 0 0 ≡ count + i)
+    × Appends fresh i n heads₀ links₀ cells₀ heads links cells
 
 abbrev μ-loop : tie.MeasureT-loop
 μ-loop heads₀ links₀ cells₀ fresh count total n i₀ heads links cells i = n - i
@@ -32,7 +38,17 @@ loop-less : tie.Need-loop-less Inv-loop μ-loop
 loop-less c = search needs
 
 loop-again : tie.Need-loop-again Inv-loop μ-loop
-loop-again c = (search needs, search needs, search needs, search needs, count-go _ _ _ _ _ _ _ _ _ (c .before .before .before .before .before .before .before .before .before .before .before .before .before .loop .inv .5) _ _ _ _ _ (c .before .before .before .before .before .before .append .ensures) (c .before .before .before .before .before .before .before .before .before .before .before .before .before .loop .inv .4) (search needs), append-go _ _ _ _ _ _ _ _ _ (c .before .before .before .before .before .before .before .before .before .before .before .before .before .loop .inv .5) _ _ _ _ (c .before .before .before .before .before .before .append .ensures) (c .before .before .before .before .before .before .before .before .before .before .fresh-at .ensures) (search needs))
+loop-again c =
+    let at-append = c .before .before .before .before .before .before in
+    let at-fresh-at = at-append .before .before .before .before in
+    let at-loop = at-fresh-at .before .before .before in (
+      search needs,
+      search needs,
+      search needs,
+      search needs,
+      count-go _ _ _ _ _ _ _ _ _ (at-loop .loop .inv .5) _ _ _ _ _ (at-append .append .ensures) (at-loop .loop .inv .4) (search needs),
+      append-go _ _ _ _ _ _ _ _ _ (at-loop .loop .inv .5) _ _ _ _ (at-append .append .ensures) (at-fresh-at .fresh-at .ensures) (search needs),
+    )
 
 same-length : tie.Need-same-length Inv-loop μ-loop
 same-length c = search needs

@@ -42,7 +42,15 @@ loop-less : tie.Need-loop-less Inv-loop μ-loop
 loop-less c = search needs
 
 loop-again : tie.Need-loop-again Inv-loop μ-loop
-loop-again c = (search needs, search needs, placed-go (c .before .before .before .before .before .before .before .args .numbers .now) (c .before .before .before .before .before .before .before .args .parts .now) (c .before .before .before .before .before .before .before .args .places .now) (c .before .before .before .before .before .loop .p) (c .before .before .before .before .before .loop .places) _ _ (c .at162 .ensures) (c .before .at16 .ensures) (c .before .before .before .before .before .loop .inv .2) (search needs) (search needs))
+loop-again c =
+    let at-at16 = c .before in
+    let at-loop = at-at16 .before .before .before .before in
+    let at-args = at-loop .before .before in (
+      search needs,
+      search needs,
+      placed-go (at-args .args .numbers .now) (at-args .args .parts .now) (at-args .args .places .now) (at-loop .loop .p) (at-loop .loop .places) _ _
+          (c .at162 .ensures) (at-at16 .at16 .ensures) (at-loop .loop .inv .2) (search needs) (search needs),
+    )
 
 same-length : tie.Need-same-length Inv-loop μ-loop
 same-length c = search needs

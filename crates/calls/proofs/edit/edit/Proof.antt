@@ -45,7 +45,8 @@ returns-2 c =
     let at-if2 = at-if3 .before in
     let at-fits2 = at-if2 .before in
     let at-if1 = at-fits2 .before .before .before .before in
-    edit-text _ _ _ (at-if1 .if1 .left) (sym (at-fits2 .fits2 .ensures) ∙ at-if2 .if2 .taken) (at-if3 .if3 .taken) _ _ _ (sym (at-well-formed .well-formed .ensures _) ∙ at-if4 .if4 .taken) (at-edit-checked .edit-checked .ensures _)
+    edit-text _ _ _ (at-if1 .if1 .left) (sym (at-fits2 .fits2 .ensures) ∙ at-if2 .if2 .taken) (at-if3 .if3 .taken) _ _ _
+    (sym (at-well-formed .well-formed .ensures _) ∙ at-if4 .if4 .taken) (at-edit-checked .edit-checked .ensures _)
 
 same-length-5 : tie.Need-same-length-5
 same-length-5 c = search needs

@@ -58,7 +58,8 @@ returns c =
     let at-if1 = at-commit .before .before .before .before .before in
     let at-plan-edit = at-if1 .before .before in
     let at-at32 = at-plan-edit .before .before .before .before .before .before in
-    λ readings. edit-accepted _ _ _ _ _ _ _ (at-plan-edit .plan-edit .ensures readings _ (sym (at-at32 .at32 .ensures))) _ _ _ (at-if1 .if1 .taken) (at-at32 .at32 .ensures) (at-commit .commit .ensures readings) (at-write-places .write-places .ensures)
+    λ readings. edit-accepted _ _ _ _ _ _ _ (at-plan-edit .plan-edit .ensures readings _ (sym (at-at32 .at32 .ensures))) _ _ _ (at-if1 .if1 .taken)
+    (at-at32 .at32 .ensures) (at-commit .commit .ensures readings) (at-write-places .write-places .ensures)
 
 same-length-5 : tie.Need-same-length-5
 same-length-5 c = search needs

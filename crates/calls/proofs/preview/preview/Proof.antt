@@ -27,7 +27,11 @@ returns : tie.Need-returns
 returns c = search (needs, previews)
 
 cast-show : tie.Need-cast-show
-cast-show c = omega (arith, readings-few _ _ _ _ _ _ (c .before .before .before .before .before .before .before .before .refusal .ensures) (c .before .before .before .before .before .before .before .if1 .taken) _ (c .before .before .before .before .before .before .at32 .ensures))
+cast-show c =
+    let at-at32 = c .before .before .before .before .before .before in
+    let at-if1 = at-at32 .before in
+    let at-refusal = at-if1 .before in
+    omega (arith, readings-few _ _ _ _ _ _ (at-refusal .refusal .ensures) (at-if1 .if1 .taken) _ (at-at32 .at32 .ensures))
 
 show-requires : tie.Need-show-requires
 show-requires c κs = search (needs, previews)

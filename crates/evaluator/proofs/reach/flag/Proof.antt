@@ -9,16 +9,46 @@ is-below-requires : tie.Need-is-below-requires
 is-below-requires c κs = search reaching
 
 sub-moves : tie.Need-sub-moves
-sub-moves c = omega (arith, below-one (c .before .before .args .link) (c .before .before .args .j) (c .before .is-below .result) (c .before .is-below .ensures) (c .if1 .taken), below-most (c .before .before .args .link) (c .before .before .args .j) (c .before .is-below .result) (c .before .is-below .ensures) (c .if1 .taken))
+sub-moves c =
+    let at-is-below = c .before in
+    let at-args = at-is-below .before in
+    omega (
+      arith,
+      below-one (at-args .args .link) (at-args .args .j) (at-is-below .is-below .result) (at-is-below .is-below .ensures) (c .if1 .taken),
+      below-most (at-args .args .link) (at-args .args .j) (at-is-below .is-below .result) (at-is-below .is-below .ensures) (c .if1 .taken),
+    )
 
 moves-requires : tie.Need-moves-requires
-moves-requires c κs = omega (arith, below-one (c .before .before .args .link) (c .before .before .args .j) (c .before .is-below .result) (c .before .is-below .ensures) (c .if1 .taken), below-most (c .before .before .args .link) (c .before .before .args .j) (c .before .is-below .result) (c .before .is-below .ensures) (c .if1 .taken))
+moves-requires c κs =
+    let at-is-below = c .before in
+    let at-args = at-is-below .before in
+    omega (
+      arith,
+      below-one (at-args .args .link) (at-args .args .j) (at-is-below .is-below .result) (at-is-below .is-below .ensures) (c .if1 .taken),
+      below-most (at-args .args .link) (at-args .args .j) (at-is-below .is-below .result) (at-is-below .is-below .ensures) (c .if1 .taken),
+    )
 
 sub-flags : tie.Need-sub-flags
-sub-flags c = omega (arith, below-one (c .before .before .before .before .args .link) (c .before .before .before .before .args .j) (c .before .before .before .is-below .result) (c .before .before .before .is-below .ensures) (c .before .before .if1 .taken), below-most (c .before .before .before .before .args .link) (c .before .before .before .before .args .j) (c .before .before .before .is-below .result) (c .before .before .before .is-below .ensures) (c .before .before .if1 .taken))
+sub-flags c =
+    let at-if1 = c .before .before in
+    let at-is-below = at-if1 .before in
+    let at-args = at-is-below .before in
+    omega (
+      arith,
+      below-one (at-args .args .link) (at-args .args .j) (at-is-below .is-below .result) (at-is-below .is-below .ensures) (at-if1 .if1 .taken),
+      below-most (at-args .args .link) (at-args .args .j) (at-is-below .is-below .result) (at-is-below .is-below .ensures) (at-if1 .if1 .taken),
+    )
 
 element-write-flags : tie.Need-element-write-flags
-element-write-flags c = omega (arith, below-one (c .before .before .before .before .args .link) (c .before .before .before .before .args .j) (c .before .before .before .is-below .result) (c .before .before .before .is-below .ensures) (c .before .before .if1 .taken), below-most (c .before .before .before .before .args .link) (c .before .before .before .before .args .j) (c .before .before .before .is-below .result) (c .before .before .before .is-below .ensures) (c .before .before .if1 .taken))
+element-write-flags c =
+    let at-if1 = c .before .before in
+    let at-is-below = at-if1 .before in
+    let at-args = at-is-below .before in
+    omega (
+      arith,
+      below-one (at-args .args .link) (at-args .args .j) (at-is-below .is-below .result) (at-is-below .is-below .ensures) (at-if1 .if1 .taken),
+      below-most (at-args .args .link) (at-args .args .j) (at-is-below .is-below .result) (at-is-below .is-below .ensures) (at-if1 .if1 .taken),
+    )
 
 returns : tie.Need-returns
 returns c = search reaching

@@ -47,7 +47,20 @@ loop-less : tie.Need-loop-less Inv-loop μ-loop
 loop-less c = search needs
 
 loop-again : tie.Need-loop-again Inv-loop μ-loop
-loop-again c = record { low = search needs; room = search needs; within = search needs; size = search (needs, length-kept); same = gather-yes (c .before .before .before .before .before .before .before .before .args .links .now) (c .before .before .before .before .before .before .before .before .args .waits .now) (c .before .before .before .before .before .before .before .before .args .v) (c .before .before .before .before .loop .j) (c .before .before .before .before .loop .at) (c .before .before .before .before .loop .flags) (c .before .before .before .before .loop .list) (c .before .before .before .loop-test .taken) (c .before .before .before .before .loop .inv .same) _ (c .before .before .if2 .taken) (search needs) (search needs) (c .spread .ensures) }
+loop-again c =
+    let at-if2 = c .before .before in
+    let at-loop-test = at-if2 .before in
+    let at-loop = at-loop-test .before in
+    let at-args = at-loop .before .before .before .before in
+    record {
+      low = search needs;
+      room = search needs;
+      within = search needs;
+      size = search (needs, length-kept);
+      same = gather-yes (at-args .args .links .now) (at-args .args .waits .now) (at-args .args .v) (at-loop .loop .j) (at-loop .loop .at)
+          (at-loop .loop .flags) (at-loop .loop .list) (at-loop-test .loop-test .taken) (at-loop .loop .inv .same) _ (at-if2 .if2 .taken) (search needs)
+          (search needs) (c .spread .ensures);
+    }
 
 loop-less-2 : tie.Need-loop-less-2 Inv-loop μ-loop
 loop-less-2 c = search needs

@@ -8,7 +8,23 @@ use mathlib.Core.Logic.{⊎-elim}
 use lib.ListN.{drop}
 use Rattle.rules.specs.Windows.{readingsIn}
 use Rattle.evaluator.specs.Applying.{graph}
-use Rattle.evaluator.proofs.Running.{done-applies, value-applies, same-applies, judge-applies, run-applies, Runs, runs-begin, runs-within, runs-end, runs-stop, runs-again, Works, works-stop, works-end, works-again}
+use Rattle.evaluator.proofs.Running.{
+  done-applies,
+  value-applies,
+  same-applies,
+  judge-applies,
+  run-applies,
+  Runs,
+  runs-begin,
+  runs-within,
+  runs-end,
+  runs-stop,
+  runs-again,
+  Works,
+  works-stop,
+  works-end,
+  works-again,
+}
 use borrow.Fn.Kinds.{In}
 use borrow.Fn.PlainCycle.{Measures, is, falls, and}
 use Rattle.evaluator.proofs.working.apply.Reads as apply
@@ -48,7 +64,26 @@ abbrev rerun-below : ℕ → In 5 rerun-kinds.ps
 rerun-below t = and 5 rerun-kinds.ps (falls 5 rerun-kinds.ps _<_ μ-rerun t) rerun.Pre
 
 abbrev apply-claims : ℕ → apply-lts.Claims
-apply-claims t = (plan-reads.Asked, plan-reads.Learnt, gather-reads.Asked, gather-reads.Learnt, rerun-below t, rerun.Post, function-reads.Asked, function-reads.Learnt, count-in-reads.Asked, count-in-reads.Learnt, start-reads.Asked, start-reads.Learnt, reading-reads.Asked, reading-reads.Learnt, tally-reads.Asked, tally-reads.Learnt, conclude-reads.Asked, conclude-reads.Learnt)
+apply-claims t = (
+  plan-reads.Asked,
+  plan-reads.Learnt,
+  gather-reads.Asked,
+  gather-reads.Learnt,
+  rerun-below t,
+  rerun.Post,
+  function-reads.Asked,
+  function-reads.Learnt,
+  count-in-reads.Asked,
+  count-in-reads.Learnt,
+  start-reads.Asked,
+  start-reads.Learnt,
+  reading-reads.Asked,
+  reading-reads.Learnt,
+  tally-reads.Asked,
+  tally-reads.Learnt,
+  conclude-reads.Asked,
+  conclude-reads.Learnt,
+)
 
 abbrev apply-Inv-loop : apply-lts.InvT-loop
 apply-Inv-loop readings links waits frame i kind from most body variable list at local₀ count t₀ k₀ local t k =
@@ -61,13 +96,29 @@ apply-plan-requires : (t : ℕ) → apply-lts.Need-plan-requires (apply-claims t
 apply-plan-requires t c κs = c .before .pre .1
 
 apply-returns : (t : ℕ) → apply-lts.Need-returns (apply-claims t) (apply-at t) apply.Post apply-Inv-loop apply-μ-loop
-apply-returns t c = done-applies (graph (c .before .before .before .args .links .now) (c .before .before .before .args .waits .now) (c .before .before .before .args .readings .now)) (c .before .before .before .args .frame .now) (c .before .before .before .args .i) (c .before .plan .result) (c .before .plan .ensures .0) (c .if1 .taken)
+apply-returns t c =
+    let at-plan = c .before in
+    let at-args = at-plan .before .before in
+    let g = graph (at-args .args .links .now) (at-args .args .waits .now) (at-args .args .readings .now) in
+    done-applies g (at-args .args .frame .now) (at-args .args .i) (at-plan .plan .result) (at-plan .plan .ensures .0) (c .if1 .taken)
 
 apply-gather-requires : (t : ℕ) → apply-lts.Need-gather-requires (apply-claims t) (apply-at t) apply.Post apply-Inv-loop apply-μ-loop
 apply-gather-requires t c κs = (omega (arith, (c .before .before .plan .ensures .1 (c .before .if1 .left)) .below, c .before .before .before .before .pre .1), refl)
 
 apply-rerun-requires : (t : ℕ) → apply-lts.Need-rerun-requires (apply-claims t) (apply-at t) apply.Post apply-Inv-loop apply-μ-loop
-apply-rerun-requires t c κs = (omega (arith, (c .before .before .before .before .before .before .before .plan .ensures .1 (c .before .before .before .before .before .before .if1 .left)) .below, c .before .before .before .before .before .before .before .before .before .pre .0), record { size = c .before .before .before .before .gather .ensures .size; within = c .before .before .before .before .gather .ensures .within; low = omega (arith, (c .before .before .before .before .before .before .before .plan .ensures .1 (c .before .before .before .before .before .before .if1 .left)) .below, c .before .before .before .before .before .before .before .before .before .pre .1); few = (c .before .before .before .before .before .before .before .plan .ensures .1 (c .before .before .before .before .before .before .if1 .left)) .variable })
+apply-rerun-requires t c κs =
+    let at-gather = c .before .before .before .before in
+    let at-if1 = at-gather .before .before in
+    let at-plan = at-if1 .before in
+    let at-pre = at-plan .before .before in (
+      omega (arith, (at-plan .plan .ensures .1 (at-if1 .if1 .left)) .below, at-pre .pre .0),
+      record {
+        size = at-gather .gather .ensures .size;
+        within = at-gather .gather .ensures .within;
+        low = omega (arith, (at-plan .plan .ensures .1 (at-if1 .if1 .left)) .below, at-pre .pre .1);
+        few = (at-plan .plan .ensures .1 (at-if1 .if1 .left)) .variable;
+      },
+    )
 
 apply-mul-function : (t : ℕ) → apply-lts.Need-mul-function (apply-claims t) (apply-at t) apply.Post apply-Inv-loop apply-μ-loop
 apply-mul-function t c = search needs
@@ -79,7 +130,17 @@ apply-function-requires : (t : ℕ) → apply-lts.Need-function-requires (apply-
 apply-function-requires t c κs = search needs
 
 apply-returns-2 : (t : ℕ) → apply-lts.Need-returns-2 (apply-claims t) (apply-at t) apply.Post apply-Inv-loop apply-μ-loop
-apply-returns-2 t c = judge-applies (graph (c .before .before .before .before .before .before .before .before .before .before .before .before .args .links .now) (c .before .before .before .before .before .before .before .before .before .before .before .before .args .waits .now) (c .before .before .before .before .before .before .before .before .before .before .before .before .args .readings .now)) (c .before .before .before .before .before .before .before .before .before .before .before .before .args .frame .now) (c .before .before .before .before .before .before .before .before .before .before .before .before .args .i) (c .before .before .before .before .before .before .before .before .before .before .plan .result) (c .before .before .before .before .before .before .before .before .before .before .plan .ensures .0) (c .before .before .before .before .before .before .before .before .before .if1 .left) (c .before .before .before .before .before .before .before .before .before .before .plan .ensures .1 (c .before .before .before .before .before .before .before .before .before .if1 .left)) _ _ (c .before .before .before .before .before .before .before .gather .ensures) _ (c .before .before .rerun .result) (c .function .result) (c .before .before .before .before .before .if2 .taken) (c .before .before .rerun .ensures) (c .function .ensures)
+apply-returns-2 t c =
+    let at-rerun = c .before .before in
+    let at-if2 = at-rerun .before .before .before in
+    let at-gather = at-if2 .before .before in
+    let at-if1 = at-gather .before .before in
+    let at-plan = at-if1 .before in
+    let at-args = at-plan .before .before in
+    let g = graph (at-args .args .links .now) (at-args .args .waits .now) (at-args .args .readings .now) in
+    judge-applies g (at-args .args .frame .now) (at-args .args .i) (at-plan .plan .result) (at-plan .plan .ensures .0) (at-if1 .if1 .left)
+    (at-plan .plan .ensures .1 (at-if1 .if1 .left)) _ _ (at-gather .gather .ensures) _ (at-rerun .rerun .result) (c .function .result) (at-if2 .if2 .taken)
+    (at-rerun .rerun .ensures) (c .function .ensures)
 
 apply-count-in-requires : (t : ℕ) → apply-lts.Need-count-in-requires (apply-claims t) (apply-at t) apply.Post apply-Inv-loop apply-μ-loop
 apply-count-in-requires t c κs = search needs
@@ -88,7 +149,13 @@ apply-start-requires : (t : ℕ) → apply-lts.Need-start-requires (apply-claims
 apply-start-requires t c κs = search needs
 
 apply-loop-holds : (t : ℕ) → apply-lts.Need-loop-holds (apply-claims t) (apply-at t) apply.Post apply-Inv-loop apply-μ-loop
-apply-loop-holds t c = (search needs, runs-begin (graph (c .before .before .before .before .before .before .before .before .before .args .links .now) (c .before .before .before .before .before .before .before .before .before .args .waits .now) (c .before .before .before .before .before .before .before .before .before .args .readings .now)) (c .before .before .before .before .before .before .before .plan .result .body) (c .before .before .before .before .before .before .before .plan .result .variable) _ (c .before .before .before .before .before .before .before .before .before .args .frame .now) _ (c .start .result) (c .start .ensures))
+apply-loop-holds t c =
+    let at-plan = c .before .before .before .before .before .before .before in
+    let at-args = at-plan .before .before in
+    let g = graph (at-args .args .links .now) (at-args .args .waits .now) (at-args .args .readings .now) in (
+      search needs,
+      runs-begin g (at-plan .plan .result .body) (at-plan .plan .result .variable) _ (at-args .args .frame .now) _ (c .start .result) (c .start .ensures),
+    )
 
 apply-cast-reading : (t : ℕ) → apply-lts.Need-cast-reading (apply-claims t) (apply-at t) apply.Post apply-Inv-loop apply-μ-loop
 apply-cast-reading t c = search needs
@@ -100,16 +167,52 @@ apply-reading-requires : (t : ℕ) → apply-lts.Need-reading-requires (apply-cl
 apply-reading-requires t c κs = search needs
 
 apply-rerun-requires-2 : (t : ℕ) → apply-lts.Need-rerun-requires-2 (apply-claims t) (apply-at t) apply.Post apply-Inv-loop apply-μ-loop
-apply-rerun-requires-2 t c κs = (omega (arith, (c .before .before .before .before .before .before .before .before .before .before .before .before .plan .ensures .1 (c .before .before .before .before .before .before .before .before .before .before .before .if1 .left)) .below, c .before .before .before .before .before .before .before .before .before .before .before .before .before .before .pre .0), record { size = c .before .before .before .before .before .before .before .before .before .gather .ensures .size; within = c .before .before .before .before .before .before .before .before .before .gather .ensures .within; low = omega (arith, (c .before .before .before .before .before .before .before .before .before .before .before .before .plan .ensures .1 (c .before .before .before .before .before .before .before .before .before .before .before .if1 .left)) .below, c .before .before .before .before .before .before .before .before .before .before .before .before .before .before .pre .1); few = (c .before .before .before .before .before .before .before .before .before .before .before .before .plan .ensures .1 (c .before .before .before .before .before .before .before .before .before .before .before .if1 .left)) .variable })
+apply-rerun-requires-2 t c κs =
+    let at-gather = c .before .before .before .before .before .before .before .before .before in
+    let at-if1 = at-gather .before .before in
+    let at-plan = at-if1 .before in
+    let at-pre = at-plan .before .before in (
+      omega (arith, (at-plan .plan .ensures .1 (at-if1 .if1 .left)) .below, at-pre .pre .0),
+      record {
+        size = at-gather .gather .ensures .size;
+        within = at-gather .gather .ensures .within;
+        low = omega (arith, (at-plan .plan .ensures .1 (at-if1 .if1 .left)) .below, at-pre .pre .1);
+        few = (at-plan .plan .ensures .1 (at-if1 .if1 .left)) .variable;
+      },
+    )
 
 apply-tally-requires : (t : ℕ) → apply-lts.Need-tally-requires (apply-claims t) (apply-at t) apply.Post apply-Inv-loop apply-μ-loop
-apply-tally-requires t c κs = runs-within (c .before .before .before .before .before .loop .inv .1) (omega (arith, c .before .before .before .before .loop-test .taken, c .before .before .before .before .before .before .before .count-in .ensures .few))
+apply-tally-requires t c κs =
+    let at-loop-test = c .before .before .before .before in
+    let at-loop = at-loop-test .before in
+    let at-count-in = at-loop .before .before in
+    runs-within (at-loop .loop .inv .1) (omega (arith, at-loop-test .loop-test .taken, at-count-in .count-in .ensures .few))
 
 apply-conclude-requires : (t : ℕ) → apply-lts.Need-conclude-requires (apply-claims t) (apply-at t) apply.Post apply-Inv-loop apply-μ-loop
 apply-conclude-requires t c κs = search needs
 
 apply-returns-3 : (t : ℕ) → apply-lts.Need-returns-3 (apply-claims t) (apply-at t) apply.Post apply-Inv-loop apply-μ-loop
-apply-returns-3 t c = run-applies (graph (c .before .before .before .before .before .before .before .before .before .before .before .before .before .before .before .before .before .before .args .links .now) (c .before .before .before .before .before .before .before .before .before .before .before .before .before .before .before .before .before .before .args .waits .now) (c .before .before .before .before .before .before .before .before .before .before .before .before .before .before .before .before .before .before .args .readings .now)) (c .before .before .before .before .before .before .before .before .before .before .before .before .before .before .before .before .before .before .args .frame .now) (c .before .before .before .before .before .before .before .before .before .before .before .before .before .before .before .before .before .before .args .i) (c .before .before .before .before .before .before .before .before .before .before .before .before .before .before .before .before .plan .result) (c .before .before .before .before .before .before .before .before .before .before .before .before .before .before .before .before .plan .ensures .0) (c .before .before .before .before .before .before .before .before .before .before .before .before .before .before .before .if1 .left) (c .before .before .before .before .before .before .before .before .before .before .before .before .before .before .before .before .plan .ensures .1 (c .before .before .before .before .before .before .before .before .before .before .before .before .before .before .before .if1 .left)) _ _ (c .before .before .before .before .before .before .before .before .before .before .before .before .before .gather .ensures) (c .before .before .tally .result) (c .conclude .result) (c .before .before .before .before .before .before .before .before .before .before .before .if2 .left) (runs-stop (graph (c .before .before .before .before .before .before .before .before .before .before .before .before .before .before .before .before .before .before .args .links .now) (c .before .before .before .before .before .before .before .before .before .before .before .before .before .before .before .before .before .before .args .waits .now) (c .before .before .before .before .before .before .before .before .before .before .before .before .before .before .before .before .before .before .args .readings .now)) (c .before .before .before .before .before .before .before .before .before .before .before .before .before .before .before .before .plan .result .body) (c .before .before .before .before .before .before .before .before .before .before .before .before .before .before .before .before .plan .result .variable) _ (c .before .before .before .before .before .before .before .before .before .before .before .before .before .before .before .before .before .before .args .frame .now) (c .before .before .before .before .before .before .before .before .before .before .before .before .before .before .before .before .plan .result .start) (c .before .before .before .before .before .before .before .before .before .before .before .before .before .before .before .before .plan .result .length) (c .before .before .before .before .before .before .before .before .loop .local) (c .before .before .before .before .before .before .before .before .loop .t) (c .before .before .before .before .before .before .before .before .loop .k) (c .before .before .before .before .before .before .before .before .loop .inv .1) (omega (arith, c .before .before .before .before .before .before .before .loop-test .taken, c .before .before .before .before .before .before .before .before .before .before .count-in .ensures .same)) (c .before .before .before .before .before .reading .result) (c .before .before .before .before .before .reading .ensures) _ (c .before .before .before .rerun2 .result) (c .before .before .before .rerun2 .ensures) (c .before .before .tally .result) (c .before .before .tally .ensures) (c .before .if3 .taken)) (c .conclude .ensures)
+apply-returns-3 t c =
+    let at-if3 = c .before in
+    let at-tally = at-if3 .before in
+    let at-rerun2 = at-tally .before in
+    let at-reading = at-rerun2 .before .before in
+    let at-loop-test = at-reading .before .before in
+    let at-loop = at-loop-test .before in
+    let at-count-in = at-loop .before .before in
+    let at-if2 = at-count-in .before in
+    let at-gather = at-if2 .before .before in
+    let at-if1 = at-gather .before .before in
+    let at-plan = at-if1 .before in
+    let at-args = at-plan .before .before in
+    let g = graph (at-args .args .links .now) (at-args .args .waits .now) (at-args .args .readings .now) in
+    run-applies g (at-args .args .frame .now) (at-args .args .i) (at-plan .plan .result) (at-plan .plan .ensures .0) (at-if1 .if1 .left)
+    (at-plan .plan .ensures .1 (at-if1 .if1 .left)) _ _ (at-gather .gather .ensures) (at-tally .tally .result) (c .conclude .result) (at-if2 .if2 .left)
+    (runs-stop g (at-plan .plan .result .body) (at-plan .plan .result .variable) _ (at-args .args .frame .now) (at-plan .plan .result .start)
+    (at-plan .plan .result .length) (at-loop .loop .local) (at-loop .loop .t) (at-loop .loop .k) (at-loop .loop .inv .1)
+    (omega (arith, at-loop-test .loop-test .taken, at-count-in .count-in .ensures .same)) (at-reading .reading .result) (at-reading .reading .ensures) _
+    (at-rerun2 .rerun2 .result) (at-rerun2 .rerun2 .ensures) (at-tally .tally .result) (at-tally .tally .ensures) (at-if3 .if3 .taken))
+    (c .conclude .ensures)
 
 apply-add-k : (t : ℕ) → apply-lts.Need-add-k (apply-claims t) (apply-at t) apply.Post apply-Inv-loop apply-μ-loop
 apply-add-k t c = search needs
@@ -118,13 +221,43 @@ apply-loop-less : (t : ℕ) → apply-lts.Need-loop-less (apply-claims t) (apply
 apply-loop-less t c = search needs
 
 apply-loop-again : (t : ℕ) → apply-lts.Need-loop-again (apply-claims t) (apply-at t) apply.Post apply-Inv-loop apply-μ-loop
-apply-loop-again t c = (search needs, runs-again (graph (c .before .before .before .before .before .before .before .before .before .before .before .before .before .before .before .before .before .args .links .now) (c .before .before .before .before .before .before .before .before .before .before .before .before .before .before .before .before .before .args .waits .now) (c .before .before .before .before .before .before .before .before .before .before .before .before .before .before .before .before .before .args .readings .now)) (c .before .before .before .before .before .before .before .before .before .before .before .before .before .before .before .plan .result .body) (c .before .before .before .before .before .before .before .before .before .before .before .before .before .before .before .plan .result .variable) _ (c .before .before .before .before .before .before .before .before .before .before .before .before .before .before .before .before .before .args .frame .now) (c .before .before .before .before .before .before .before .before .before .before .before .before .before .before .before .plan .result .start) (c .before .before .before .before .before .before .before .before .before .before .before .before .before .before .before .plan .result .length) (c .before .before .before .before .before .before .before .loop .local) (c .before .before .before .before .before .before .before .loop .t) (c .before .before .before .before .before .before .before .loop .k) (c .before .before .before .before .before .before .before .loop .inv .1) (omega (arith, c .before .before .before .before .before .before .loop-test .taken, c .before .before .before .before .before .before .before .before .before .count-in .ensures .same)) (c .before .before .before .before .reading .result) (c .before .before .before .before .reading .ensures) _ (c .before .before .rerun2 .result) (c .before .before .rerun2 .ensures) (c .before .tally .result) (c .before .tally .ensures) (c .if3 .left))
+apply-loop-again t c =
+    let at-tally = c .before in
+    let at-rerun2 = at-tally .before in
+    let at-reading = at-rerun2 .before .before in
+    let at-loop-test = at-reading .before .before in
+    let at-loop = at-loop-test .before in
+    let at-count-in = at-loop .before .before in
+    let at-plan = at-count-in .before .before .before .before .before .before in
+    let at-args = at-plan .before .before in
+    let g = graph (at-args .args .links .now) (at-args .args .waits .now) (at-args .args .readings .now) in (
+      search needs,
+      runs-again g (at-plan .plan .result .body) (at-plan .plan .result .variable) _ (at-args .args .frame .now) (at-plan .plan .result .start)
+          (at-plan .plan .result .length) (at-loop .loop .local) (at-loop .loop .t) (at-loop .loop .k) (at-loop .loop .inv .1)
+          (omega (arith, at-loop-test .loop-test .taken, at-count-in .count-in .ensures .same)) (at-reading .reading .result) (at-reading .reading .ensures) _
+          (at-rerun2 .rerun2 .result) (at-rerun2 .rerun2 .ensures) (at-tally .tally .result) (at-tally .tally .ensures) (c .if3 .left),
+    )
 
 apply-conclude-requires-2 : (t : ℕ) → apply-lts.Need-conclude-requires-2 (apply-claims t) (apply-at t) apply.Post apply-Inv-loop apply-μ-loop
 apply-conclude-requires-2 t c κs = search needs
 
 apply-returns-4 : (t : ℕ) → apply-lts.Need-returns-4 (apply-claims t) (apply-at t) apply.Post apply-Inv-loop apply-μ-loop
-apply-returns-4 t c = run-applies (graph (c .before .before .before .before .before .before .before .before .before .before .before .before .args .links .now) (c .before .before .before .before .before .before .before .before .before .before .before .before .args .waits .now) (c .before .before .before .before .before .before .before .before .before .before .before .before .args .readings .now)) (c .before .before .before .before .before .before .before .before .before .before .before .before .args .frame .now) (c .before .before .before .before .before .before .before .before .before .before .before .before .args .i) (c .before .before .before .before .before .before .before .before .before .before .plan .result) (c .before .before .before .before .before .before .before .before .before .before .plan .ensures .0) (c .before .before .before .before .before .before .before .before .before .if1 .left) (c .before .before .before .before .before .before .before .before .before .before .plan .ensures .1 (c .before .before .before .before .before .before .before .before .before .if1 .left)) _ _ (c .before .before .before .before .before .before .before .gather .ensures) (c .before .before .loop .t) (c .conclude2 .result) (c .before .before .before .before .before .if2 .left) (runs-end (graph (c .before .before .before .before .before .before .before .before .before .before .before .before .args .links .now) (c .before .before .before .before .before .before .before .before .before .before .before .before .args .waits .now) (c .before .before .before .before .before .before .before .before .before .before .before .before .args .readings .now)) (c .before .before .before .before .before .before .before .before .before .before .plan .result .body) (c .before .before .before .before .before .before .before .before .before .before .plan .result .variable) _ (c .before .before .before .before .before .before .before .before .before .before .before .before .args .frame .now) (c .before .before .before .before .before .before .before .before .before .before .plan .result .start) (c .before .before .before .before .before .before .before .before .before .before .plan .result .length) (c .before .before .loop .local) (c .before .before .loop .t) (c .before .before .loop .k) (c .before .before .loop .inv .1) (omega (arith, c .before .loop-test .left, c .before .before .before .before .count-in .ensures .same))) (c .conclude2 .ensures)
+apply-returns-4 t c =
+    let at-loop-test = c .before in
+    let at-loop = at-loop-test .before in
+    let at-count-in = at-loop .before .before in
+    let at-if2 = at-count-in .before in
+    let at-gather = at-if2 .before .before in
+    let at-if1 = at-gather .before .before in
+    let at-plan = at-if1 .before in
+    let at-args = at-plan .before .before in
+    let g = graph (at-args .args .links .now) (at-args .args .waits .now) (at-args .args .readings .now) in
+    run-applies g (at-args .args .frame .now) (at-args .args .i) (at-plan .plan .result) (at-plan .plan .ensures .0) (at-if1 .if1 .left)
+    (at-plan .plan .ensures .1 (at-if1 .if1 .left)) _ _ (at-gather .gather .ensures) (at-loop .loop .t) (c .conclude2 .result) (at-if2 .if2 .left)
+    (runs-end g (at-plan .plan .result .body) (at-plan .plan .result .variable) _ (at-args .args .frame .now) (at-plan .plan .result .start)
+    (at-plan .plan .result .length) (at-loop .loop .local) (at-loop .loop .t) (at-loop .loop .k) (at-loop .loop .inv .1)
+    (omega (arith, at-loop-test .loop-test .left, at-count-in .count-in .ensures .same)))
+    (c .conclude2 .ensures)
 
 abbrev rerun-claims : ℕ → rerun-lts.Claims
 rerun-claims t = (bind-reads.Asked, bind-reads.Learnt, plan-reads.Asked, plan-reads.Learnt, apply-below t, apply.Post)
@@ -161,7 +294,16 @@ rerun-element-copy-out-result : (t : ℕ) → rerun-lts.Need-element-copy-out-re
 rerun-element-copy-out-result t c = c .before .before .before .before .before .before .before .pre .1 .low
 
 rerun-returns : (t : ℕ) → rerun-lts.Need-returns (rerun-claims t) (rerun-at t) rerun.Post rerun-Inv-loop rerun-μ-loop
-rerun-returns t c = works-stop (graph (c .before .before .before .before .before .before .before .before .args .links .now) (c .before .before .before .before .before .before .before .before .args .waits .now) (c .before .before .before .before .before .before .before .before .args .readings .now)) (c .before .before .before .before .before .before .before .before .args .body) (c .before .before .before .before .before .before .before .before .args .list .now) (c .before .before .before .before .before .before .before .before .args .at) (c .before .before .before .before .before .before .before .before .args .variable) (c .before .before .before .before .before .before .before .before .args .c) (c .before .before .before .before .before .before .before .before .args .frame .now) _ (c .before .before .before .before .loop .frame) (c .before .before .before .before .loop .k) (c .before .before .before .before .before .before .before .before .pre .1 .size) (c .before .before .before .before .loop .inv .1) (c .before .before .before .before .before .bind .ensures) (c .before .before .before .loop-test .taken) (omega (arith, c .before .if1 .taken, c .before .before .before .before .loop .inv .0))
+rerun-returns t c =
+    let at-if1 = c .before in
+    let at-loop-test = at-if1 .before .before in
+    let at-loop = at-loop-test .before in
+    let at-bind = at-loop .before in
+    let at-start = at-bind .before .before .before in
+    let g = graph (at-start .args .links .now) (at-start .args .waits .now) (at-start .args .readings .now) in
+    works-stop g (at-start .args .body) (at-start .args .list .now) (at-start .args .at) (at-start .args .variable) (at-start .args .c)
+    (at-start .args .frame .now) _ (at-loop .loop .frame) (at-loop .loop .k) (at-start .pre .1 .size) (at-loop .loop .inv .1) (at-bind .bind .ensures)
+    (at-loop-test .loop-test .taken) (omega (arith, at-if1 .if1 .taken, at-loop .loop .inv .0))
 
 rerun-cast-j : (t : ℕ) → rerun-lts.Need-cast-j (rerun-claims t) (rerun-at t) rerun.Post rerun-Inv-loop rerun-μ-loop
 rerun-cast-j t c = search needs
@@ -170,13 +312,21 @@ rerun-plan-requires : (t : ℕ) → rerun-lts.Need-plan-requires (rerun-claims t
 rerun-plan-requires t c κs = omega (arith, c .before .if1 .left, c .before .before .before .before .loop .inv .0, c .before .before .before .before .before .before .before .before .pre .1 .low)
 
 rerun-apply-requires : (t : ℕ) → rerun-lts.Need-apply-requires (rerun-claims t) (rerun-at t) rerun.Post rerun-Inv-loop rerun-μ-loop
-rerun-apply-requires t c κs = (omega (arith, c .before .before .before .before .if1 .left, c .before .before .before .before .before .before .before .loop .inv .0, c .before .before .before .before .before .before .before .before .before .before .before .pre .0), omega (arith, c .before .before .before .before .if1 .left, c .before .before .before .before .before .before .before .loop .inv .0, c .before .before .before .before .before .before .before .before .before .before .before .pre .1 .low))
+rerun-apply-requires t c κs =
+    let at-if1 = c .before .before .before .before in
+    let at-loop = at-if1 .before .before .before in
+    let at-pre = at-loop .before .before .before .before in
+    (omega (arith, at-if1 .if1 .left, at-loop .loop .inv .0, at-pre .pre .0), omega (arith, at-if1 .if1 .left, at-loop .loop .inv .0, at-pre .pre .1 .low))
 
 rerun-mul-frame : (t : ℕ) → rerun-lts.Need-mul-frame (rerun-claims t) (rerun-at t) rerun.Post rerun-Inv-loop rerun-μ-loop
 rerun-mul-frame t c = search needs
 
 rerun-element-write-frame : (t : ℕ) → rerun-lts.Need-element-write-frame (rerun-claims t) (rerun-at t) rerun.Post rerun-Inv-loop rerun-μ-loop
-rerun-element-write-frame t c = omega (arith, c .before .before .before .if1 .left, c .before .before .before .before .before .before .loop .inv .0, c .before .before .before .before .before .before .before .before .before .before .pre .1 .low)
+rerun-element-write-frame t c =
+    let at-if1 = c .before .before .before in
+    let at-loop = at-if1 .before .before .before in
+    let at-pre = at-loop .before .before .before .before in
+    omega (arith, at-if1 .if1 .left, at-loop .loop .inv .0, at-pre .pre .1 .low)
 
 rerun-add-k : (t : ℕ) → rerun-lts.Need-add-k (rerun-claims t) (rerun-at t) rerun.Post rerun-Inv-loop rerun-μ-loop
 rerun-add-k t c = search needs
@@ -185,7 +335,21 @@ rerun-loop-less : (t : ℕ) → rerun-lts.Need-loop-less (rerun-claims t) (rerun
 rerun-loop-less t c = search needs
 
 rerun-loop-again : (t : ℕ) → rerun-lts.Need-loop-again (rerun-claims t) (rerun-at t) rerun.Post rerun-Inv-loop rerun-μ-loop
-rerun-loop-again t c = (c .before .before .before .before .before .before .loop .inv .0, works-again (graph (c .before .before .before .before .before .before .before .before .before .before .args .links .now) (c .before .before .before .before .before .before .before .before .before .before .args .waits .now) (c .before .before .before .before .before .before .before .before .before .before .args .readings .now)) (c .before .before .before .before .before .before .before .before .before .before .args .body) (c .before .before .before .before .before .before .before .before .before .before .args .list .now) (c .before .before .before .before .before .before .before .before .before .before .args .at) _ (c .before .before .before .before .before .before .loop .frame) (c .before .before .before .before .before .before .loop .k) (c .if2 .v) (c .before .before .before .before .before .before .before .before .before .before .pre .1 .size) (c .before .before .before .before .before .before .loop .inv .1) (c .before .before .before .before .before .loop-test .taken) (omega (arith, c .before .before .before .if1 .left, c .before .before .before .before .before .before .loop .inv .0)) (⊎-elim (λ w. value-applies (graph (c .before .before .before .before .before .before .before .before .before .before .args .links .now) (c .before .before .before .before .before .before .before .before .before .before .args .waits .now) (c .before .before .before .before .before .before .before .before .before .before .args .readings .now)) (c .before .before .before .before .before .before .loop .frame) _ (c .before .plan .result) (c .before .plan .ensures .0) (c .if2 .v) (w .0 .taken) (w .1)) (λ w. same-applies (graph (c .before .before .before .before .before .before .before .before .before .before .args .links .now) (c .before .before .before .before .before .before .before .before .before .before .args .waits .now) (c .before .before .before .before .before .before .before .before .before .before .args .readings .now)) (c .before .before .before .before .before .before .loop .frame) _ (c .if2 .v) _ (w .3) (w .2 .ensures)) (c .if2 .came)))
+rerun-loop-again t c =
+    let at-plan = c .before in
+    let at-if1 = at-plan .before .before in
+    let at-loop-test = at-if1 .before .before in
+    let at-loop = at-loop-test .before in
+    let at-start = at-loop .before .before .before .before in
+    let g = graph (at-start .args .links .now) (at-start .args .waits .now) (at-start .args .readings .now) in (
+      at-loop .loop .inv .0,
+      works-again g (at-start .args .body) (at-start .args .list .now) (at-start .args .at) _ (at-loop .loop .frame) (at-loop .loop .k) (c .if2 .v)
+          (at-start .pre .1 .size) (at-loop .loop .inv .1) (at-loop-test .loop-test .taken) (omega (arith, at-if1 .if1 .left, at-loop .loop .inv .0))
+          (⊎-elim
+          (λ w. value-applies g (at-loop .loop .frame) _ (at-plan .plan .result) (at-plan .plan .ensures .0) (c .if2 .v) (w .0 .taken) (w .1))
+          (λ w. same-applies g (at-loop .loop .frame) _ (c .if2 .v) _ (w .3) (w .2 .ensures))
+          (c .if2 .came)),
+    )
 
 rerun-mul-result-2 : (t : ℕ) → rerun-lts.Need-mul-result-2 (rerun-claims t) (rerun-at t) rerun.Post rerun-Inv-loop rerun-μ-loop
 rerun-mul-result-2 t c = search needs
@@ -194,7 +358,15 @@ rerun-element-copy-out-result-2 : (t : ℕ) → rerun-lts.Need-element-copy-out-
 rerun-element-copy-out-result-2 t c = c .before .before .before .before .before .pre .1 .low
 
 rerun-returns-2 : (t : ℕ) → rerun-lts.Need-returns-2 (rerun-claims t) (rerun-at t) rerun.Post rerun-Inv-loop rerun-μ-loop
-rerun-returns-2 t c = works-end (graph (c .before .before .before .before .before .before .args .links .now) (c .before .before .before .before .before .before .args .waits .now) (c .before .before .before .before .before .before .args .readings .now)) (c .before .before .before .before .before .before .args .body) (c .before .before .before .before .before .before .args .list .now) (c .before .before .before .before .before .before .args .at) (c .before .before .before .before .before .before .args .variable) (c .before .before .before .before .before .before .args .c) (c .before .before .before .before .before .before .args .frame .now) _ (c .before .before .loop .frame) (c .before .before .loop .k) (c .before .before .before .before .before .before .pre .1 .size) (c .before .before .loop .inv .1) (c .before .before .before .bind .ensures) (c .before .loop-test .left)
+rerun-returns-2 t c =
+    let at-loop-test = c .before in
+    let at-loop = at-loop-test .before in
+    let at-bind = at-loop .before in
+    let at-start = at-bind .before .before .before in
+    let g = graph (at-start .args .links .now) (at-start .args .waits .now) (at-start .args .readings .now) in
+    works-end g (at-start .args .body) (at-start .args .list .now) (at-start .args .at) (at-start .args .variable) (at-start .args .c)
+    (at-start .args .frame .now) _ (at-loop .loop .frame) (at-loop .loop .k) (at-start .pre .1 .size) (at-loop .loop .inv .1) (at-bind .bind .ensures)
+    (at-loop-test .loop-test .left)
 
 pub +apply+rerun-spec : {M : Type 1} → statement M
 +apply+rerun-spec = close μ-apply μ-rerun (λ t. apply-lts.spec (apply-claims t)

@@ -30,19 +30,55 @@ is-below-requires : tie.Need-is-below-requires
 is-below-requires c κs = search planning
 
 sub-a : tie.Need-sub-a
-sub-a c = omega (arith, below-one (c .before .before .first-of .result) (c .before .before .before .before .before .before .args .i) (c .before .is-below .result) (c .before .is-below .ensures) (c .if2 .taken), below-most (c .before .before .first-of .result) (c .before .before .before .before .before .before .args .i) (c .before .is-below .result) (c .before .is-below .ensures) (c .if2 .taken))
+sub-a c =
+    let at-is-below = c .before in
+    let at-first-of = at-is-below .before in
+    let at-args = at-first-of .before .before .before .before in
+    omega (
+      arith,
+      below-one (at-first-of .first-of .result) (at-args .args .i) (at-is-below .is-below .result) (at-is-below .is-below .ensures) (c .if2 .taken),
+      below-most (at-first-of .first-of .result) (at-args .args .i) (at-is-below .is-below .result) (at-is-below .is-below .ensures) (c .if2 .taken),
+    )
 
 mul-a : tie.Need-mul-a
 mul-a c = search planning
 
 element-copy-out-a : tie.Need-element-copy-out-a
-element-copy-out-a c = omega (arith, below-one (c .before .before .first-of .result) (c .before .before .before .before .before .before .args .i) (c .before .is-below .result) (c .before .is-below .ensures) (c .if2 .taken), below-most (c .before .before .first-of .result) (c .before .before .before .before .before .before .args .i) (c .before .is-below .result) (c .before .is-below .ensures) (c .if2 .taken))
+element-copy-out-a c =
+    let at-is-below = c .before in
+    let at-first-of = at-is-below .before in
+    let at-args = at-first-of .before .before .before .before in
+    omega (
+      arith,
+      below-one (at-first-of .first-of .result) (at-args .args .i) (at-is-below .is-below .result) (at-is-below .is-below .ensures) (c .if2 .taken),
+      below-most (at-first-of .first-of .result) (at-args .args .i) (at-is-below .is-below .result) (at-is-below .is-below .ensures) (c .if2 .taken),
+    )
 
 sub-judge : tie.Need-sub-judge
-sub-judge c = omega (arith, below-one (c .before .before .before .before .first-of .result) (c .before .before .before .before .before .before .before .before .args .i) (c .before .before .before .is-below .result) (c .before .before .before .is-below .ensures) (c .before .before .if2 .taken), below-most (c .before .before .before .before .first-of .result) (c .before .before .before .before .before .before .before .before .args .i) (c .before .before .before .is-below .result) (c .before .before .before .is-below .ensures) (c .before .before .if2 .taken))
+sub-judge c =
+    let at-if2 = c .before .before in
+    let at-is-below = at-if2 .before in
+    let at-first-of = at-is-below .before in
+    let at-args = at-first-of .before .before .before .before in
+    omega (
+      arith,
+      below-one (at-first-of .first-of .result) (at-args .args .i) (at-is-below .is-below .result) (at-is-below .is-below .ensures) (at-if2 .if2 .taken),
+      below-most (at-first-of .first-of .result) (at-args .args .i) (at-is-below .is-below .result) (at-is-below .is-below .ensures) (at-if2 .if2 .taken),
+    )
 
 judge-requires : tie.Need-judge-requires
-judge-requires c κs = (c .before .before .before .before .before .before .before .before .pre, omega (arith, below-one (c .before .before .before .before .first-of .result) (c .before .before .before .before .before .before .before .before .args .i) (c .before .before .before .is-below .result) (c .before .before .before .is-below .ensures) (c .before .before .if2 .taken), below-most (c .before .before .before .before .first-of .result) (c .before .before .before .before .before .before .before .before .args .i) (c .before .before .before .is-below .result) (c .before .before .before .is-below .ensures) (c .before .before .if2 .taken)))
+judge-requires c κs =
+    let at-if2 = c .before .before in
+    let at-is-below = at-if2 .before in
+    let at-first-of = at-is-below .before in
+    let at-start = at-first-of .before .before .before .before in (
+      at-start .pre,
+      omega (
+        arith,
+        below-one (at-first-of .first-of .result) (at-start .args .i) (at-is-below .is-below .result) (at-is-below .is-below .ensures) (at-if2 .if2 .taken),
+        below-most (at-first-of .first-of .result) (at-start .args .i) (at-is-below .is-below .result) (at-is-below .is-below .ensures) (at-if2 .if2 .taken),
+      ),
+    )
 
 returns-2 : tie.Need-returns-2
 returns-2 c = search planning
@@ -57,13 +93,29 @@ is-below-requires-2 : tie.Need-is-below-requires-2
 is-below-requires-2 c κs = search planning
 
 sub-b : tie.Need-sub-b
-sub-b c = omega (arith, below-one (c .before .before .second-of .result) (c .before .before .before .before .before .before .before .before .before .before .before .args .i) (c .before .is-below2 .result) (c .before .is-below2 .ensures) (c .if4 .taken), below-most (c .before .before .second-of .result) (c .before .before .before .before .before .before .before .before .before .before .before .args .i) (c .before .is-below2 .result) (c .before .is-below2 .ensures) (c .if4 .taken))
+sub-b c =
+    let at-is-below2 = c .before in
+    let at-second-of = at-is-below2 .before in
+    let at-args = at-second-of .before .before .before .before .before .before .before .before .before in
+    omega (
+      arith,
+      below-one (at-second-of .second-of .result) (at-args .args .i) (at-is-below2 .is-below2 .result) (at-is-below2 .is-below2 .ensures) (c .if4 .taken),
+      below-most (at-second-of .second-of .result) (at-args .args .i) (at-is-below2 .is-below2 .result) (at-is-below2 .is-below2 .ensures) (c .if4 .taken),
+    )
 
 mul-b : tie.Need-mul-b
 mul-b c = search planning
 
 element-copy-out-b : tie.Need-element-copy-out-b
-element-copy-out-b c = omega (arith, below-one (c .before .before .second-of .result) (c .before .before .before .before .before .before .before .before .before .before .before .args .i) (c .before .is-below2 .result) (c .before .is-below2 .ensures) (c .if4 .taken), below-most (c .before .before .second-of .result) (c .before .before .before .before .before .before .before .before .before .before .before .args .i) (c .before .is-below2 .result) (c .before .is-below2 .ensures) (c .if4 .taken))
+element-copy-out-b c =
+    let at-is-below2 = c .before in
+    let at-second-of = at-is-below2 .before in
+    let at-args = at-second-of .before .before .before .before .before .before .before .before .before in
+    omega (
+      arith,
+      below-one (at-second-of .second-of .result) (at-args .args .i) (at-is-below2 .is-below2 .result) (at-is-below2 .is-below2 .ensures) (c .if4 .taken),
+      below-most (at-second-of .second-of .result) (at-args .args .i) (at-is-below2 .is-below2 .result) (at-is-below2 .is-below2 .ensures) (c .if4 .taken),
+    )
 
 call-numbers-requires : tie.Need-call-numbers-requires
 call-numbers-requires c κs = search planning
@@ -78,16 +130,57 @@ returns-3 : tie.Need-returns-3
 returns-3 c = search planning
 
 sub-follow : tie.Need-sub-follow
-sub-follow c = omega (arith, below-one (c .before .before .before .before .second-of .result) (c .before .before .before .before .before .before .before .before .before .before .before .before .before .args .i) (c .before .before .before .is-below2 .result) (c .before .before .before .is-below2 .ensures) (c .before .before .if4 .taken), below-most (c .before .before .before .before .second-of .result) (c .before .before .before .before .before .before .before .before .before .before .before .before .before .args .i) (c .before .before .before .is-below2 .result) (c .before .before .before .is-below2 .ensures) (c .before .before .if4 .taken))
+sub-follow c =
+    let at-if4 = c .before .before in
+    let at-is-below2 = at-if4 .before in
+    let is-below2 = at-is-below2 .is-below2 in
+    let at-second-of = at-is-below2 .before in
+    let at-args = at-second-of .before .before .before .before .before .before .before .before .before in
+    omega (
+      arith,
+      below-one (at-second-of .second-of .result) (at-args .args .i) (is-below2 .result) (is-below2 .ensures) (at-if4 .if4 .taken),
+      below-most (at-second-of .second-of .result) (at-args .args .i) (is-below2 .result) (is-below2 .ensures) (at-if4 .if4 .taken),
+    )
 
 call-requires : tie.Need-call-requires
 call-requires c κs = search planning
 
 follow-requires : tie.Need-follow-requires
-follow-requires c κs = omega (arith, below-one (c .before .before .before .before .before .second-of .result) (c .before .before .before .before .before .before .before .before .before .before .before .before .before .before .args .i) (c .before .before .before .before .is-below2 .result) (c .before .before .before .before .is-below2 .ensures) (c .before .before .before .if4 .taken), below-most (c .before .before .before .before .before .second-of .result) (c .before .before .before .before .before .before .before .before .before .before .before .before .before .before .args .i) (c .before .before .before .before .is-below2 .result) (c .before .before .before .before .is-below2 .ensures) (c .before .before .before .if4 .taken))
+follow-requires c κs =
+    let at-if4 = c .before .before .before in
+    let at-is-below2 = at-if4 .before in
+    let is-below2 = at-is-below2 .is-below2 in
+    let at-second-of = at-is-below2 .before in
+    let at-args = at-second-of .before .before .before .before .before .before .before .before .before in
+    omega (
+      arith,
+      below-one (at-second-of .second-of .result) (at-args .args .i) (is-below2 .result) (is-below2 .ensures) (at-if4 .if4 .taken),
+      below-most (at-second-of .second-of .result) (at-args .args .i) (is-below2 .result) (is-below2 .ensures) (at-if4 .if4 .taken),
+    )
 
 returns-4 : tie.Need-returns-4
-returns-4 c = (plan-call (c .before .before .before .before .before .before .before .before .before .before .before .before .before .before .before .args .links .now) (c .before .before .before .before .before .before .before .before .before .before .before .before .before .before .before .args .waits .now) (c .before .before .before .before .before .before .before .before .before .before .before .before .before .before .before .args .readings .now) (c .before .before .before .before .before .before .before .before .before .before .before .before .before .before .before .args .frame .now) (c .before .before .before .before .before .before .before .before .before .before .before .before .before .before .before .args .i) (c .before .before .before .before .before .before .before .before .before .before .before .before .before .kind-of .result) (c .before .before .before .before .before .before .before .before .before .before .before .before .before .kind-of .ensures) (c .follow .result) (c .before .before .before .before .before .before .before .before .before .before .before .before .if1 .left) (c .before .before .before .before .before .before .before .before .before .before .before .first-of .result) (c .before .before .before .before .before .before .before .before .before .before .before .first-of .ensures) (c .before .before .before .before .before .before .before .before .before .before .is-below .result) (c .before .before .before .before .before .before .before .before .before .before .is-below .ensures) (c .before .before .before .before .before .before .before .before .before .if2 .taken) (c .before .before .before .before .before .before .before .if3 .left) (c .before .before .before .before .before .before .second-of .result) (c .before .before .before .before .before .before .second-of .ensures) (c .before .before .before .before .before .is-below2 .result) (c .before .before .before .before .before .is-below2 .ensures) (c .before .call .result) (c .before .before .before .before .if4 .taken) (c .before .call .ensures) (c .follow .ensures .0), lower-right (c .before .before .before .before .before .before .before .before .before .before .before .before .before .before .before .args .i) _ (c .follow .result) (omega (arith, below-one (c .before .before .before .before .before .before .second-of .result) (c .before .before .before .before .before .before .before .before .before .before .before .before .before .before .before .args .i) (c .before .before .before .before .before .is-below2 .result) (c .before .before .before .before .before .is-below2 .ensures) (c .before .before .before .before .if4 .taken), below-most (c .before .before .before .before .before .before .second-of .result) (c .before .before .before .before .before .before .before .before .before .before .before .before .before .before .before .args .i) (c .before .before .before .before .before .is-below2 .result) (c .before .before .before .before .before .is-below2 .ensures) (c .before .before .before .before .if4 .taken))) (c .follow .ensures .1))
+returns-4 c =
+    let at-call = c .before in
+    let at-if4 = at-call .before .before .before in
+    let at-is-below2 = at-if4 .before in
+    let is-below2 = at-is-below2 .is-below2 in
+    let at-second-of = at-is-below2 .before in
+    let at-if3 = at-second-of .before in
+    let at-if2 = at-if3 .before .before in
+    let at-is-below = at-if2 .before in
+    let at-first-of = at-is-below .before in
+    let at-if1 = at-first-of .before in
+    let at-kind-of = at-if1 .before in
+    let at-args = at-kind-of .before .before in
+    let one = below-one (at-second-of .second-of .result) (at-args .args .i) (is-below2 .result) (is-below2 .ensures) (at-if4 .if4 .taken) in
+    let most = below-most (at-second-of .second-of .result) (at-args .args .i) (is-below2 .result) (is-below2 .ensures) (at-if4 .if4 .taken) in (
+      plan-call (at-args .args .links .now) (at-args .args .waits .now) (at-args .args .readings .now) (at-args .args .frame .now) (at-args .args .i)
+          (at-kind-of .kind-of .result) (at-kind-of .kind-of .ensures) (c .follow .result) (at-if1 .if1 .left) (at-first-of .first-of .result)
+          (at-first-of .first-of .ensures) (at-is-below .is-below .result) (at-is-below .is-below .ensures) (at-if2 .if2 .taken) (at-if3 .if3 .left)
+          (at-second-of .second-of .result) (at-second-of .second-of .ensures) (is-below2 .result) (is-below2 .ensures)
+          (at-call .call .result) (at-if4 .if4 .taken) (at-call .call .ensures) (c .follow .ensures .0),
+      lower-right (at-args .args .i) _ (c .follow .result) (omega (arith, one, most)) (c .follow .ensures .1),
+    )
 
 ask-requires : tie.Need-ask-requires
 ask-requires c κs = search planning

@@ -20,7 +20,11 @@ number-requires : tie.Need-number-requires
 number-requires c κs = search planning
 
 returns : tie.Need-returns
-returns c = c .number .ensures ∙ ap (λ (z : ℤ). packOf (Number z)) (toZ-ofZ {w = w32} {z = getD (c .before .before .before .args .readings .now) (c .before .before .before .args .k) (pos 0)} (record { sfits = c .before .number-arg .given }))
+returns c =
+    let at-number-arg = c .before in
+    let at-args = at-number-arg .before .before in
+    c .number .ensures ∙ ap (λ (z : ℤ). packOf (Number z))
+    (toZ-ofZ {w = w32} {z = getD (at-args .args .readings .now) (at-args .args .k) (pos 0)} (record { sfits = at-number-arg .number-arg .given }))
 
 number-requires-2 : tie.Need-number-requires-2
 number-requires-2 c κs = search planning

@@ -18,13 +18,29 @@ is-below-requires : tie.Need-is-below-requires
 is-below-requires c κs = search planning
 
 sub-body : tie.Need-sub-body
-sub-body c = omega (arith, below-one (c .before .before .first-of .result) (c .before .before .before .before .before .before .args .f) (c .before .is-below .result) (c .before .is-below .ensures) (c .if2 .taken), below-most (c .before .before .first-of .result) (c .before .before .before .before .before .before .args .f) (c .before .is-below .result) (c .before .is-below .ensures) (c .if2 .taken))
+sub-body c =
+    let at-is-below = c .before in
+    let at-first-of = at-is-below .before in
+    let at-args = at-first-of .before .before .before .before in
+    omega (
+      arith,
+      below-one (at-first-of .first-of .result) (at-args .args .f) (at-is-below .is-below .result) (at-is-below .is-below .ensures) (c .if2 .taken),
+      below-most (at-first-of .first-of .result) (at-args .args .f) (at-is-below .is-below .result) (at-is-below .is-below .ensures) (c .if2 .taken),
+    )
 
 mul-own : tie.Need-mul-own
 mul-own c = search planning
 
 element-copy-out-own : tie.Need-element-copy-out-own
-element-copy-out-own c = omega (arith, below-one (c .before .before .first-of .result) (c .before .before .before .before .before .before .args .f) (c .before .is-below .result) (c .before .is-below .ensures) (c .if2 .taken), below-most (c .before .before .first-of .result) (c .before .before .before .before .before .before .args .f) (c .before .is-below .result) (c .before .is-below .ensures) (c .if2 .taken))
+element-copy-out-own c =
+    let at-is-below = c .before in
+    let at-first-of = at-is-below .before in
+    let at-args = at-first-of .before .before .before .before in
+    omega (
+      arith,
+      below-one (at-first-of .first-of .result) (at-args .args .f) (at-is-below .is-below .result) (at-is-below .is-below .ensures) (c .if2 .taken),
+      below-most (at-first-of .first-of .result) (at-args .args .f) (at-is-below .is-below .result) (at-is-below .is-below .ensures) (c .if2 .taken),
+    )
 
 mul-own-2 : tie.Need-mul-own-2
 mul-own-2 c = search planning
@@ -42,7 +58,21 @@ body-task-requires : tie.Need-body-task-requires
 body-task-requires c κs = search planning
 
 returns : tie.Need-returns
-returns c = (search planning, λ d. task-right (c .before .before .before .before .before .before .before .before .before .before .before .args .f) (c .before .before .before .before .before .before .before .before .before .before .before .args .kind) (c .before .before .before .before .before .before .before .before .before .before .before .args .start) (c .before .before .before .before .before .before .before .before .before .before .before .args .length) _ (c .before .before .own .result) _ (c .body-task .ensures) (omega (arith, below-one (c .before .before .before .before .before .before .before .first-of .result) (c .before .before .before .before .before .before .before .before .before .before .before .args .f) (c .before .before .before .before .before .before .is-below .result) (c .before .before .before .before .before .before .is-below .ensures) (c .before .before .before .before .before .if2 .taken), below-most (c .before .before .before .before .before .before .before .first-of .result) (c .before .before .before .before .before .before .before .before .before .before .before .args .f) (c .before .before .before .before .before .before .is-below .result) (c .before .before .before .before .before .before .is-below .ensures) (c .before .before .before .before .before .if2 .taken))) (c .before .if3 .taken) d)
+returns c = (
+  search planning,
+  λ d.
+      let at-if3 = c .before in
+      let at-own = at-if3 .before in
+      let at-if2 = at-own .before .before .before in
+      let at-is-below = at-if2 .before in
+      let is-below = at-is-below .is-below in
+      let at-first-of = at-is-below .before in
+      let at-args = at-first-of .before .before .before .before in
+      let one = below-one (at-first-of .first-of .result) (at-args .args .f) (is-below .result) (is-below .ensures) (at-if2 .if2 .taken) in
+      let most = below-most (at-first-of .first-of .result) (at-args .args .f) (is-below .result) (is-below .ensures) (at-if2 .if2 .taken) in
+      task-right (at-args .args .f) (at-args .args .kind) (at-args .args .start) (at-args .args .length) _ (at-own .own .result) _
+      (c .body-task .ensures) (omega (arith, one, most)) (at-if3 .if3 .taken) d,
+)
 
 done-requires : tie.Need-done-requires
 done-requires c κs = search planning

@@ -32,7 +32,9 @@ returns c =
     let at-n = at-bind .before .before .before .before .before in
     let at-read = at-n .before .before in
     let at-pre = at-read .before .before .before .before .before .before in
-    λ readings heads e. planned-full readings heads _ _ _ e _ _ _ _ _ _ (read-done _ _ _ _ _ _ (at-read .read .ensures) refl (at-pre .pre .0 .1) _ _ _ (at-n .n .given .1)) _ _ _ (at-bind .bind .ensures) (sym (at-is-full .is-full .ensures) ∙ c .if1 .taken)
+    λ readings heads e. planned-full readings heads _ _ _ e _ _ _ _ _ _
+    (read-done _ _ _ _ _ _ (at-read .read .ensures) refl (at-pre .pre .0 .1) _ _ _ (at-n .n .given .1)) _ _ _ (at-bind .bind .ensures)
+    (sym (at-is-full .is-full .ensures) ∙ c .if1 .taken)
 
 cast-t23 : tie.Need-cast-t23
 cast-t23 c = search needs
@@ -62,7 +64,9 @@ returns-3 c =
     let at-n = at-bind .before .before .before .before .before in
     let at-read = at-n .before .before in
     let at-pre = at-read .before .before .before .before .before .before in
-    λ readings heads e. planned-done readings heads _ _ _ e _ _ _ _ _ _ (read-done _ _ _ _ _ _ (at-read .read .ensures) refl (at-pre .pre .0 .1) _ _ _ (at-n .n .given .1)) _ _ _ (at-bind .bind .ensures) (sym (at-is-full .is-full .ensures) ∙ at-if1 .if1 .left)
+    λ readings heads e. planned-done readings heads _ _ _ e _ _ _ _ _ _
+    (read-done _ _ _ _ _ _ (at-read .read .ensures) refl (at-pre .pre .0 .1) _ _ _ (at-n .n .given .1)) _ _ _ (at-bind .bind .ensures)
+    (sym (at-is-full .is-full .ensures) ∙ at-if1 .if1 .left)
 
 pub plan-edit-spec : {M : Type 1} → statement M
 plan-edit-spec =

@@ -154,8 +154,18 @@ read-let-below t =
     and 4 read-let-kinds.ps (falls 4 read-let-kinds.ps _<_ μ-read-let t) read-let.Pre
 
 abbrev arguments-claims : ℕ → arguments-lts.Claims
-arguments-claims t =
-    (token-reads.Asked, token-reads.Learnt, read-shut-reads.Asked, read-shut-reads.Learnt, expression-below t, expression.Post, first-given-reads.Asked, first-given-reads.Learnt, more-below t, more.Post)
+arguments-claims t = (
+  token-reads.Asked,
+  token-reads.Learnt,
+  read-shut-reads.Asked,
+  read-shut-reads.Learnt,
+  expression-below t,
+  expression.Post,
+  first-given-reads.Asked,
+  first-given-reads.Learnt,
+  more-below t,
+  more.Post,
+)
 
 arguments-token-requires : (t : ℕ) → arguments-lts.Need-token-requires (arguments-claims t) (arguments-at t) arguments.Post
 arguments-token-requires t c κs = search needs
@@ -167,50 +177,100 @@ arguments-add-expression : (t : ℕ) → arguments-lts.Need-add-expression (argu
 arguments-add-expression t c = omega (arith, c .before .before .before .before .before .pre .1 .fit .marks)
 
 arguments-expression-requires : (t : ℕ) → arguments-lts.Need-expression-requires (arguments-claims t) (arguments-at t) arguments.Post
-arguments-expression-requires t c κs = (omega (arith, c .before .before .before .before .before .before .before .before .pre .0), L.argument-fit _ _ _ _ _ _ _ _ (c .before .before .before .before .before .before .before .before .pre .1))
+arguments-expression-requires t c κs =
+    let at-pre = c .before .before .before .before .before .before .before .before in
+    (omega (arith, at-pre .pre .0), L.argument-fit _ _ _ _ _ _ _ _ (at-pre .pre .1))
 
 arguments-first-given-requires : (t : ℕ) → arguments-lts.Need-first-given-requires (arguments-claims t) (arguments-at t) arguments.Post
-arguments-first-given-requires t c κs = omega (arith, L.root-few _ _ _ _ _ _ _ _ _ _ (c .before .before .expression .ensures) (c .if2 .taken) ((L.argument-fit _ _ _ _ _ _ _ _ (c .before .before .before .before .before .before .before .before .before .before .before .pre .1)) .fit))
+arguments-first-given-requires t c κs =
+    let at-expression = c .before .before in
+    let at-pre = at-expression .before .before .before .before .before .before .before .before .before in
+    let fit = (L.argument-fit _ _ _ _ _ _ _ _ (at-pre .pre .1)) .fit in
+    omega (arith, L.root-few _ _ _ _ _ _ _ _ _ _ (at-expression .expression .ensures) (c .if2 .taken) fit)
 
 arguments-more-requires : (t : ℕ) → arguments-lts.Need-more-requires (arguments-claims t) (arguments-at t) arguments.Post
-arguments-more-requires t c κs = (omega (arith, c .before .before .before .before .before .before .before .before .before .before .before .before .before .before .before .pre .0, L.read-less _ _ _ _ _ _ _ _ _ _ (c .before .before .before .before .before .before .expression .ensures) (c .before .before .before .before .if2 .taken)), L.first-fit _ _ _ _ _ _ _ _ _ _ _ _ (c .before .before .before .before .before .before .expression .ensures) (c .before .before .before .before .if2 .taken) _ (c .before .before .before .first-given .ensures) (c .before .before .before .before .before .before .before .before .before .before .before .before .before .before .before .pre .1))
+arguments-more-requires t c κs =
+    let at-first-given = c .before .before .before in
+    let at-if2 = at-first-given .before in
+    let at-expression = at-if2 .before .before in
+    let at-pre = at-expression .before .before .before .before .before .before .before .before .before in (
+      omega (arith, at-pre .pre .0, L.read-less _ _ _ _ _ _ _ _ _ _ (at-expression .expression .ensures) (at-if2 .if2 .taken)),
+      L.first-fit _ _ _ _ _ _ _ _ _ _ _ _ (at-expression .expression .ensures) (at-if2 .if2 .taken) _ (at-first-given .first-given .ensures)
+          (at-pre .pre .1),
+    )
 
 arguments-returns : (t : ℕ) → arguments-lts.Need-returns (arguments-claims t) (arguments-at t) arguments.Post
-arguments-returns t c = L.arguments-none _ _ _ _ _ _ _ _ _ _ _ _ (c .before .before .before .before .before .token .ensures) (c .before .before .before .if1 .taken) (c .read-shut .ensures) (c .before .before .before .before .before .before .before .pre .1)
+arguments-returns t c =
+    let at-if1 = c .before .before .before in
+    let at-token = at-if1 .before .before in
+    let at-pre = at-token .before .before in
+    L.arguments-none _ _ _ _ _ _ _ _ _ _ _ _ (at-token .token .ensures) (at-if1 .if1 .taken) (c .read-shut .ensures) (at-pre .pre .1)
 
 arguments-returns-2 : (t : ℕ) → arguments-lts.Need-returns-2 (arguments-claims t) (arguments-at t) arguments.Post
-arguments-returns-2 t c = L.arguments-first _ _ _ _ _ _ _ _ _ _ _ _ (c .before .before .before .before .before .before .before .expression .ensures) (c .before .before .before .before .before .if2 .taken) _ (c .before .before .before .before .first-given .ensures) _ (c .before .before .before .before .before .before .before .before .before .before .before .before .before .before .token .ensures) (c .before .before .before .before .before .before .before .before .before .before .before .before .if1 .left) (c .more .ensures)
+arguments-returns-2 t c =
+    let at-first-given = c .before .before .before .before in
+    let at-if2 = at-first-given .before in
+    let at-expression = at-if2 .before .before in
+    let at-if1 = at-expression .before .before .before .before .before in
+    let at-token = at-if1 .before .before in
+    L.arguments-first _ _ _ _ _ _ _ _ _ _ _ _ (at-expression .expression .ensures) (at-if2 .if2 .taken) _ (at-first-given .first-given .ensures) _
+    (at-token .token .ensures) (at-if1 .if1 .left) (c .more .ensures)
 
 arguments-returns-3 : (t : ℕ) → arguments-lts.Need-returns-3 (arguments-claims t) (arguments-at t) arguments.Post
-arguments-returns-3 t c = L.arguments-first-refused _ _ _ _ _ _ _ _ _ _ _ _ (c .before .before .expression .ensures) _ (c .before .before .before .before .before .before .before .before .before .token .ensures) (c .before .before .before .before .before .before .before .if1 .left) (c .if2 .left)
+arguments-returns-3 t c =
+    let at-expression = c .before .before in
+    let at-if1 = at-expression .before .before .before .before .before in
+    let at-token = at-if1 .before .before in
+    L.arguments-first-refused _ _ _ _ _ _ _ _ _ _ _ _ (at-expression .expression .ensures) _ (at-token .token .ensures) (at-if1 .if1 .left) (c .if2 .left)
 
 abbrev atom-claims : ℕ → atom-lts.Claims
 atom-claims t =
     (read-bracket-below t, read-bracket.Post, read-name-reads.Asked, read-name-reads.Learnt, read-number-reads.Asked, read-number-reads.Learnt, refused-reads.Asked, refused-reads.Learnt)
 
 atom-read-bracket-requires : (t : ℕ) → atom-lts.Need-read-bracket-requires (atom-claims t) (atom-at t) atom.Post
-atom-read-bracket-requires t c κs = (omega (arith, c .before .before .before .before .before .pre .0), L.ready-at _ _ _ _ _ _ _ _ _ (c .before .before .before .before .before .pre .1 .next) _ (c .before .before .before .if1 .taken) (c .before .before .before .before .before .pre .1 .ready))
+atom-read-bracket-requires t c κs =
+    let at-if1 = c .before .before .before in
+    let at-pre = at-if1 .before .before in
+    (omega (arith, at-pre .pre .0), L.ready-at _ _ _ _ _ _ _ _ _ (at-pre .pre .1 .next) _ (at-if1 .if1 .taken) (at-pre .pre .1 .ready))
 
 atom-returns : (t : ℕ) → atom-lts.Need-returns (atom-claims t) (atom-at t) atom.Post
 atom-returns t c = c .read-bracket .ensures
 
 atom-read-name-requires : (t : ℕ) → atom-lts.Need-read-name-requires (atom-claims t) (atom-at t) atom.Post
-atom-read-name-requires t c κs = L.name-ahead _ _ _ _ _ _ _ _ _ (c .before .before .before .before .before .before .pre .1 .next) (c .before .before .before .if2 .taken) (c .before .before .before .before .before .before .pre .1 .ready)
+atom-read-name-requires t c κs =
+    let at-if2 = c .before .before .before in
+    let at-pre = at-if2 .before .before .before in
+    L.name-ahead _ _ _ _ _ _ _ _ _ (at-pre .pre .1 .next) (at-if2 .if2 .taken) (at-pre .pre .1 .ready)
 
 atom-returns-2 : (t : ℕ) → atom-lts.Need-returns-2 (atom-claims t) (atom-at t) atom.Post
-atom-returns-2 t c = L.atom-name _ _ _ _ _ _ _ _ _ (c .before .before .before .before .before .before .before .pre .1 .next) _ _ _ (c .before .before .before .before .if2 .taken) (c .read-name .ensures) (c .before .before .before .before .before .before .before .pre .1 .ready)
+atom-returns-2 t c =
+    let at-if2 = c .before .before .before .before in
+    let at-pre = at-if2 .before .before .before in
+    L.atom-name _ _ _ _ _ _ _ _ _ (at-pre .pre .1 .next) _ _ _ (at-if2 .if2 .taken) (c .read-name .ensures) (at-pre .pre .1 .ready)
 
 atom-read-number-requires : (t : ℕ) → atom-lts.Need-read-number-requires (atom-claims t) (atom-at t) atom.Post
-atom-read-number-requires t c κs = L.number-ahead _ _ _ _ _ _ _ _ _ (c .before .before .before .before .before .before .pre .1 .next) (c .before .before .if3 .taken) (c .before .before .before .before .before .before .pre .1 .ready)
+atom-read-number-requires t c κs =
+    let at-if3 = c .before .before in
+    let at-pre = at-if3 .before .before .before .before in
+    L.number-ahead _ _ _ _ _ _ _ _ _ (at-pre .pre .1 .next) (at-if3 .if3 .taken) (at-pre .pre .1 .ready)
 
 atom-returns-3 : (t : ℕ) → atom-lts.Need-returns-3 (atom-claims t) (atom-at t) atom.Post
-atom-returns-3 t c = L.atom-number _ _ _ _ _ _ _ _ _ (c .before .before .before .before .before .before .before .pre .1 .next) _ _ _ (c .before .before .before .if3 .taken) (c .read-number .ensures) (c .before .before .before .before .before .before .before .pre .1 .ready)
+atom-returns-3 t c =
+    let at-if3 = c .before .before .before in
+    let at-pre = at-if3 .before .before .before .before in
+    L.atom-number _ _ _ _ _ _ _ _ _ (at-pre .pre .1 .next) _ _ _ (at-if3 .if3 .taken) (c .read-number .ensures) (at-pre .pre .1 .ready)
 
 atom-refused-requires : (t : ℕ) → atom-lts.Need-refused-requires (atom-claims t) (atom-at t) atom.Post
 atom-refused-requires t c κs = search needs
 
 atom-returns-4 : (t : ℕ) → atom-lts.Need-returns-4 (atom-claims t) (atom-at t) atom.Post
-atom-returns-4 t c = L.atom-refused _ _ _ _ _ _ _ _ _ (c .before .before .before .before .before .pre .1 .next) _ (c .before .before .before .before .before .pre .1 .no-let) (c .before .before .before .before .before .pre .1 .no-lambda) (c .before .before .before .if1 .left) (c .before .before .if2 .left) (c .before .if3 .left) (c .refused .ensures)
+atom-returns-4 t c =
+    let at-if3 = c .before in
+    let at-if2 = at-if3 .before in
+    let at-if1 = at-if2 .before in
+    let at-pre = at-if1 .before .before in
+    L.atom-refused _ _ _ _ _ _ _ _ _ (at-pre .pre .1 .next) _ (at-pre .pre .1 .no-let) (at-pre .pre .1 .no-lambda) (at-if1 .if1 .left) (at-if2 .if2 .left)
+    (at-if3 .if3 .left) (c .refused .ensures)
 
 abbrev call-claims : ℕ → call-lts.Claims
 call-claims t =
@@ -220,13 +280,27 @@ call-call-head-requires : (t : ℕ) → call-lts.Need-call-head-requires (call-c
 call-call-head-requires t c κs = c .before .pre .1 .fit .parts
 
 call-cast-t12 : (t : ℕ) → call-lts.Need-cast-t12 (call-claims t) (call-at t) call.Post
-call-cast-t12 t c = omega (arith, (L.call-fit _ _ _ _ _ _ _ _ (c .before .before .before .before .before .pre .1) (c .before .before .before .call-head .ensures) (c .before .if1 .taken)) .fit .own .kind)
+call-cast-t12 t c =
+    let at-if1 = c .before in
+    let at-call-head = at-if1 .before .before in
+    let at-pre = at-call-head .before .before in
+    omega (arith, (L.call-fit _ _ _ _ _ _ _ _ (at-pre .pre .1) (at-call-head .call-head .ensures) (at-if1 .if1 .taken)) .fit .own .kind)
 
 call-arguments-requires : (t : ℕ) → call-lts.Need-arguments-requires (call-claims t) (call-at t) call.Post
-call-arguments-requires t c κs = (omega (arith, c .before .before .before .before .before .before .before .before .pre .0, L.call-less _ _ _ _ _ _ _ _ (c .before .before .before .before .before .before .before .before .pre .1) (c .before .before .before .before .before .before .call-head .ensures) (c .before .before .before .before .if1 .taken)), L.call-fit _ _ _ _ _ _ _ _ (c .before .before .before .before .before .before .before .before .pre .1) (c .before .before .before .before .before .before .call-head .ensures) (c .before .before .before .before .if1 .taken))
+call-arguments-requires t c κs =
+    let at-if1 = c .before .before .before .before in
+    let at-call-head = at-if1 .before .before in
+    let at-pre = at-call-head .before .before in (
+      omega (arith, at-pre .pre .0, L.call-less _ _ _ _ _ _ _ _ (at-pre .pre .1) (at-call-head .call-head .ensures) (at-if1 .if1 .taken)),
+      L.call-fit _ _ _ _ _ _ _ _ (at-pre .pre .1) (at-call-head .call-head .ensures) (at-if1 .if1 .taken),
+    )
 
 call-returns : (t : ℕ) → call-lts.Need-returns (call-claims t) (call-at t) call.Post
-call-returns t c = L.call-read _ _ _ _ _ _ _ _ (c .before .before .before .before .before .before .before .before .before .pre .1) (c .before .before .before .before .before .before .before .call-head .ensures) (c .before .before .before .before .before .if1 .taken) (c .arguments .ensures)
+call-returns t c =
+    let at-if1 = c .before .before .before .before .before in
+    let at-call-head = at-if1 .before .before in
+    let at-pre = at-call-head .before .before in
+    L.call-read _ _ _ _ _ _ _ _ (at-pre .pre .1) (at-call-head .call-head .ensures) (at-if1 .if1 .taken) (c .arguments .ensures)
 
 call-returns-2 : (t : ℕ) → call-lts.Need-returns-2 (call-claims t) (call-at t) call.Post
 call-returns-2 t c = L.call-head-refused _ _ _ _ _ _ _ _ (c .before .before .before .before .pre .1) (c .before .before .call-head .ensures) (c .if1 .left)
@@ -249,7 +323,14 @@ calls-is-call-requires : (t : ℕ) → calls-lts.Need-is-call-requires (calls-cl
 calls-is-call-requires t c κs = search needs
 
 calls-call-requires : (t : ℕ) → calls-lts.Need-call-requires (calls-claims t) (calls-at t) calls.Post calls-Inv-loop calls-μ-loop
-calls-call-requires t c κs = (omega (arith, c .before .before .before .before .before .before .before .pre .0, c .before .before .before .before .before .loop .inv .less), L.chain-ready _ _ _ _ _ _ _ _ _ _ _ (c .before .before .before .before .before .loop .inv) _ (c .before .before .before .before .is-call .ensures) (c .before .before .before .if1 .taken))
+calls-call-requires t c κs =
+    let at-if1 = c .before .before .before in
+    let at-is-call = at-if1 .before in
+    let at-loop = at-is-call .before in
+    let at-pre = at-loop .before .before in (
+      omega (arith, at-pre .pre .0, at-loop .loop .inv .less),
+      L.chain-ready _ _ _ _ _ _ _ _ _ _ _ (at-loop .loop .inv) _ (at-is-call .is-call .ensures) (at-if1 .if1 .taken),
+    )
 
 calls-returns : (t : ℕ) → calls-lts.Need-returns (calls-claims t) (calls-at t) calls.Post calls-Inv-loop calls-μ-loop
 calls-returns t c = L.chain-refused _ _ _ _ _ _ _ _ _ _ _ (c .before .before .before .before .before .before .before .before .loop .inv) _ _ _ _ (c .before .before .call .ensures) (c .if2 .taken)
@@ -271,22 +352,41 @@ expression-token-requires : (t : ℕ) → expression-lts.Need-token-requires (ex
 expression-token-requires t c κs = search needs
 
 expression-read-let-requires : (t : ℕ) → expression-lts.Need-read-let-requires (expression-claims t) (expression-at t) expression.Post
-expression-read-let-requires t c κs = (omega (arith, c .before .before .before .before .before .before .pre .0), L.ready-at _ _ _ _ _ _ _ _ _ (c .before .before .before .before .token .ensures) _ (c .before .before .before .if1 .taken) (c .before .before .before .before .before .before .pre .1))
+expression-read-let-requires t c κs =
+    let at-if1 = c .before .before .before in
+    let at-token = at-if1 .before in
+    let at-pre = at-token .before .before in
+    (omega (arith, at-pre .pre .0), L.ready-at _ _ _ _ _ _ _ _ _ (at-token .token .ensures) _ (at-if1 .if1 .taken) (at-pre .pre .1))
 
 expression-returns : (t : ℕ) → expression-lts.Need-returns (expression-claims t) (expression-at t) expression.Post
 expression-returns t c = c .read-let .ensures
 
 expression-read-lambda-requires : (t : ℕ) → expression-lts.Need-read-lambda-requires (expression-claims t) (expression-at t) expression.Post
-expression-read-lambda-requires t c κs = (omega (arith, c .before .before .before .before .before .before .before .pre .0), L.ready-at _ _ _ _ _ _ _ _ _ (c .before .before .before .before .before .token .ensures) _ (c .before .before .before .if2 .taken) (c .before .before .before .before .before .before .before .pre .1))
+expression-read-lambda-requires t c κs =
+    let at-if2 = c .before .before .before in
+    let at-token = at-if2 .before .before in
+    let at-pre = at-token .before .before in
+    (omega (arith, at-pre .pre .0), L.ready-at _ _ _ _ _ _ _ _ _ (at-token .token .ensures) _ (at-if2 .if2 .taken) (at-pre .pre .1))
 
 expression-returns-2 : (t : ℕ) → expression-lts.Need-returns-2 (expression-claims t) (expression-at t) expression.Post
 expression-returns-2 t c = c .read-lambda .ensures
 
 expression-atom-requires : (t : ℕ) → expression-lts.Need-atom-requires (expression-claims t) (expression-at t) expression.Post
-expression-atom-requires t c κs = (omega (arith, c .before .before .before .before .before .before .before .pre .0), record { next = c .before .before .before .before .before .token .ensures; no-let = c .before .before .before .before .if1 .left; no-lambda = c .before .before .before .if2 .left; ready = c .before .before .before .before .before .before .before .pre .1 })
+expression-atom-requires t c κs =
+    let at-if2 = c .before .before .before in
+    let at-if1 = at-if2 .before in
+    let at-token = at-if1 .before in
+    let at-pre = at-token .before .before in (
+      omega (arith, at-pre .pre .0),
+      record { next = at-token .token .ensures; no-let = at-if1 .if1 .left; no-lambda = at-if2 .if2 .left; ready = at-pre .pre .1 },
+    )
 
 expression-calls-requires : (t : ℕ) → expression-lts.Need-calls-requires (expression-claims t) (expression-at t) expression.Post
-expression-calls-requires t c κs = (omega (arith, c .before .before .before .before .before .before .before .before .before .before .before .before .before .pre .0, c .before .before .before .before .before .atom .ensures .less (c .before .before .before .if3 .taken)), c .before .before .before .before .before .atom .ensures .fit (c .before .before .before .if3 .taken))
+expression-calls-requires t c κs =
+    let at-if3 = c .before .before .before in
+    let at-atom = at-if3 .before .before in
+    let at-pre = at-atom .before .before .before .before .before .before .before .before in
+    (omega (arith, at-pre .pre .0, at-atom .atom .ensures .less (at-if3 .if3 .taken)), at-atom .atom .ensures .fit (at-if3 .if3 .taken))
 
 expression-returns-3 : (t : ℕ) → expression-lts.Need-returns-3 (expression-claims t) (expression-at t) expression.Post
 expression-returns-3 t c = c .before .before .before .before .before .before .atom .ensures .goes (c .before .before .before .before .if3 .taken) _ _ _ _ (c .calls .ensures)
@@ -295,8 +395,24 @@ expression-returns-4 : (t : ℕ) → expression-lts.Need-returns-4 (expression-c
 expression-returns-4 t c = c .before .before .atom .ensures .stops (c .if3 .left)
 
 abbrev more-claims : ℕ → more-lts.Claims
-more-claims t =
-    (token-reads.Asked, token-reads.Learnt, read-shut-reads.Asked, read-shut-reads.Learnt, at-comma-reads.Asked, at-comma-reads.Learnt, judged-reads.Asked, judged-reads.Learnt, expression-below t, expression.Post, next-given-reads.Asked, next-given-reads.Learnt, more-below t, more.Post, refused-reads.Asked, refused-reads.Learnt)
+more-claims t = (
+  token-reads.Asked,
+  token-reads.Learnt,
+  read-shut-reads.Asked,
+  read-shut-reads.Learnt,
+  at-comma-reads.Asked,
+  at-comma-reads.Learnt,
+  judged-reads.Asked,
+  judged-reads.Learnt,
+  expression-below t,
+  expression.Post,
+  next-given-reads.Asked,
+  next-given-reads.Learnt,
+  more-below t,
+  more.Post,
+  refused-reads.Asked,
+  refused-reads.Learnt,
+)
 
 more-token-requires : (t : ℕ) → more-lts.Need-token-requires (more-claims t) (more-at t) more.Post
 more-token-requires t c κs = search needs
@@ -305,7 +421,11 @@ more-read-shut-requires : (t : ℕ) → more-lts.Need-read-shut-requires (more-c
 more-read-shut-requires t c κs = L.more-room _ _ _ _ _ _ _ _ (c .before .before .before .before .before .pre .1)
 
 more-returns : (t : ℕ) → more-lts.Need-returns (more-claims t) (more-at t) more.Post
-more-returns t c = L.more-last _ _ _ _ _ _ _ _ _ _ _ _ (c .before .before .before .before .token .ensures) (c .before .before .before .if1 .taken) (c .read-shut .ensures) (c .before .before .before .before .before .before .pre .1)
+more-returns t c =
+    let at-if1 = c .before .before .before in
+    let at-token = at-if1 .before in
+    let at-pre = at-token .before .before in
+    L.more-last _ _ _ _ _ _ _ _ _ _ _ _ (at-token .token .ensures) (at-if1 .if1 .taken) (c .read-shut .ensures) (at-pre .pre .1)
 
 more-at-comma-requires : (t : ℕ) → more-lts.Need-at-comma-requires (more-claims t) (more-at t) more.Post
 more-at-comma-requires t c κs = search needs
@@ -317,22 +437,80 @@ more-add-expression : (t : ℕ) → more-lts.Need-add-expression (more-claims t)
 more-add-expression t c = omega (arith, c .before .before .before .before .before .before .before .before .pre .1 .fit .marks)
 
 more-expression-requires : (t : ℕ) → more-lts.Need-expression-requires (more-claims t) (more-at t) more.Post
-more-expression-requires t c κs = (omega (arith, c .before .before .before .before .before .before .before .before .before .before .before .pre .0, L.comma-less _ _ _ _ _ _ (c .before .before .before .before .before .before .before .before .before .token .ensures) (c .before .before .before .before .before .before .before .if2 .taken) (c .before .before .before .before .before .before .at-comma .ensures) (c .before .before .before .before .before .judged .ensures) (c .before .before .before .if3 .taken)), L.comma-fit _ _ _ _ _ _ _ _ _ _ _ (c .before .before .before .before .before .before .before .before .before .token .ensures) (c .before .before .before .before .before .before .before .if2 .taken) (c .before .before .before .before .before .before .at-comma .ensures) (c .before .before .before .before .before .judged .ensures) (c .before .before .before .if3 .taken) (c .before .before .before .before .before .before .before .before .before .before .before .pre .1))
+more-expression-requires t c κs =
+    let at-if3 = c .before .before .before in
+    let at-judged = at-if3 .before .before in
+    let at-at-comma = at-judged .before in
+    let at-if2 = at-at-comma .before in
+    let at-token = at-if2 .before .before in
+    let at-pre = at-token .before .before in (
+      omega (
+        arith,
+        at-pre .pre .0,
+        L.comma-less _ _ _ _ _ _ (at-token .token .ensures) (at-if2 .if2 .taken) (at-at-comma .at-comma .ensures) (at-judged .judged .ensures)
+            (at-if3 .if3 .taken),
+      ),
+      L.comma-fit _ _ _ _ _ _ _ _ _ _ _ (at-token .token .ensures) (at-if2 .if2 .taken) (at-at-comma .at-comma .ensures) (at-judged .judged .ensures)
+          (at-if3 .if3 .taken) (at-pre .pre .1),
+    )
 
 more-next-given-requires : (t : ℕ) → more-lts.Need-next-given-requires (more-claims t) (more-at t) more.Post
 more-next-given-requires t c κs = search needs
 
 more-more-requires : (t : ℕ) → more-lts.Need-more-requires (more-claims t) (more-at t) more.Post
-more-more-requires t c κs = (omega (arith, c .before .before .before .before .before .before .before .before .before .before .before .before .before .before .before .before .before .before .pre .0, L.comma-less _ _ _ _ _ _ (c .before .before .before .before .before .before .before .before .before .before .before .before .before .before .before .before .token .ensures) (c .before .before .before .before .before .before .before .before .before .before .before .before .before .before .if2 .taken) (c .before .before .before .before .before .before .before .before .before .before .before .before .before .at-comma .ensures) (c .before .before .before .before .before .before .before .before .before .before .before .before .judged .ensures) (c .before .before .before .before .before .before .before .before .before .before .if3 .taken), L.read-less _ _ _ _ _ _ _ _ _ _ (c .before .before .before .before .before .before .expression .ensures) (c .before .before .before .before .if4 .taken)), L.next-fit _ _ _ _ _ _ _ _ _ _ _ (c .before .before .before .before .before .before .before .before .before .before .before .before .before .before .before .before .token .ensures) (c .before .before .before .before .before .before .before .before .before .before .before .before .before .before .if2 .taken) (c .before .before .before .before .before .before .before .before .before .before .before .before .before .at-comma .ensures) (c .before .before .before .before .before .before .before .before .before .before .before .before .judged .ensures) (c .before .before .before .before .before .before .before .before .before .before .if3 .taken) _ _ _ _ (c .before .before .before .before .before .before .expression .ensures) (c .before .before .before .before .if4 .taken) _ (c .before .before .before .next-given .ensures) (c .before .before .before .before .before .before .before .before .before .before .before .before .before .before .before .before .before .before .pre .1))
+more-more-requires t c κs =
+    let at-next-given = c .before .before .before in
+    let at-if4 = at-next-given .before in
+    let at-expression = at-if4 .before .before in
+    let at-if3 = at-expression .before .before .before .before in
+    let at-judged = at-if3 .before .before in
+    let at-at-comma = at-judged .before in
+    let at-if2 = at-at-comma .before in
+    let at-token = at-if2 .before .before in
+    let at-pre = at-token .before .before in (
+      omega (
+        arith,
+        at-pre .pre .0,
+        L.comma-less _ _ _ _ _ _ (at-token .token .ensures) (at-if2 .if2 .taken) (at-at-comma .at-comma .ensures) (at-judged .judged .ensures)
+            (at-if3 .if3 .taken),
+        L.read-less _ _ _ _ _ _ _ _ _ _ (at-expression .expression .ensures) (at-if4 .if4 .taken),
+      ),
+      L.next-fit _ _ _ _ _ _ _ _ _ _ _ (at-token .token .ensures) (at-if2 .if2 .taken) (at-at-comma .at-comma .ensures) (at-judged .judged .ensures)
+          (at-if3 .if3 .taken) _ _ _ _ (at-expression .expression .ensures) (at-if4 .if4 .taken) _ (at-next-given .next-given .ensures) (at-pre .pre .1),
+    )
 
 more-returns-2 : (t : ℕ) → more-lts.Need-returns-2 (more-claims t) (more-at t) more.Post
-more-returns-2 t c = L.more-next _ _ _ _ _ _ _ _ _ _ _ (c .before .before .before .before .before .before .before .before .before .before .before .before .before .before .before .before .before .token .ensures) (c .before .before .before .before .before .before .before .before .before .before .before .before .before .before .before .if2 .taken) (c .before .before .before .before .before .before .before .before .before .before .before .before .before .before .at-comma .ensures) (c .before .before .before .before .before .before .before .before .before .before .before .before .before .judged .ensures) (c .before .before .before .before .before .before .before .before .before .before .before .if3 .taken) _ _ _ _ (c .before .before .before .before .before .before .before .expression .ensures) (c .before .before .before .before .before .if4 .taken) _ (c .before .before .before .before .next-given .ensures) (c .more .ensures)
+more-returns-2 t c =
+    let at-next-given = c .before .before .before .before in
+    let at-if4 = at-next-given .before in
+    let at-expression = at-if4 .before .before in
+    let at-if3 = at-expression .before .before .before .before in
+    let at-judged = at-if3 .before .before in
+    let at-at-comma = at-judged .before in
+    let at-if2 = at-at-comma .before in
+    let at-token = at-if2 .before .before in
+    L.more-next _ _ _ _ _ _ _ _ _ _ _ (at-token .token .ensures) (at-if2 .if2 .taken) (at-at-comma .at-comma .ensures) (at-judged .judged .ensures)
+    (at-if3 .if3 .taken) _ _ _ _ (at-expression .expression .ensures) (at-if4 .if4 .taken) _ (at-next-given .next-given .ensures) (c .more .ensures)
 
 more-returns-3 : (t : ℕ) → more-lts.Need-returns-3 (more-claims t) (more-at t) more.Post
-more-returns-3 t c = L.more-next-refused _ _ _ _ _ _ _ _ _ _ _ (c .before .before .before .before .before .before .before .before .before .before .before .before .token .ensures) (c .before .before .before .before .before .before .before .before .before .before .if2 .taken) (c .before .before .before .before .before .before .before .before .before .at-comma .ensures) (c .before .before .before .before .before .before .before .before .judged .ensures) (c .before .before .before .before .before .before .if3 .taken) _ _ _ _ (c .before .before .expression .ensures) (c .if4 .left)
+more-returns-3 t c =
+    let at-expression = c .before .before in
+    let at-if3 = at-expression .before .before .before .before in
+    let at-judged = at-if3 .before .before in
+    let at-at-comma = at-judged .before in
+    let at-if2 = at-at-comma .before in
+    let at-token = at-if2 .before .before in
+    L.more-next-refused _ _ _ _ _ _ _ _ _ _ _ (at-token .token .ensures) (at-if2 .if2 .taken) (at-at-comma .at-comma .ensures) (at-judged .judged .ensures)
+    (at-if3 .if3 .taken) _ _ _ _ (at-expression .expression .ensures) (c .if4 .left)
 
 more-returns-4 : (t : ℕ) → more-lts.Need-returns-4 (more-claims t) (more-at t) more.Post
-more-returns-4 t c = L.comma-refused _ _ _ _ _ _ _ _ _ _ _ (c .before .before .before .before .before .before .token .ensures) (c .before .before .before .before .if2 .taken) (c .before .before .before .at-comma .ensures) (c .before .before .judged .ensures) (c .if3 .left)
+more-returns-4 t c =
+    let at-judged = c .before .before in
+    let at-at-comma = at-judged .before in
+    let at-if2 = at-at-comma .before in
+    let at-token = at-if2 .before .before in
+    L.comma-refused _ _ _ _ _ _ _ _ _ _ _ (at-token .token .ensures) (at-if2 .if2 .taken) (at-at-comma .at-comma .ensures) (at-judged .judged .ensures)
+    (c .if3 .left)
 
 more-refused-requires : (t : ℕ) → more-lts.Need-refused-requires (more-claims t) (more-at t) more.Post
 more-refused-requires t c κs = search needs
@@ -354,19 +532,49 @@ read-bracket-add-expression : (t : ℕ) → read-bracket-lts.Need-add-expression
 read-bracket-add-expression t c = omega (arith, c .before .before .before .before .before .pre .1 .fit .marks)
 
 read-bracket-expression-requires : (t : ℕ) → read-bracket-lts.Need-expression-requires (read-bracket-claims t) (read-bracket-at t) read-bracket.Post
-read-bracket-expression-requires t c κs = (omega (arith, c .before .before .before .before .before .before .before .before .pre .0, L.bracket-less _ _ _ _ _ _ _ _ _ _ (c .before .before .before .before .before .before .before .before .pre .1) (c .before .before .before .before .before .before .at-bracket .ensures) (c .before .before .before .before .before .judged .ensures) (c .before .before .before .if1 .taken)), L.bracket-fit _ _ _ _ _ _ _ _ _ _ (c .before .before .before .before .before .before .before .before .pre .1) (c .before .before .before .before .before .before .at-bracket .ensures) (c .before .before .before .before .before .judged .ensures) (c .before .before .before .if1 .taken))
+read-bracket-expression-requires t c κs =
+    let at-if1 = c .before .before .before in
+    let at-judged = at-if1 .before .before in
+    let at-at-bracket = at-judged .before in
+    let at-pre = at-at-bracket .before .before in (
+      omega (
+        arith,
+        at-pre .pre .0,
+        L.bracket-less _ _ _ _ _ _ _ _ _ _ (at-pre .pre .1) (at-at-bracket .at-bracket .ensures) (at-judged .judged .ensures) (at-if1 .if1 .taken),
+      ),
+      L.bracket-fit _ _ _ _ _ _ _ _ _ _ (at-pre .pre .1) (at-at-bracket .at-bracket .ensures) (at-judged .judged .ensures) (at-if1 .if1 .taken),
+    )
 
 read-bracket-need-requires : (t : ℕ) → read-bracket-lts.Need-need-requires (read-bracket-claims t) (read-bracket-at t) read-bracket.Post
 read-bracket-need-requires t c κs = search needs
 
 read-bracket-returns : (t : ℕ) → read-bracket-lts.Need-returns (read-bracket-claims t) (read-bracket-at t) read-bracket.Post
-read-bracket-returns t c = L.bracket-read _ _ _ _ _ _ _ _ _ _ (c .before .before .before .before .before .before .before .before .before .before .before .before .pre .1) (c .before .before .before .before .before .before .before .before .before .before .at-bracket .ensures) (c .before .before .before .before .before .before .before .before .before .judged .ensures) (c .before .before .before .before .before .before .before .if1 .taken) _ _ _ _ (c .before .before .before .expression .ensures) _ (c .before .if2 .taken) (c .need .ensures)
+read-bracket-returns t c =
+    let at-if2 = c .before in
+    let at-expression = at-if2 .before .before in
+    let at-if1 = at-expression .before .before .before .before in
+    let at-judged = at-if1 .before .before in
+    let at-at-bracket = at-judged .before in
+    let at-pre = at-at-bracket .before .before in
+    L.bracket-read _ _ _ _ _ _ _ _ _ _ (at-pre .pre .1) (at-at-bracket .at-bracket .ensures) (at-judged .judged .ensures) (at-if1 .if1 .taken) _ _ _ _
+    (at-expression .expression .ensures) _ (at-if2 .if2 .taken) (c .need .ensures)
 
 read-bracket-returns-2 : (t : ℕ) → read-bracket-lts.Need-returns-2 (read-bracket-claims t) (read-bracket-at t) read-bracket.Post
-read-bracket-returns-2 t c = L.bracketed-refused _ _ _ _ _ _ _ _ _ _ (c .before .before .before .before .before .before .before .before .before .before .before .pre .1) (c .before .before .before .before .before .before .before .before .before .at-bracket .ensures) (c .before .before .before .before .before .before .before .before .judged .ensures) (c .before .before .before .before .before .before .if1 .taken) _ _ _ _ (c .before .before .expression .ensures) (c .if2 .left)
+read-bracket-returns-2 t c =
+    let at-expression = c .before .before in
+    let at-if1 = at-expression .before .before .before .before in
+    let at-judged = at-if1 .before .before in
+    let at-at-bracket = at-judged .before in
+    let at-pre = at-at-bracket .before .before in
+    L.bracketed-refused _ _ _ _ _ _ _ _ _ _ (at-pre .pre .1) (at-at-bracket .at-bracket .ensures) (at-judged .judged .ensures) (at-if1 .if1 .taken) _ _ _ _
+    (at-expression .expression .ensures) (c .if2 .left)
 
 read-bracket-returns-3 : (t : ℕ) → read-bracket-lts.Need-returns-3 (read-bracket-claims t) (read-bracket-at t) read-bracket.Post
-read-bracket-returns-3 t c = L.bracket-refused _ _ _ _ _ _ _ _ _ _ (c .before .before .before .before .before .pre .1) (c .before .before .before .at-bracket .ensures) (c .before .before .judged .ensures) (c .if1 .left)
+read-bracket-returns-3 t c =
+    let at-judged = c .before .before in
+    let at-at-bracket = at-judged .before in
+    let at-pre = at-at-bracket .before .before in
+    L.bracket-refused _ _ _ _ _ _ _ _ _ _ (at-pre .pre .1) (at-at-bracket .at-bracket .ensures) (at-judged .judged .ensures) (c .if1 .left)
 
 abbrev read-lambda-claims : ℕ → read-lambda-lts.Claims
 read-lambda-claims t =
@@ -376,28 +584,75 @@ read-lambda-lambda-head-requires : (t : ℕ) → read-lambda-lts.Need-lambda-hea
 read-lambda-lambda-head-requires t c κs = (c .before .before .pre .1 .fit .parts, omega (arith, c .before .before .pre .1 .fit .depth, c .before .before .pre .1 .fit .marks))
 
 read-lambda-enter-requires : (t : ℕ) → read-lambda-lts.Need-enter-requires (read-lambda-claims t) (read-lambda-at t) read-lambda.Post
-read-lambda-enter-requires t c κs = L.lambda-deep _ _ _ _ _ _ _ _ _ (c .before .before .before .before .before .before .pre .1) (c .before .before .before .lambda-head .ensures) (c .before .if1 .taken)
+read-lambda-enter-requires t c κs =
+    let at-if1 = c .before in
+    let at-lambda-head = at-if1 .before .before in
+    let at-pre = at-lambda-head .before .before .before in
+    L.lambda-deep _ _ _ _ _ _ _ _ _ (at-pre .pre .1) (at-lambda-head .lambda-head .ensures) (at-if1 .if1 .taken)
 
 read-lambda-add-expression : (t : ℕ) → read-lambda-lts.Need-add-expression (read-lambda-claims t) (read-lambda-at t) read-lambda.Post
 read-lambda-add-expression t c = omega (arith, c .before .before .before .before .before .before .before .pre .1 .fit .marks)
 
 read-lambda-add-expression-2 : (t : ℕ) → read-lambda-lts.Need-add-expression-2 (read-lambda-claims t) (read-lambda-at t) read-lambda.Post
-read-lambda-add-expression-2 t c = omega (arith, c .before .before .before .before .before .before .before .pre .1 .fit .depth, c .before .before .before .before .before .before .before .pre .1 .fit .marks)
+read-lambda-add-expression-2 t c =
+    let at-pre = c .before .before .before .before .before .before .before in
+    omega (arith, at-pre .pre .1 .fit .depth, at-pre .pre .1 .fit .marks)
 
 read-lambda-expression-requires : (t : ℕ) → read-lambda-lts.Need-expression-requires (read-lambda-claims t) (read-lambda-at t) read-lambda.Post
-read-lambda-expression-requires t c κs = (omega (arith, c .before .before .before .before .before .before .before .before .before .before .pre .0, L.lambda-less _ _ _ _ _ _ _ _ _ (c .before .before .before .before .before .before .before .before .before .before .pre .1) (c .before .before .before .before .before .before .before .lambda-head .ensures) (c .before .before .before .before .before .if1 .taken)), L.lambda-fit _ _ _ _ _ _ _ _ _ (c .before .before .before .before .before .before .before .before .before .before .pre .1) (c .before .before .before .before .before .before .before .lambda-head .ensures) (c .before .before .before .before .before .if1 .taken) _ (c .before .before .before .enter .ensures))
+read-lambda-expression-requires t c κs =
+    let at-enter = c .before .before .before in
+    let at-if1 = at-enter .before .before in
+    let at-lambda-head = at-if1 .before .before in
+    let at-pre = at-lambda-head .before .before .before in (
+      omega (arith, at-pre .pre .0, L.lambda-less _ _ _ _ _ _ _ _ _ (at-pre .pre .1) (at-lambda-head .lambda-head .ensures) (at-if1 .if1 .taken)),
+      L.lambda-fit _ _ _ _ _ _ _ _ _ (at-pre .pre .1) (at-lambda-head .lambda-head .ensures) (at-if1 .if1 .taken) _ (at-enter .enter .ensures),
+    )
 
 read-lambda-add-put : (t : ℕ) → read-lambda-lts.Need-add-put (read-lambda-claims t) (read-lambda-at t) read-lambda.Post
-read-lambda-add-put t c = omega (arith, L.lambda-root _ _ _ _ _ _ _ _ _ (c .before .before .before .before .before .before .before .before .before .before .before .before .before .before .pre .1) (c .before .before .before .before .before .before .before .before .before .before .before .lambda-head .ensures) (c .before .before .before .before .before .before .before .before .before .if1 .taken) _ (c .before .before .before .before .before .before .before .enter .ensures) _ _ _ _ (c .before .before .before .expression .ensures) (c .before .if2 .taken))
+read-lambda-add-put t c =
+    let at-if2 = c .before in
+    let at-expression = at-if2 .before .before in
+    let at-enter = at-expression .before .before .before .before in
+    let at-if1 = at-enter .before .before in
+    let at-lambda-head = at-if1 .before .before in
+    let at-pre = at-lambda-head .before .before .before in
+    omega (
+      arith,
+      L.lambda-root _ _ _ _ _ _ _ _ _ (at-pre .pre .1) (at-lambda-head .lambda-head .ensures) (at-if1 .if1 .taken) _ (at-enter .enter .ensures) _ _ _ _
+          (at-expression .expression .ensures) (at-if2 .if2 .taken),
+    )
 
 read-lambda-put-requires : (t : ℕ) → read-lambda-lts.Need-put-requires (read-lambda-claims t) (read-lambda-at t) read-lambda.Post
-read-lambda-put-requires t c κs = L.lambda-room _ _ _ _ _ _ _ _ _ (c .before .before .before .before .before .before .before .before .before .before .before .before .before .before .before .before .pre .1) (c .before .before .before .before .before .before .before .before .before .before .before .before .before .lambda-head .ensures) (c .before .before .before .before .before .before .before .before .before .before .before .if1 .taken) _ (c .before .before .before .before .before .before .before .before .before .enter .ensures) _ _ _ _ (c .before .before .before .before .before .expression .ensures) (c .before .before .before .if2 .taken)
+read-lambda-put-requires t c κs =
+    let at-if2 = c .before .before .before in
+    let at-expression = at-if2 .before .before in
+    let at-enter = at-expression .before .before .before .before in
+    let at-if1 = at-enter .before .before in
+    let at-lambda-head = at-if1 .before .before in
+    let at-pre = at-lambda-head .before .before .before in
+    L.lambda-room _ _ _ _ _ _ _ _ _ (at-pre .pre .1) (at-lambda-head .lambda-head .ensures) (at-if1 .if1 .taken) _ (at-enter .enter .ensures) _ _ _ _
+    (at-expression .expression .ensures) (at-if2 .if2 .taken)
 
 read-lambda-returns : (t : ℕ) → read-lambda-lts.Need-returns (read-lambda-claims t) (read-lambda-at t) read-lambda.Post
-read-lambda-returns t c = L.lambda-read _ _ _ _ _ _ _ _ _ (c .before .before .before .before .before .before .before .before .before .before .before .before .before .before .before .before .before .pre .1) (c .before .before .before .before .before .before .before .before .before .before .before .before .before .before .lambda-head .ensures) (c .before .before .before .before .before .before .before .before .before .before .before .before .if1 .taken) _ (c .before .before .before .before .before .before .before .before .before .before .enter .ensures) _ _ _ _ (c .before .before .before .before .before .before .expression .ensures) (c .before .before .before .before .if2 .taken) (c .put .ensures)
+read-lambda-returns t c =
+    let at-if2 = c .before .before .before .before in
+    let at-expression = at-if2 .before .before in
+    let at-enter = at-expression .before .before .before .before in
+    let at-if1 = at-enter .before .before in
+    let at-lambda-head = at-if1 .before .before in
+    let at-pre = at-lambda-head .before .before .before in
+    L.lambda-read _ _ _ _ _ _ _ _ _ (at-pre .pre .1) (at-lambda-head .lambda-head .ensures) (at-if1 .if1 .taken) _ (at-enter .enter .ensures) _ _ _ _
+    (at-expression .expression .ensures) (at-if2 .if2 .taken) (c .put .ensures)
 
 read-lambda-returns-2 : (t : ℕ) → read-lambda-lts.Need-returns-2 (read-lambda-claims t) (read-lambda-at t) read-lambda.Post
-read-lambda-returns-2 t c = L.lambda-body-refused _ _ _ _ _ _ _ _ _ (c .before .before .before .before .before .before .before .before .before .before .before .before .before .pre .1) (c .before .before .before .before .before .before .before .before .before .before .lambda-head .ensures) (c .before .before .before .before .before .before .before .before .if1 .taken) _ (c .before .before .before .before .before .before .enter .ensures) _ _ _ _ (c .before .before .expression .ensures) (c .if2 .left)
+read-lambda-returns-2 t c =
+    let at-expression = c .before .before in
+    let at-enter = at-expression .before .before .before .before in
+    let at-if1 = at-enter .before .before in
+    let at-lambda-head = at-if1 .before .before in
+    let at-pre = at-lambda-head .before .before .before in
+    L.lambda-body-refused _ _ _ _ _ _ _ _ _ (at-pre .pre .1) (at-lambda-head .lambda-head .ensures) (at-if1 .if1 .taken) _ (at-enter .enter .ensures)
+    _ _ _ _ (at-expression .expression .ensures) (c .if2 .left)
 
 read-lambda-returns-3 : (t : ℕ) → read-lambda-lts.Need-returns-3 (read-lambda-claims t) (read-lambda-at t) read-lambda.Post
 read-lambda-returns-3 t c = L.lambda-head-refused _ _ _ _ _ _ _ _ _ (c .before .before .before .before .before .pre .1) (c .before .before .lambda-head .ensures) (c .if1 .left)
@@ -413,7 +668,13 @@ read-let-add-expression : (t : ℕ) → read-let-lts.Need-add-expression (read-l
 read-let-add-expression t c = omega (arith, c .before .before .before .before .pre .1 .fit .marks)
 
 read-let-expression-requires : (t : ℕ) → read-let-lts.Need-expression-requires (read-let-claims t) (read-let-at t) read-let.Post
-read-let-expression-requires t c κs = (omega (arith, c .before .before .before .before .before .before .before .pre .0, L.let-less _ _ _ _ _ _ _ _ _ (c .before .before .before .before .before .before .before .pre .1) (c .before .before .before .before .before .let-head .ensures) (c .before .before .before .if1 .taken)), L.let-value-fit _ _ _ _ _ _ _ _ _ (c .before .before .before .before .before .before .before .pre .1) (c .before .before .before .before .before .let-head .ensures) (c .before .before .before .if1 .taken))
+read-let-expression-requires t c κs =
+    let at-if1 = c .before .before .before in
+    let at-let-head = at-if1 .before .before in
+    let at-pre = at-let-head .before .before in (
+      omega (arith, at-pre .pre .0, L.let-less _ _ _ _ _ _ _ _ _ (at-pre .pre .1) (at-let-head .let-head .ensures) (at-if1 .if1 .taken)),
+      L.let-value-fit _ _ _ _ _ _ _ _ _ (at-pre .pre .1) (at-let-head .let-head .ensures) (at-if1 .if1 .taken),
+    )
 
 read-let-need-requires : (t : ℕ) → read-let-lts.Need-need-requires (read-let-claims t) (read-let-at t) read-let.Post
 read-let-need-requires t c κs = search needs
@@ -422,34 +683,125 @@ read-let-cast-enter : (t : ℕ) → read-let-lts.Need-cast-enter (read-let-claim
 read-let-cast-enter t c = search needs
 
 read-let-add-enter : (t : ℕ) → read-let-lts.Need-add-enter (read-let-claims t) (read-let-at t) read-let.Post
-read-let-add-enter t c = omega (arith, L.root-few _ _ _ _ _ _ _ _ _ _ (c .before .before .before .before .before .before .expression .ensures) (c .before .before .before .before .if2 .taken) ((L.let-value-fit _ _ _ _ _ _ _ _ _ (c .before .before .before .before .before .before .before .before .before .before .before .before .before .before .pre .1) (c .before .before .before .before .before .before .before .before .before .before .before .before .let-head .ensures) (c .before .before .before .before .before .before .before .before .before .before .if1 .taken)) .fit))
+read-let-add-enter t c =
+    let at-if2 = c .before .before .before .before in
+    let at-expression = at-if2 .before .before in
+    let at-if1 = at-expression .before .before .before .before in
+    let at-let-head = at-if1 .before .before in
+    let at-pre = at-let-head .before .before in
+    omega (
+      arith,
+      L.root-few _ _ _ _ _ _ _ _ _ _ (at-expression .expression .ensures) (at-if2 .if2 .taken)
+          ((L.let-value-fit _ _ _ _ _ _ _ _ _ (at-pre .pre .1) (at-let-head .let-head .ensures) (at-if1 .if1 .taken)) .fit),
+    )
 
 read-let-enter-requires : (t : ℕ) → read-let-lts.Need-enter-requires (read-let-claims t) (read-let-at t) read-let.Post
-read-let-enter-requires t c κs = L.let-deep _ _ _ _ _ _ _ _ _ (c .before .before .before .before .before .before .before .before .before .before .before .before .before .before .before .pre .1) (c .before .before .before .before .before .before .before .before .before .before .before .before .before .let-head .ensures) (c .before .before .before .before .before .before .before .before .before .before .before .if1 .taken)
+read-let-enter-requires t c κs =
+    let at-if1 = c .before .before .before .before .before .before .before .before .before .before .before in
+    let at-let-head = at-if1 .before .before in
+    let at-pre = at-let-head .before .before in
+    L.let-deep _ _ _ _ _ _ _ _ _ (at-pre .pre .1) (at-let-head .let-head .ensures) (at-if1 .if1 .taken)
 
 read-let-add-expression-2 : (t : ℕ) → read-let-lts.Need-add-expression-2 (read-let-claims t) (read-let-at t) read-let.Post
 read-let-add-expression-2 t c = omega (arith, c .before .before .before .before .before .before .before .before .before .before .before .before .before .before .before .before .pre .1 .fit .marks)
 
 read-let-add-expression-3 : (t : ℕ) → read-let-lts.Need-add-expression-3 (read-let-claims t) (read-let-at t) read-let.Post
-read-let-add-expression-3 t c = omega (arith, c .before .before .before .before .before .before .before .before .before .before .before .before .before .before .before .before .pre .1 .fit .depth, c .before .before .before .before .before .before .before .before .before .before .before .before .before .before .before .before .pre .1 .fit .marks)
+read-let-add-expression-3 t c =
+    let at-pre = c .before .before .before .before .before .before .before .before .before .before .before .before .before .before .before .before in
+    omega (arith, at-pre .pre .1 .fit .depth, at-pre .pre .1 .fit .marks)
 
 read-let-expression-requires-2 : (t : ℕ) → read-let-lts.Need-expression-requires-2 (read-let-claims t) (read-let-at t) read-let.Post
-read-let-expression-requires-2 t c κs = (omega (arith, c .before .before .before .before .before .before .before .before .before .before .before .before .before .before .before .before .before .before .before .pre .0, L.let-less _ _ _ _ _ _ _ _ _ (c .before .before .before .before .before .before .before .before .before .before .before .before .before .before .before .before .before .before .before .pre .1) (c .before .before .before .before .before .before .before .before .before .before .before .before .before .before .before .before .before .let-head .ensures) (c .before .before .before .before .before .before .before .before .before .before .before .before .before .before .before .if1 .taken), L.read-less _ _ _ _ _ _ _ _ _ _ (c .before .before .before .before .before .before .before .before .before .before .before .expression .ensures) (c .before .before .before .before .before .before .before .before .before .if2 .taken), L.need-less _ _ _ _ (omega arith) (c .before .before .before .before .before .before .before .before .need .ensures) (c .before .before .before .before .before .before .if3 .taken)), L.let-body-fit _ _ _ _ _ _ _ _ _ (c .before .before .before .before .before .before .before .before .before .before .before .before .before .before .before .before .before .before .before .pre .1) (c .before .before .before .before .before .before .before .before .before .before .before .before .before .before .before .before .before .let-head .ensures) (c .before .before .before .before .before .before .before .before .before .before .before .before .before .before .before .if1 .taken) _ _ _ _ (c .before .before .before .before .before .before .before .before .before .before .before .expression .ensures) _ (c .before .before .before .before .before .before .before .before .before .if2 .taken) (c .before .before .before .before .before .before .before .before .need .ensures) (c .before .before .before .before .before .before .if3 .taken) _ (c .before .before .before .enter .ensures))
+read-let-expression-requires-2 t c κs =
+    let at-enter = c .before .before .before in
+    let at-if3 = at-enter .before .before .before in
+    let at-need = at-if3 .before .before in
+    let at-if2 = at-need .before in
+    let at-expression = at-if2 .before .before in
+    let at-if1 = at-expression .before .before .before .before in
+    let at-let-head = at-if1 .before .before in
+    let at-pre = at-let-head .before .before in (
+      omega (
+        arith,
+        at-pre .pre .0,
+        L.let-less _ _ _ _ _ _ _ _ _ (at-pre .pre .1) (at-let-head .let-head .ensures) (at-if1 .if1 .taken),
+        L.read-less _ _ _ _ _ _ _ _ _ _ (at-expression .expression .ensures) (at-if2 .if2 .taken),
+        L.need-less _ _ _ _ (omega arith) (at-need .need .ensures) (at-if3 .if3 .taken),
+      ),
+      L.let-body-fit _ _ _ _ _ _ _ _ _ (at-pre .pre .1) (at-let-head .let-head .ensures) (at-if1 .if1 .taken) _ _ _ _ (at-expression .expression .ensures) _
+          (at-if2 .if2 .taken) (at-need .need .ensures) (at-if3 .if3 .taken) _ (at-enter .enter .ensures),
+    )
 
 read-let-mark-requires : (t : ℕ) → read-let-lts.Need-mark-requires (read-let-claims t) (read-let-at t) read-let.Post
-read-let-mark-requires t c κs = (L.let-place _ _ _ _ _ _ _ _ _ (c .before .before .before .before .before .before .before .before .before .before .before .before .before .before .before .before .before .before .before .before .before .before .before .pre .1) (c .before .before .before .before .before .before .before .before .before .before .before .before .before .before .before .before .before .before .before .before .before .let-head .ensures) (c .before .before .before .before .before .before .before .before .before .before .before .before .before .before .before .before .before .before .before .if1 .taken), omega (arith, L.let-root _ _ _ _ _ _ _ _ _ (c .before .before .before .before .before .before .before .before .before .before .before .before .before .before .before .before .before .before .before .before .before .before .before .pre .1) (c .before .before .before .before .before .before .before .before .before .before .before .before .before .before .before .before .before .before .before .before .before .let-head .ensures) (c .before .before .before .before .before .before .before .before .before .before .before .before .before .before .before .before .before .before .before .if1 .taken) _ _ _ _ (c .before .before .before .before .before .before .before .before .before .before .before .before .before .before .before .expression .ensures) _ (c .before .before .before .before .before .before .before .before .before .before .before .before .before .if2 .taken) (c .before .before .before .before .before .before .before .before .before .before .before .before .need .ensures) (c .before .before .before .before .before .before .before .before .before .before .if3 .taken) _ (c .before .before .before .before .before .before .before .enter .ensures) _ _ _ _ (c .before .before .before .expression2 .ensures) (c .before .if4 .taken)))
+read-let-mark-requires t c κs =
+    let at-if4 = c .before in
+    let at-expression2 = at-if4 .before .before in
+    let at-enter = at-expression2 .before .before .before .before in
+    let at-if3 = at-enter .before .before .before in
+    let at-need = at-if3 .before .before in
+    let at-if2 = at-need .before in
+    let at-expression = at-if2 .before .before in
+    let at-if1 = at-expression .before .before .before .before in
+    let at-let-head = at-if1 .before .before in
+    let at-pre = at-let-head .before .before in (
+      L.let-place _ _ _ _ _ _ _ _ _ (at-pre .pre .1) (at-let-head .let-head .ensures) (at-if1 .if1 .taken),
+      omega (
+        arith,
+        L.let-root _ _ _ _ _ _ _ _ _ (at-pre .pre .1) (at-let-head .let-head .ensures) (at-if1 .if1 .taken) _ _ _ _ (at-expression .expression .ensures) _
+            (at-if2 .if2 .taken) (at-need .need .ensures) (at-if3 .if3 .taken) _ (at-enter .enter .ensures) _ _ _ _ (at-expression2 .expression2 .ensures)
+            (at-if4 .if4 .taken),
+      ),
+    )
 
 read-let-returns : (t : ℕ) → read-let-lts.Need-returns (read-let-claims t) (read-let-at t) read-let.Post
-read-let-returns t c = L.let-read _ _ _ _ _ _ _ _ _ (c .before .before .before .before .before .before .before .before .before .before .before .before .before .before .before .before .before .before .before .before .before .before .before .before .pre .1) (c .before .before .before .before .before .before .before .before .before .before .before .before .before .before .before .before .before .before .before .before .before .before .let-head .ensures) (c .before .before .before .before .before .before .before .before .before .before .before .before .before .before .before .before .before .before .before .before .if1 .taken) _ _ _ _ (c .before .before .before .before .before .before .before .before .before .before .before .before .before .before .before .before .expression .ensures) _ (c .before .before .before .before .before .before .before .before .before .before .before .before .before .before .if2 .taken) (c .before .before .before .before .before .before .before .before .before .before .before .before .before .need .ensures) (c .before .before .before .before .before .before .before .before .before .before .before .if3 .taken) _ (c .before .before .before .before .before .before .before .before .enter .ensures) _ _ _ _ (c .before .before .before .before .expression2 .ensures) (c .before .before .if4 .taken) _ (c .mark .ensures)
+read-let-returns t c =
+    let at-if4 = c .before .before in
+    let at-expression2 = at-if4 .before .before in
+    let at-enter = at-expression2 .before .before .before .before in
+    let at-if3 = at-enter .before .before .before in
+    let at-need = at-if3 .before .before in
+    let at-if2 = at-need .before in
+    let at-expression = at-if2 .before .before in
+    let at-if1 = at-expression .before .before .before .before in
+    let at-let-head = at-if1 .before .before in
+    let at-pre = at-let-head .before .before in
+    L.let-read _ _ _ _ _ _ _ _ _ (at-pre .pre .1) (at-let-head .let-head .ensures) (at-if1 .if1 .taken) _ _ _ _ (at-expression .expression .ensures) _
+    (at-if2 .if2 .taken) (at-need .need .ensures) (at-if3 .if3 .taken) _ (at-enter .enter .ensures) _ _ _ _ (at-expression2 .expression2 .ensures)
+    (at-if4 .if4 .taken) _ (c .mark .ensures)
 
 read-let-returns-2 : (t : ℕ) → read-let-lts.Need-returns-2 (read-let-claims t) (read-let-at t) read-let.Post
-read-let-returns-2 t c = L.let-body-refused _ _ _ _ _ _ _ _ _ (c .before .before .before .before .before .before .before .before .before .before .before .before .before .before .before .before .before .before .before .before .before .before .pre .1) (c .before .before .before .before .before .before .before .before .before .before .before .before .before .before .before .before .before .before .before .before .let-head .ensures) (c .before .before .before .before .before .before .before .before .before .before .before .before .before .before .before .before .before .before .if1 .taken) _ _ _ _ (c .before .before .before .before .before .before .before .before .before .before .before .before .before .before .expression .ensures) _ (c .before .before .before .before .before .before .before .before .before .before .before .before .if2 .taken) (c .before .before .before .before .before .before .before .before .before .before .before .need .ensures) (c .before .before .before .before .before .before .before .before .before .if3 .taken) _ (c .before .before .before .before .before .before .enter .ensures) _ _ _ _ (c .before .before .expression2 .ensures) (c .if4 .left)
+read-let-returns-2 t c =
+    let at-expression2 = c .before .before in
+    let at-enter = at-expression2 .before .before .before .before in
+    let at-if3 = at-enter .before .before .before in
+    let at-need = at-if3 .before .before in
+    let at-if2 = at-need .before in
+    let at-expression = at-if2 .before .before in
+    let at-if1 = at-expression .before .before .before .before in
+    let at-let-head = at-if1 .before .before in
+    let at-pre = at-let-head .before .before in
+    L.let-body-refused _ _ _ _ _ _ _ _ _ (at-pre .pre .1) (at-let-head .let-head .ensures) (at-if1 .if1 .taken) _ _ _ _ (at-expression .expression .ensures)
+    _ (at-if2 .if2 .taken) (at-need .need .ensures) (at-if3 .if3 .taken) _ (at-enter .enter .ensures) _ _ _ _ (at-expression2 .expression2 .ensures)
+    (c .if4 .left)
 
 read-let-returns-3 : (t : ℕ) → read-let-lts.Need-returns-3 (read-let-claims t) (read-let-at t) read-let.Post
-read-let-returns-3 t c = L.let-in-refused _ _ _ _ _ _ _ _ _ (c .before .before .before .before .before .before .before .before .before .before .before .before .before .pre .1) (c .before .before .before .before .before .before .before .before .before .before .before .let-head .ensures) (c .before .before .before .before .before .before .before .before .before .if1 .taken) _ _ _ _ (c .before .before .before .before .before .expression .ensures) _ (c .before .before .before .if2 .taken) (c .before .before .need .ensures) (c .if3 .left)
+read-let-returns-3 t c =
+    let at-need = c .before .before in
+    let at-if2 = at-need .before in
+    let at-expression = at-if2 .before .before in
+    let at-if1 = at-expression .before .before .before .before in
+    let at-let-head = at-if1 .before .before in
+    let at-pre = at-let-head .before .before in
+    L.let-in-refused _ _ _ _ _ _ _ _ _ (at-pre .pre .1) (at-let-head .let-head .ensures) (at-if1 .if1 .taken) _ _ _ _ (at-expression .expression .ensures) _
+    (at-if2 .if2 .taken) (at-need .need .ensures) (c .if3 .left)
 
 read-let-returns-4 : (t : ℕ) → read-let-lts.Need-returns-4 (read-let-claims t) (read-let-at t) read-let.Post
-read-let-returns-4 t c = L.let-value-refused _ _ _ _ _ _ _ _ _ (c .before .before .before .before .before .before .before .before .before .before .pre .1) (c .before .before .before .before .before .before .before .before .let-head .ensures) (c .before .before .before .before .before .before .if1 .taken) _ _ _ _ (c .before .before .expression .ensures) (c .if2 .left)
+read-let-returns-4 t c =
+    let at-expression = c .before .before in
+    let at-if1 = at-expression .before .before .before .before in
+    let at-let-head = at-if1 .before .before in
+    let at-pre = at-let-head .before .before in
+    L.let-value-refused _ _ _ _ _ _ _ _ _ (at-pre .pre .1) (at-let-head .let-head .ensures) (at-if1 .if1 .taken) _ _ _ _
+    (at-expression .expression .ensures) (c .if2 .left)
 
 read-let-returns-5 : (t : ℕ) → read-let-lts.Need-returns-5 (read-let-claims t) (read-let-at t) read-let.Post
 read-let-returns-5 t c = L.let-head-refused _ _ _ _ _ _ _ _ _ (c .before .before .before .before .pre .1) (c .before .before .let-head .ensures) (c .if1 .left)

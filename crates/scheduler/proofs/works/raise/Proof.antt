@@ -9,10 +9,24 @@ is-below-requires : tie.Need-is-below-requires
 is-below-requires c κs = search choosing
 
 sub-flags : tie.Need-sub-flags
-sub-flags c = omega (arith, below-one (c .before .before .args .link) (c .before .before .args .j) (c .before .is-below .result) (c .before .is-below .ensures) (c .if1 .taken), below-most (c .before .before .args .link) (c .before .before .args .j) (c .before .is-below .result) (c .before .is-below .ensures) (c .if1 .taken))
+sub-flags c =
+    let at-is-below = c .before in
+    let at-args = at-is-below .before in
+    omega (
+      arith,
+      below-one (at-args .args .link) (at-args .args .j) (at-is-below .is-below .result) (at-is-below .is-below .ensures) (c .if1 .taken),
+      below-most (at-args .args .link) (at-args .args .j) (at-is-below .is-below .result) (at-is-below .is-below .ensures) (c .if1 .taken),
+    )
 
 element-write-flags : tie.Need-element-write-flags
-element-write-flags c = omega (arith, below-one (c .before .before .args .link) (c .before .before .args .j) (c .before .is-below .result) (c .before .is-below .ensures) (c .if1 .taken), below-most (c .before .before .args .link) (c .before .before .args .j) (c .before .is-below .result) (c .before .is-below .ensures) (c .if1 .taken))
+element-write-flags c =
+    let at-is-below = c .before in
+    let at-args = at-is-below .before in
+    omega (
+      arith,
+      below-one (at-args .args .link) (at-args .args .j) (at-is-below .is-below .result) (at-is-below .is-below .ensures) (c .if1 .taken),
+      below-most (at-args .args .link) (at-args .args .j) (at-is-below .is-below .result) (at-is-below .is-below .ensures) (c .if1 .taken),
+    )
 
 returns : tie.Need-returns
 returns c = search choosing

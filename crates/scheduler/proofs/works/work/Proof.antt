@@ -55,7 +55,11 @@ array-write-frame : tie.Need-array-write-frame Inv-loop μ-loop
 array-write-frame c = search needs
 
 add-count : tie.Need-add-count Inv-loop μ-loop
-add-count c = omega (arith, c .before .before .before .before .before .before .before .if2 .taken, c .before .before .before .before .before .before .before .before .before .before .before .before .before .before .before .before .before .before .before .before .before .before .before .before .fits .allowance)
+add-count c =
+    let at-if2 = c .before .before .before .before .before .before .before in
+    let at-loop = at-if2 .before .before .before .before .before .before in
+    let at-fits = at-loop .before .before .before .before .before .before .before .before .before .before .before in
+    omega (arith, at-if2 .if2 .taken, at-fits .fits .allowance)
 
 add-i : tie.Need-add-i Inv-loop μ-loop
 add-i c = search needs
@@ -64,7 +68,19 @@ loop-less : tie.Need-loop-less Inv-loop μ-loop
 loop-less c = search needs
 
 loop-again : tie.Need-loop-again Inv-loop μ-loop
-loop-again c = work-take (c .before .before .before .before .before .before .before .before .before .before .before .before .before .before .before .before .before .before .before .before .before .before .before .before .args .readings .now) (c .before .before .before .before .before .before .before .before .before .before .before .before .before .before .before .before .before .before .before .before .before .before .before .before .args .links .now) _ (c .before .before .before .before .before .before .before .before .before .before .before .before .before .before .before .before .before .before .before .before .before .before .before .before .args .n) (c .before .before .before .before .before .before .before .before .before .before .before .before .before .before .before .before .before .before .before .before .before .before .before .before .args .allowance) _ _ (c .before .before .before .before .before .before .before .before .before .before .before .before .before .loop .cells) (c .before .before .before .before .before .before .before .before .before .before .before .before .before .loop .frame) (c .before .before .before .before .before .before .before .before .before .before .before .before .before .loop .count) (c .before .before .before .before .before .before .before .before .before .before .before .before .before .loop .i) (c .before .before .before .before .before .before .before .before .before .before .before .before .before .loop .inv) (c .before .before .before .before .before .before .before .before .before .before .before .before .loop-test .taken) (c .before .before .before .before .before .before .before .before .before .chosen .result) (c .before .before .before .before .before .before .before .before .before .chosen .ensures) (c .before .before .before .before .apply .result) _ (c .before .before .before .before .before .before .before .before .if1 .taken) (c .before .before .before .before .before .before .before .if2 .taken) (omega (arith, c .before .before .before .before .before .before .before .before .before .before .before .before .loop-test .taken, c .before .before .before .before .before .before .before .before .before .before .before .before .before .before .before .before .before .before .before .before .before .before .before .before .pre .entry)) (c .before .before .before .before .apply .ensures) (c .before .before .keep .ensures)
+loop-again c =
+    let at-keep = c .before .before in
+    let at-apply = at-keep .before .before in
+    let at-if2 = at-apply .before .before .before in
+    let at-if1 = at-if2 .before in
+    let at-chosen = at-if1 .before in
+    let at-loop-test = at-chosen .before .before .before in
+    let at-loop = at-loop-test .before in
+    let at-start = at-loop .before .before .before .before .before .before .before .before .before .before .before in
+    work-take (at-start .args .readings .now) (at-start .args .links .now) _ (at-start .args .n) (at-start .args .allowance) _ _ (at-loop .loop .cells)
+    (at-loop .loop .frame) (at-loop .loop .count) (at-loop .loop .i) (at-loop .loop .inv) (at-loop-test .loop-test .taken) (at-chosen .chosen .result)
+    (at-chosen .chosen .ensures) (at-apply .apply .result) _ (at-if1 .if1 .taken) (at-if2 .if2 .taken)
+    (omega (arith, at-loop-test .loop-test .taken, at-start .pre .entry)) (at-apply .apply .ensures) (at-keep .keep .ensures)
 
 same-length : tie.Need-same-length Inv-loop μ-loop
 same-length c = search needs

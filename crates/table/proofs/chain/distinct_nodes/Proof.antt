@@ -11,7 +11,10 @@ use Rattle.table.proofs.chain.distinct_nodes.Statement.{statement}
 use Rattle.table.proofs.chain.distinct_nodes.Tie as tie
 
 abbrev Inv-loop : tie.InvT-loop
-Inv-loop links cells n fresh chain₀ i₀ chain i = (i ≤ n) × Chained (heldAt links cells n fresh) chain i × (allFrom (newAt (heldAt links cells n fresh)) n 0 ≡ allFrom (newAt (heldAt links cells n fresh)) (n - i) i)
+Inv-loop links cells n fresh chain₀ i₀ chain i =
+    (i ≤ n)
+    × Chained (heldAt links cells n fresh) chain i
+    × (allFrom (newAt (heldAt links cells n fresh)) n 0 ≡ allFrom (newAt (heldAt links cells n fresh)) (n - i) i)
 
 abbrev μ-loop : tie.MeasureT-loop
 μ-loop links cells n fresh chain₀ i₀ chain i = n - i

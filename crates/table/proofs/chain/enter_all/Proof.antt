@@ -32,7 +32,13 @@ loop-less : tie.Need-loop-less Inv-loop μ-loop
 loop-less c = search needs
 
 loop-again : tie.Need-loop-again Inv-loop μ-loop
-loop-again c = (search needs, chained-entered _ _ _ _ _ _ (c .enter .ensures) (c .before .hash .ensures) (c .before .before .before .held-at .ensures) (c .before .before .before .before .before .loop .inv .1) (search needs))
+loop-again c =
+    let at-hash = c .before in
+    let at-held-at = at-hash .before .before in
+    let at-loop = at-held-at .before .before in (
+      search needs,
+      chained-entered _ _ _ _ _ _ (c .enter .ensures) (at-hash .hash .ensures) (at-held-at .held-at .ensures) (at-loop .loop .inv .1) (search needs),
+    )
 
 returns : tie.Need-returns Inv-loop μ-loop
 returns c = search (needs, chained-done)

@@ -9,7 +9,10 @@ use Rattle.table.proofs.chain.seek.Statement.{statement}
 use Rattle.table.proofs.chain.seek.Tie as tie
 
 abbrev Inv-loop : tie.InvT-loop
-Inv-loop links cells count fresh chain total h x c₀ c = (lastSame (heldAt links cells count fresh) (shaped x) total ≡ lastSame (heldAt links cells count fresh) (shaped x) c) × (c ≡ latest (heldAt links cells count fresh) (hashOf (shaped x)) c) × (c ≤ total)
+Inv-loop links cells count fresh chain total h x c₀ c =
+    (lastSame (heldAt links cells count fresh) (shaped x) total ≡ lastSame (heldAt links cells count fresh) (shaped x) c)
+    × (c ≡ latest (heldAt links cells count fresh) (hashOf (shaped x)) c)
+    × (c ≤ total)
 
 abbrev μ-loop : tie.MeasureT-loop
 μ-loop links cells count fresh chain total h x c₀ c = c

@@ -8,13 +8,34 @@ is-below-requires : tie.Need-is-below-requires
 is-below-requires c κs = search waiting
 
 sub-result : tie.Need-sub-result
-sub-result c = omega (arith, below-one (c .before .before .args .link) (c .before .before .args .i) (c .before .is-below .result) (c .before .is-below .ensures) (c .if1 .taken), below-most (c .before .before .args .link) (c .before .before .args .i) (c .before .is-below .result) (c .before .is-below .ensures) (c .if1 .taken))
+sub-result c =
+    let at-is-below = c .before in
+    let at-args = at-is-below .before in
+    omega (
+      arith,
+      below-one (at-args .args .link) (at-args .args .i) (at-is-below .is-below .result) (at-is-below .is-below .ensures) (c .if1 .taken),
+      below-most (at-args .args .link) (at-args .args .i) (at-is-below .is-below .result) (at-is-below .is-below .ensures) (c .if1 .taken),
+    )
 
 mul-result : tie.Need-mul-result
-mul-result c = omega (arith, below-one (c .before .before .args .link) (c .before .before .args .i) (c .before .is-below .result) (c .before .is-below .ensures) (c .if1 .taken), below-most (c .before .before .args .link) (c .before .before .args .i) (c .before .is-below .result) (c .before .is-below .ensures) (c .if1 .taken))
+mul-result c =
+    let at-is-below = c .before in
+    let at-args = at-is-below .before in
+    omega (
+      arith,
+      below-one (at-args .args .link) (at-args .args .i) (at-is-below .is-below .result) (at-is-below .is-below .ensures) (c .if1 .taken),
+      below-most (at-args .args .link) (at-args .args .i) (at-is-below .is-below .result) (at-is-below .is-below .ensures) (c .if1 .taken),
+    )
 
 element-copy-out-result : tie.Need-element-copy-out-result
-element-copy-out-result c = omega (arith, below-one (c .before .before .args .link) (c .before .before .args .i) (c .before .is-below .result) (c .before .is-below .ensures) (c .if1 .taken), below-most (c .before .before .args .link) (c .before .before .args .i) (c .before .is-below .result) (c .before .is-below .ensures) (c .if1 .taken))
+element-copy-out-result c =
+    let at-is-below = c .before in
+    let at-args = at-is-below .before in
+    omega (
+      arith,
+      below-one (at-args .args .link) (at-args .args .i) (at-is-below .is-below .result) (at-is-below .is-below .ensures) (c .if1 .taken),
+      below-most (at-args .args .link) (at-args .args .i) (at-is-below .is-below .result) (at-is-below .is-below .ensures) (c .if1 .taken),
+    )
 
 returns : tie.Need-returns
 returns c = search waiting
