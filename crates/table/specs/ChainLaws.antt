@@ -354,4 +354,23 @@ module _ (links cells : List ℕ) (n : ℕ) (fresh : List ℕ) (i : ℕ) (all : 
   pub distinct-end : n ≤ i → true ≡ distinct (numbered (nodeAt links cells) 0 n)
   distinct-end h = all-end (newAt (heldAt links cells n fresh)) n i all h ∙ distinct-held links cells n fresh
 
-pub ruleset chains = (hash-low, entered-new, entered-old, entered-chain, entered-is, chained-start, distinct-stop, distinct-end, seek-start, seek-first, seek-low, seek-hit, seek-go, seek-next, seek-less, seek-lower, seek-end, chained-more)
+pub ruleset chains = (
+  hash-low,
+  entered-new,
+  entered-old,
+  entered-chain,
+  entered-is,
+  chained-start,
+  distinct-stop,
+  distinct-end,
+  seek-start,
+  seek-first,
+  seek-low,
+  seek-hit,
+  seek-go,
+  seek-next,
+  seek-less,
+  seek-lower,
+  seek-end,
+  chained-more,
+)

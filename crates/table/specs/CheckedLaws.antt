@@ -226,4 +226,22 @@ module _ (rs : List ℤ) (heads links cells : List ℕ) where
   pub well-entries : (n m : ℕ) (r : Bool) → r ≡ entriesRight links cells m n → n ≡ getD heads 0 0 → m ≡ getD heads 1 0 → n ≤ 512 → m ≤ 1024 → r ≡ wellFormed (memory rs heads links cells)
   well-entries n m r q p o h k = q ∙ sym (well-is ∙ rw (← p, ← o, le-leb n 512 h, le-leb m 1024 k))
 
-pub ruleset checks = (done-is, kids-none, kids-one, kids-two, names-function, names-delayed, names-none, kept-none, kept-some, kept-bad, entries-nodes, entries-twice, entries-many, entries-kept, well-count, well-readings, well-entries)
+pub ruleset checks = (
+  done-is,
+  kids-none,
+  kids-one,
+  kids-two,
+  names-function,
+  names-delayed,
+  names-none,
+  kept-none,
+  kept-some,
+  kept-bad,
+  entries-nodes,
+  entries-twice,
+  entries-many,
+  entries-kept,
+  well-count,
+  well-readings,
+  well-entries,
+)

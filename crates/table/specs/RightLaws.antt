@@ -198,6 +198,26 @@ unfolding allFrom
 all-of p zero i h = refl
 all-of p (suc n) i h = rw (h i (omega arith) (omega arith)) (all-of p n (suc i) (λ j k l. h j (omega arith) (omega arith)))
 
-pub ruleset entries = (arity-of, word-stop, word-go, word-fail, word-end, name-is, arity-function, arity-member, member-low, member-is, member-high, key-number, key-name, key-none, arity-zero, arity-one, arity-two, right-known, right-unknown)
+pub ruleset entries = (
+  arity-of,
+  word-stop,
+  word-go,
+  word-fail,
+  word-end,
+  name-is,
+  arity-function,
+  arity-member,
+  member-low,
+  member-is,
+  member-high,
+  key-number,
+  key-name,
+  key-none,
+  arity-zero,
+  arity-one,
+  arity-two,
+  right-known,
+  right-unknown,
+)
 
 pub ruleset loops = (all-start, all-go, all-stop, all-end)

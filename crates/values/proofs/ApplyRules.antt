@@ -153,4 +153,29 @@ module _ (m : Member) (xs : List ℤ) (v w : Value) (missing : Bool) (p : missin
             pub both-kinds : {r : Applied} → right′ ≡ true → r ≡ ruled1 m xs v w → r ≡ applied1 m xs v w
             both-kinds h e = e ∙ sym (by-kind ∙ simp (yes, ap (isKind w) (sym a′) ∙ sym t′ ∙ h))
 
-pub ruleset apply-rules = (needs, kind-test, window0, other0, numbers1, other-numbers1, window-number, window-function, window-other, number1, window1, other1, window-bounded, apply0-missing, apply0-delayed, apply0-rule, apply0-kind, first-missing, second-missing, first-delayed, second-delayed, first-kind, second-kind, both-kinds)
+pub ruleset apply-rules = (
+  needs,
+  kind-test,
+  window0,
+  other0,
+  numbers1,
+  other-numbers1,
+  window-number,
+  window-function,
+  window-other,
+  number1,
+  window1,
+  other1,
+  window-bounded,
+  apply0-missing,
+  apply0-delayed,
+  apply0-rule,
+  apply0-kind,
+  first-missing,
+  second-missing,
+  first-delayed,
+  second-delayed,
+  first-kind,
+  second-kind,
+  both-kinds,
+)

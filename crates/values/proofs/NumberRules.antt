@@ -113,4 +113,27 @@ pub others : (m : Member) (a b : ℤ) → OneOf rest (tag m) → Missing wrongKi
 unfolding onNumbers rule
 others m a b k = last-arm (λ j. onNumbers j a b) rest refl m k
 
-pub ruleset number-rules = (needs, below-range, above-range, inside-fits, inside-is, widens, divisor-bits, sum-fits, difference-fits, product-fits, quotient-fits, add-is, sub-is, mul-is, div-none, div-is, gt-yes, gt-no, eq-yes, eq-no, arm, others)
+pub ruleset number-rules = (
+  needs,
+  below-range,
+  above-range,
+  inside-fits,
+  inside-is,
+  widens,
+  divisor-bits,
+  sum-fits,
+  difference-fits,
+  product-fits,
+  quotient-fits,
+  add-is,
+  sub-is,
+  mul-is,
+  div-none,
+  div-is,
+  gt-yes,
+  gt-no,
+  eq-yes,
+  eq-no,
+  arm,
+  others,
+)

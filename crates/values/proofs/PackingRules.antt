@@ -94,4 +94,26 @@ module _ (c : ℕ) where
   pub from-missing : missingCell ≤ c → Missing (c % 256) ≡ unpackOf c
   from-missing h = sym (unpack-missing c h)
 
-pub ruleset packing-rules = (needs, widens, moved-fits, moved-cast, moved-next, pack-number, pack-window, pack-missing, down-fits, down-narrow, number-in-is, number-in-none, from-number, from-window, from-function, from-delayed, from-missing, test-number, test-window, test-between, test-missing)
+pub ruleset packing-rules = (
+  needs,
+  widens,
+  moved-fits,
+  moved-cast,
+  moved-next,
+  pack-number,
+  pack-window,
+  pack-missing,
+  down-fits,
+  down-narrow,
+  number-in-is,
+  number-in-none,
+  from-number,
+  from-window,
+  from-function,
+  from-delayed,
+  from-missing,
+  test-number,
+  test-window,
+  test-between,
+  test-missing,
+)

@@ -10,8 +10,8 @@ use lib.Dec.{ltb}
 use lib.IntN.{ℤ, pos, negsuc, natAbs, _+ℤ_, _-ℤ_}
 use lib.ListN.{length, take, getD, length-take}
 use lib.Signed.{ltZ}
-use mir.Syntax.{w16, w32, w64}
-use mir.Val.{Fits, SFits, toZ, ofZ}
+use mir.Syntax.{w32, w64}
+use mir.Val.{SFits, toZ, ofZ}
 use mir.Facts.{toZ-pos, toZ-ofZ}
 use Rattle.members.specs.declared.Member.the-variants.{BestSum, BestAt}
 use Rattle.rules.specs.declared.Value.{Value}
@@ -23,7 +23,7 @@ use Rattle.rules.specs.Rules.{rule, onWindow}
 use Rattle.values.specs.declared.stretches.Best.{Best}
 use Rattle.values.specs.Ranges.{mag-abs, abs-mag, abs-sum, abs-difference}
 use Rattle.values.specs.Sliding.{Totals, widthIn, better, best}
-use Rattle.values.specs.SlidingLaws.{best-greatest, best-index, width-none, width-some, Slid, slid-none, slid-more, slid-all}
+use Rattle.values.specs.SlidingLaws.{best-greatest, best-within, best-index, width-none, width-some, Slid, slid-none, slid-more, slid-all}
 use Rattle.values.proofs.Signed.{widens, wide, wide-is, read-lt}
 use Rattle.values.proofs.WindowRules.{part-few, count-cast, index-cast}
 
@@ -153,10 +153,42 @@ module _ (xs ys : List ℤ) (s l : ℕ) (e : ys ≡ readingsIn xs s l) (n : ℤ)
           k ∙ ap ranged (toZ-ofZ f ∙ ap (λ (c : Best). c .sum) is) ∙ best-greatest ys w width-within ranged
           ∙ ap (λ (j : ℕ). ofGreatest ranged (sums ys j)) width-is ∙ chosen _ .1 ∙ ap (λ (zs : List ℤ). bestSum zs n) e
 
-      pub index-found : Fits w16 (b .at) → Number (toZ w32 (b .at)) ≡ onWindow BestAt xs s l n
-      unfolding onWindow rule bestAt
-      index-found f =
-          ap Number (toZ-pos w32 (omega (arith, f .fits))) ∙ ap (λ (c : Best). Number (pos (c .at))) is ∙ best-index ys w width-within
-          ∙ ap (λ (j : ℕ). ofGreatest (λ z. Number (pos (firstAt z (sums ys j)))) (sums ys j)) width-is ∙ chosen _ .1 ∙ ap (λ (zs : List ℤ). bestAt zs n) e
+      index-small : length ys ≤ 65535 → b .at < 2147483648
+      index-small few = omega (arith, ap (λ (c : Best). c .at) is, best-within ys w width-within)
 
-pub ruleset stretch-rules = (needs, widens, part-few, count-cast, index-cast, width-negative, width-beyond, width-inside, better-later, better-earlier, front-few, first-slid, slide-in, slide-out, slide-is, slid-small, next-slid, last-slid, sum-none, index-none, width-within, sum-found, index-found)
+      pub index-fits : length ys ≤ 65535 → SFits w32 (pos (b .at))
+      index-fits few = record { sfits = index-small few }
+
+      pub index-found : length ys ≤ 65535 → Number (toZ w32 (b .at)) ≡ onWindow BestAt xs s l n
+      unfolding onWindow rule bestAt
+      index-found few =
+          ap Number (toZ-pos w32 (index-small few)) ∙ ap (λ (c : Best). Number (pos (c .at))) is ∙ best-index ys w width-within
+          ∙ ap (λ (j : ℕ). ofGreatest (λ z. Number (pos (firstAt z (sums ys j)))) (sums ys j)) width-is ∙ chosen _ .1
+          ∙ ap (λ (zs : List ℤ). bestAt zs n) e
+
+pub ruleset stretch-rules = (
+  needs,
+  widens,
+  part-few,
+  count-cast,
+  index-cast,
+  width-negative,
+  width-beyond,
+  width-inside,
+  better-later,
+  better-earlier,
+  front-few,
+  first-slid,
+  slide-in,
+  slide-out,
+  slide-is,
+  slid-small,
+  next-slid,
+  last-slid,
+  sum-none,
+  index-none,
+  width-within,
+  sum-found,
+  index-fits,
+  index-found,
+)

@@ -3,8 +3,8 @@
 -- so. One law a member, by its rule. Assumes nothing.
 use mathlib.Core.Path.{_≡_, refl, ap, _∙_}
 use mathlib.Core.Bool.{Bool, true, false, _&&_, and-eq-true-iff, cond}
-use mathlib.Core.List.{List, [], _∷_, map}
-use Prim.Native.Nat.{ℕ, zero, suc, _+_, _-_, min, _≤_, _<_}
+use mathlib.Core.List.{List, [], _∷_}
+use Prim.Native.Nat.{ℕ, suc, _+_, _-_, min, _≤_, _<_}
 use native.Mathlib.Omega.{arith}
 use borrow.Author.Tests.{ltb-true, leb-true}
 use lib.Dec.{leb, ltb}
@@ -20,12 +20,13 @@ use Rattle.rules.specs.declared.Value.{Value}
 use Rattle.rules.specs.declared.Value.the-variants.{Number, Window, Function, Delayed, Missing}
 use Rattle.rules.specs.Values.{ranged, flag, sameℤ}
 use Rattle.rules.specs.Numbers.{quotient, divided}
-use Rattle.rules.specs.Windows.{readingsIn, clipped, reading, unlessNegative, total, lesser, greater, foldFrom, extreme}
-use Rattle.rules.specs.Stretches.{stretchesFrom, sums, ofGreatest, firstAt, ofWidth, bestSum, bestAt}
+use Rattle.rules.specs.Windows.{readingsIn, clipped, reading, unlessNegative, lesser, greater, foldFrom, extreme}
+use Rattle.rules.specs.Stretches.{sums, ofGreatest, firstAt, ofWidth, bestSum, bestAt}
 use Rattle.rules.specs.Runs.{Results, numbers, because, with, results, isNonzero, countOf, stretch, longest, summary}
 use Rattle.rules.specs.Rules.{Rule, twoNumbers, window, windowNumber, windowRuns, rule, byNumbers, byWindow, byWindowNumber, byRuns, onNumbers, ofWindow, onWindow, concluded, ofRuns}
 use Rattle.values.specs.Ranges.{in-range}
 use Rattle.values.specs.WindowLaws.{readings-short, clipped-parts, clipped-within}
+use Rattle.values.specs.SlidingLaws.{first-short, sums-length}
 use Rattle.values.specs.TallyLaws.{if-most}
 
 -- the members' own results have the property P
@@ -75,19 +76,6 @@ longest-short : (zs : List ℤ) → longest zs ≤ length zs
 unfolding longest
 longest-short [] = omega arith
 longest-short (z ∷ zs) = omega (arith, stretch-short (z ∷ zs), longest-short zs)
-
-first-short : (z : ℤ) (zs : List ℤ) → firstAt z zs ≤ length zs
-unfolding firstAt
-first-short z [] = omega arith
-first-short z (y ∷ ys) = by-cond (λ k. k ≤ suc (length ys)) (sameℤ y z) 0 _ (λ h. omega arith) (λ h. omega (arith, first-short z ys))
-
-sums-length : (xs : List ℤ) (w : ℕ) → length (sums xs w) ≡ suc (length xs) - w
-unfolding sums stretchesFrom
-sums-length xs w = so-many 0 (suc (length xs) - w)
-  where
-    so-many : (i k : ℕ) → length (map total (stretchesFrom xs w i k)) ≡ k
-    so-many i zero = refl
-    so-many i (suc k) = ap suc (so-many (suc i) k)
 
 module _ (P : Value → Type 0) (C : Closed P) where
   pub wrong : P (Missing 2)

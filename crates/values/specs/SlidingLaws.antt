@@ -12,7 +12,7 @@ use lib.IntN.{ℤ, pos, negsuc, natAbs, _+ℤ_, _-ℤ_, +ℤ-assoc, +ℤ-comm, +
 use lib.ListN.{length, take, drop, getD, length-take, length-drop}
 use lib.Seq.{take-suc, drop-drop, getD-drop}
 use lib.Signed.{mag, ltZ}
-use Rattle.language.specs.Cases.{impossible, split}
+use Rattle.language.specs.Cases.{impossible, split, by-cond}
 use Rattle.rules.specs.declared.Value.{Value}
 use Rattle.rules.specs.declared.Value.the-variants.{Number, Missing}
 use Rattle.rules.specs.Values.{sameℤ, outsideWindow}
@@ -117,6 +117,19 @@ best-at-from m (z ∷ zs) i b e =
 
 -- ---- the best of all stretches
 
+pub first-short : (z : ℤ) (zs : List ℤ) → firstAt z zs ≤ length zs
+unfolding firstAt
+first-short z [] = omega arith
+first-short z (y ∷ ys) = by-cond (λ k. k ≤ suc (length ys)) (sameℤ y z) 0 _ (λ h. omega arith) (λ h. omega (arith, first-short z ys))
+
+pub sums-length : (xs : List ℤ) (w : ℕ) → length (sums xs w) ≡ suc (length xs) - w
+unfolding sums stretchesFrom
+sums-length xs w = so-many 0 (suc (length xs) - w)
+  where
+    so-many : (i k : ℕ) → length (map total (stretchesFrom xs w i k)) ≡ k
+    so-many i zero = refl
+    so-many i (suc k) = ap suc (so-many (suc i) k)
+
 first-next : (t : Bool) (f : ℕ) → cond t 0 (1 + f) ≡ cond t 0 (suc f)
 first-next true f = refl
 first-next false f = omega arith
@@ -140,6 +153,9 @@ module _ (xs : List ℤ) (w : ℕ) (h : w ≤ length xs) where
       (best-sum-is (record { sum = total (take w xs); at = 0 }) 1 (sumsAfter xs w 0))
       ∙ first-next (sameℤ (total (take w xs)) (best xs w .sum)) (firstAt (best xs w .sum) (sumsAfter xs w 0))
       ∙ sym (ap (firstAt (best xs w .sum)) sums-are)
+
+  pub best-within : best xs w .at ≤ length xs + 1
+  best-within = omega (arith, best-first, first-short (best xs w .sum) (sums xs w), sums-length xs w)
 
   pub best-index : Number (pos (best xs w .at)) ≡ ofGreatest (λ z. Number (pos (firstAt z (sums xs w)))) (sums xs w)
   best-index = ap (λ (k : ℕ). Number (pos k)) best-first ∙ best-greatest (λ z. Number (pos (firstAt z (sums xs w))))

@@ -15,7 +15,7 @@ ghost use Rattle.values.specs.Sliding.{widthIn, better, best};
 // An exact sum, and the index where its stretch begins.
 pub struct Best {
     pub sum: i64,
-    pub at: u16,
+    pub at: usize,
 }
 
 // The width as a number of readings: 0 where it is below 1 or above the length.
@@ -30,7 +30,7 @@ fn width_in(n: i32, length: usize) -> usize
 }
 
 // The better of the best so far and a stretch that begins after it: the earlier one where their sums are equal.
-fn better_of(so_far: Best, sum: i64, at: u16) -> Best
+fn better_of(so_far: Best, sum: i64, at: usize) -> Best
     ensures { λ r. ⌜ r ≡ better «so_far» sum at ⌝ }
 {
     if so_far.sum < sum {
@@ -55,9 +55,9 @@ fn best_of(readings: &[i32], width: usize) -> Best
 {
     let mut sum = total_of(&readings[0..width]);
     let mut so_far = Best { sum, at: 0 };
-    let mut out: u16 = 0;
-    while (out as usize) < readings.len() - width {
-        sum = slid(sum, readings[out as usize + width], readings[out as usize]);
+    let mut out: usize = 0;
+    while out < readings.len() - width {
+        sum = slid(sum, readings[out + width], readings[out]);
         out += 1;
         so_far = better_of(so_far, sum, out);
     }

@@ -2,8 +2,8 @@
 -- Assumes nothing.
 use borrow.Author.Needs.{needs}
 use Rattle.values.proofs.StretchRules.{stretch-rules}
-use Rattle.values.proofs.stretches.best_at.Tie as tie
 use Rattle.values.proofs.stretches.best_at.Statement.{statement}
+use Rattle.values.proofs.stretches.best_at.Tie as tie
 
 part-requires : tie.Need-part-requires
 part-requires c κs = search needs
@@ -18,7 +18,7 @@ best-of-requires : tie.Need-best-of-requires
 best-of-requires c κs = search stretch-rules
 
 cast-t10 : tie.Need-cast-t10
-cast-t10 c = search needs
+cast-t10 c = search stretch-rules
 
 returns-2 : tie.Need-returns-2
 returns-2 c = search stretch-rules

@@ -1,11 +1,11 @@
 -- `values::stretches::best_of` meets its contract. At the loop's head the sum is that of the stretch that begins at `out`, and the best so far
 -- against the stretches that begin after it is the best of all. The measure is how many stretches are left. Assumes nothing.
 use Prim.Native.Nat.{_-_}
+use native.Mathlib.Omega.{arith}
+use borrow.Author.Needs.{needs}
 use lib.ListN as L
 use mir.Syntax.{w64}
 use mir.Val.{toZ}
-use native.Mathlib.Omega.{arith}
-use borrow.Author.Needs.{needs}
 use Rattle.values.specs.SlidingLaws.{Slid}
 use Rattle.values.proofs.StretchRules.{stretch-rules}
 use Rattle.values.proofs.stretches.best_of.Statement.{statement}
@@ -32,14 +32,8 @@ total-of-requires c κs = search stretch-rules
 loop-holds : tie.Need-loop-holds Inv-loop μ-loop
 loop-holds c = search stretch-rules
 
-cast-loop : tie.Need-cast-loop Inv-loop μ-loop
-cast-loop c = search needs
-
 sub-loop : tie.Need-sub-loop Inv-loop μ-loop
 sub-loop c = omega arith
-
-cast-slid : tie.Need-cast-slid Inv-loop μ-loop
-cast-slid c = search needs
 
 add-slid : tie.Need-add-slid Inv-loop μ-loop
 add-slid c = search needs
@@ -49,9 +43,6 @@ mul-slid c = search needs
 
 shared-slice-copy-out-slid : tie.Need-shared-slice-copy-out-slid Inv-loop μ-loop
 shared-slice-copy-out-slid c = search needs
-
-cast-slid-2 : tie.Need-cast-slid-2 Inv-loop μ-loop
-cast-slid-2 c = search needs
 
 mul-slid-2 : tie.Need-mul-slid-2 Inv-loop μ-loop
 mul-slid-2 c = search needs
@@ -88,13 +79,10 @@ best-of-spec =
     part-total-of-end
     total-of-requires
     loop-holds
-    cast-loop
     sub-loop
-    cast-slid
     add-slid
     mul-slid
     shared-slice-copy-out-slid
-    cast-slid-2
     mul-slid-2
     shared-slice-copy-out-slid-2
     slid-requires
