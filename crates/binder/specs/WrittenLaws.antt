@@ -13,13 +13,12 @@ use lib.ListN.{length, getD, set, take, drop, length-append, length-map}
 use lib.Seq.{getD-set-same, take-suc, drop-cons, set-at, length-take-le}
 use Rattle.language.specs.Limits.{tableReadings}
 use Rattle.layout.specs.Links.{tableLinks, tableCells, linksWith, cellsWith}
-use Rattle.layout.specs.Memory.{Memory, Node, fits}
+use Rattle.layout.specs.Memory.{Memory, Node, fits, memory}
 use Rattle.table.specs.Bind.{append, appendAll}
 use Rattle.layout.specs.Numbered.{numbered}
 use Rattle.table.specs.RightLaws.{left-suc}
 use Rattle.layout.specs.Held.{freshAt}
 use Rattle.table.specs.ChainLaws.{numbered-zero}
-use Rattle.table.specs.Checked.{memory}
 use Rattle.binder.specs.Written.{Whole, placed}
 
 pub append-is : (heads links cells heads′ links′ cells′ : List ℕ) (k : ℕ) (n : Node) → k ≡ getD heads 0 0

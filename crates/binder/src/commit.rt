@@ -16,7 +16,7 @@ ghost use Rattle.language.specs.Limits.{textParts, tableEntries};
 ghost use Rattle.table.specs.Bind.{append, appendAll};
 ghost use Rattle.layout.specs.Numbered.{numbered};
 ghost use Rattle.layout.specs.Held.{shaped, freshAt};
-ghost use Rattle.table.specs.Checked.{memory};
+ghost use Rattle.layout.specs.Memory.{memory};
 ghost use Rattle.binder.specs.Written.{Whole, placed};
 
 // One entry more, with nothing kept.

@@ -45,6 +45,9 @@ mutual
   placesM-length (last r) f Γ u = let q = placesC-length r f Γ u in omega arith
   placesM-length (next e x) f Γ u = let p = placesE-length e Γ (placesM x f Γ u) in let q = placesM-length x f Γ u in omega arith
 
+pub parts-placed : (e : Expression) → partsE e ≡ length (formsByPlace e)
+parts-placed e = let p = placesE-length e [] [] in omega arith
+
 mutual
   unfolding orderE partsE
 

@@ -11,9 +11,9 @@ use Rattle.grammar.specs.Reading.{tree}
 use Rattle.grammar.specs.Machine.{readText}
 use Rattle.grammar.specs.Theorems.{text-read-plainly}
 use Rattle.grammar.specs.Words.{IsWord, word-bytes, Worded, text-worded}
-use Rattle.meaning.specs.Substitution.{NonzeroNames, EveryLetE}
+use Rattle.meaning.specs.Substitution.{Substituted, AtLetsE, NonzeroNames}
 use Rattle.meaning.specs.SubstitutionLaws.{word-nonzero, lets-substituted}
-use Rattle.meaning.specs.PartSubstitution.{PartsSubstituted, AtLetsE}
+use Rattle.meaning.specs.PartSubstitution.{PartsSubstituted}
 use Rattle.meaning.specs.PartSubstitutionLaws.{parts-substituted}
 
 -- a name in use is a word, so that it packs to no 0
@@ -31,7 +31,7 @@ at-site (aCall m n) d p = tt
 text-nonzero : (text : List ℕ) (e : Expression) → readText text ≡ tree e → EverywhereE NonzeroNames e outermost
 text-nonzero text e h = onward e Worded NonzeroNames at-site (text-worded text e h)
 
-pub text-lets : (text : List ℕ) (e : Expression) → readText text ≡ tree e → EveryLetE e []
+pub text-lets : (text : List ℕ) (e : Expression) → readText text ≡ tree e → AtLetsE Substituted e []
 text-lets text e h = lets-substituted e (text-read-plainly text e .0 h .1) (text-nonzero text e h)
 
 -- and so in each part of its body

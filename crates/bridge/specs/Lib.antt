@@ -1,3 +1,4 @@
+pub mod EntryForms
 pub mod Graphs
 pub mod Recorded
 pub mod Words

@@ -16,8 +16,9 @@ use Rattle.language.specs.Cases.{impossible, split, by-cond}
 use Rattle.grammar.specs.Grammar.{Expression, Calls, Arguments, More, letIn, lambda, name, literal, bracket, done, call, none, first, last, next}
 use Rattle.grammar.specs.Faults.{Binder, byLet, byLambda, Around, outermost, opened, inLet, inLambda, lambdasOf}
 use Rattle.grammar.specs.KeptLimits.{Site, aLet, aLambda, aBracket, aName, aNumber, aCall, givenA, givenM, EverywhereE, EverywhereC, EverywhereA}
-use Rattle.grammar.specs.KeptLimits.{EverywhereM, FewLambdas, ShortNames, DataUnbound, SmallNumbers, RightCalls, KeepsLimits, InRange, NotData}
-use Rattle.grammar.specs.KeptLimitsLaws.{weave-E, Both, both}
+use Rattle.grammar.specs.KeptLimits.{EverywhereM, KeepsLimits, InRange, NotData}
+use Rattle.grammar.specs.SingleLimits.{FewLambdas, ShortNames, DataUnbound, SmallNumbers, RightCalls}
+use Rattle.grammar.specs.KeptLimitsLaws.{keeps-each, weave-E, Both, both}
 use Rattle.grammar.specs.Words.{Worded}
 use Rattle.meaning.specs.Forms.{Form, number, variable, unbound, readings, ask, function}
 use Rattle.meaning.specs.Binding.{Meaning, means, lookUp, named, asLambda, member, formE, formC, formA, formM, called, orderE, orderC, orderA, orderM, formsInOrder}
@@ -51,7 +52,8 @@ known-site (aNumber z) d p q = p .1 .1
 known-site (aCall m n) d p q = given-right m n (q .0 .0) (q .0 .1)
 
 known : (e : Expression) → KeepsLimits e → EverywhereE Worded e outermost → EverywhereE Known e outermost
-known e k w =
+known e h w =
+    let k = keeps-each e h in
     weave-E (Both (Both FewLambdas ShortNames) (Both DataUnbound SmallNumbers)) (Both RightCalls Worded) Known known-site e outermost
     (both e (Both FewLambdas ShortNames) (Both DataUnbound SmallNumbers)
     (both e FewLambdas ShortNames (k .lambdas) (k .names))

@@ -21,25 +21,26 @@ use Rattle.members.specs.declared.Found.the-variants.{Is, Unknown}
 use Rattle.language.specs.Cases.{impossible, split}
 use Rattle.grammar.specs.Grammar.{Expression, Calls, Arguments, More, letIn, lambda, name, literal, bracket, done, call, none, first, last, next}
 use Rattle.grammar.specs.Faults.{Around, outermost, opened, inLet, inLambda}
-use Rattle.grammar.specs.KeptLimits.{givenA, givenM, EverywhereE, EverywhereC, EverywhereA, EverywhereM, RightCalls, SmallNumbers, InRange, KeepsLimits}
+use Rattle.grammar.specs.KeptLimits.{givenA, givenM, EverywhereE, EverywhereC, EverywhereA, EverywhereM, InRange, KeepsLimits}
+use Rattle.grammar.specs.SingleLimits.{RightCalls, SmallNumbers}
+use Rattle.grammar.specs.KeptLimitsLaws.{keeps-each}
 use Rattle.meaning.specs.Forms.{Form, number, variable, unbound, readings, ask, function, same}
 use Rattle.meaning.specs.FormsLaws.{same-eq, same-self}
 use Rattle.meaning.specs.Binding.{Meaning, means, lookUp, named, asLambda, member, formE, formC, formA, formM, called, placesE}
 use Rattle.meaning.specs.Binding.{placesC, placesA, placesM, orderE, orderC, orderA, orderM, formOf, formsByPlace, formsInOrder}
 use Rattle.model.specs.Lists.{All, member as isIn, insert, insertAll}
 use Rattle.model.specs.ListLaws.{Equality, all-append, insert-old, insertAll-has}
+use Rattle.model.specs.Decoding.{decodeFrom}
 use Rattle.model.specs.Graph.{among, formAt, Placed, AllPlaced, decode, decode-snoc}
 use Rattle.layout.specs.Memory.{Node, node}
 use Rattle.layout.specs.Nodes.{numberKind, variableKind, unboundKind, readingsKind, functionKind, memberKind, build, kids, arity, memberOfKind}
 use Rattle.table.specs.NodeKinds.{Fine, aNumber, aVariable, anUnbound, theReadings, aFunction, anAsk, aCall, build-ask, build-call, less-one}
 use Rattle.records.specs.Records.{Named, stands, Recorded, newRecord, numberKey, linked, recordScoped, recordName, behind, recordE, recordC, recordA, recordM, recordsOf}
 use Rattle.formulas.specs.Formulas.{formulas}
+use Rattle.bridge.specs.EntryForms.{formsOf}
 use Rattle.bridge.specs.Graphs.{nodes, kids-function, kids-ask, kids-call, among-one, among-two}
 
--- the forms of records, and the form of one
-abbrev pub formsOf : List Node → List Form
-formsOf t = decode formulas nodes [] t
-
+-- the form of a record
 abbrev pub formIn : List Node → ℕ → Form
 formIn t j = formAt formulas nodes (formsOf t) j
 
@@ -65,7 +66,7 @@ same-again xs us f h fs =
 
 -- records behind others: their forms stand, and the others' too
 length-decode : (fs : List Form) (u : List Node) → length (decode formulas nodes fs u) ≡ length fs + length u
-unfolding decode
+unfolding decodeFrom
 length-decode fs [] = omega arith
 length-decode fs (n ∷ u) = let a = length-decode (fs ++ (build n (formAt formulas nodes fs) ∷ [])) u in let b = length-append fs (build n (formAt formulas nodes fs) ∷ []) in omega arith
 
@@ -73,12 +74,12 @@ pub length-forms : (t : List Node) → length (formsOf t) ≡ length t
 length-forms t = length-decode [] t ∙ omega arith
 
 pub decode-append : (fs : List Form) (t u : List Node) → decode formulas nodes fs (t ++ u) ≡ decode formulas nodes (decode formulas nodes fs t) u
-unfolding decode
+unfolding decodeFrom
 decode-append fs [] u = refl
 decode-append fs (n ∷ t) u = decode-append (fs ++ (build n (formAt formulas nodes fs) ∷ [])) t u
 
 decode-keeps : (fs : List Form) (u : List Node) (j : ℕ) → j < length fs → formAt formulas nodes (decode formulas nodes fs u) j ≡ formAt formulas nodes fs j
-unfolding decode
+unfolding decodeFrom
 decode-keeps fs [] j h = refl
 decode-keeps fs (n ∷ u) j h =
     let f = build n (formAt formulas nodes fs) in
@@ -460,9 +461,10 @@ pub record Unfolds (e : Expression) (R : Recorded) : Type 0 where
   pub order : (fs : List Form) → insertAll same (formsOf (R .records)) fs ≡ insertAll same (formsInOrder e) fs
 
 pub unfolds : (e : Expression) → KeepsLimits e → Unfolds e (recordsOf e)
-unfolding decode
+unfolding decodeFrom
 unfolds e k =
-    let r = recordedE e outermost [] [] [] (k .members) (k .numbers) tt in
+    let l = keeps-each e k in
+    let r = recordedE e outermost [] [] [] (l .members) (l .numbers) tt in
     let x = r .is in
     record {
       placed = rw x (r .placed);

@@ -11,13 +11,13 @@ use lib.ListN.{length, getD, take, length-map}
 use lib.Seq.{take-at, length-take-le}
 use Rattle.language.specs.Limits.{textBytes, textParts}
 use Rattle.model.specs.Model.{edited, written}
-use Rattle.layout.specs.Memory.{Memory, fits, entryCount, nodeAt}
+use Rattle.layout.specs.Memory.{Memory, fits, entryCount, nodeAt, memory}
 use Rattle.table.specs.WellFormed.{distinct, wellFormed}
 use Rattle.table.specs.Bind.{appendAll}
 use Rattle.table.specs.Right.{rightAt}
 use Rattle.layout.specs.Numbered.{numbered, allFrom}
 use Rattle.layout.specs.Held.{freshAt}
-use Rattle.table.specs.Checked.{memory, entriesRight}
+use Rattle.table.specs.Checked.{entriesRight}
 use Rattle.table.specs.CheckedLaws.{well-is}
 use Rattle.binder.specs.Written.{placed}
 use Rattle.planner.specs.declared.plan.Plan.{Plan}

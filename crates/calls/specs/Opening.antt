@@ -10,8 +10,7 @@ use borrow.Author.Tests.{lt-ltb, le-ltb, leb-true}
 use lib.IntN.{ℤ, pos}
 use lib.ListN.{length, getD, set, take, drop}
 use lib.Seq.{take-suc, drop-cons, set-at, length-take-le, take-length}
-use Rattle.layout.specs.Memory.{Memory, fits}
-use Rattle.table.specs.Checked.{memory}
+use Rattle.layout.specs.Memory.{Memory, fits, memory}
 use Rattle.binder.specs.Written.{Whole}
 use Rattle.binder.specs.WrittenLaws.{whole-is}
 use Rattle.interface.specs.declared.answers.Opened.the-variants.{Done, Refused}

@@ -11,9 +11,9 @@ use lib.IntN.{ℤ}
 use lib.ListN.{length, getD, take, drop}
 use lib.Seq.{length-take-le}
 use Rattle.language.specs.Cases.{split}
-use Rattle.layout.specs.Memory.{Memory, fits, entryCount, readingCount, nodeAt, keptAt}
+use Rattle.layout.specs.Memory.{Memory, fits, entryCount, readingCount, nodeAt, keptAt, memory}
 use Rattle.table.specs.WellFormed.{namesRight, keptRight, wellFormed}
-use Rattle.table.specs.Checked.{memory, entriesRight}
+use Rattle.table.specs.Checked.{entriesRight}
 use Rattle.table.specs.CheckedLaws.{well-is}
 use Rattle.binder.specs.WrittenLaws.{whole-is}
 use Rattle.rules.specs.declared.Value.{Value}

@@ -16,7 +16,7 @@ ghost use lib.IntN.{ℤ};
 ghost use lib.ListN.{length};
 ghost use Rattle.language.specs.Limits.{textParts};
 ghost use Rattle.table.specs.WellFormed.{wellFormed};
-ghost use Rattle.table.specs.Checked.{memory};
+ghost use Rattle.layout.specs.Memory.{memory};
 ghost use Rattle.binder.specs.Written.{Whole};
 ghost use Rattle.interface.specs.Effects.{Edits};
 ghost use Rattle.calls.specs.Editing.{EditsRead};

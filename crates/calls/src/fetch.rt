@@ -5,7 +5,7 @@ use layout::cells::at32;
 use rules::Value;
 use values::packing::unpack;
 ghost use mathlib.Core.Path.{_≡_};
-ghost use Rattle.table.specs.Checked.{memory};
+ghost use Rattle.layout.specs.Memory.{memory};
 ghost use Rattle.interface.specs.Calls.{windowIn, partOf, fetched};
 ghost use Rattle.calls.specs.Previewing.{Spans};
 

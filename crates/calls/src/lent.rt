@@ -5,8 +5,7 @@ use layout::cells::LINK_CELLS;
 use layout::cells::at32;
 use table::check::well_formed;
 ghost use mathlib.Core.Path.{_≡_};
-ghost use Rattle.layout.specs.Memory.{fits as fitsOf};
-ghost use Rattle.table.specs.Checked.{memory};
+ghost use Rattle.layout.specs.Memory.{fits as fitsOf, memory};
 ghost use Rattle.calls.specs.Previewing.{refusal as refusalOf};
 
 // 01, refusal 3: whether the cache is lent whole.

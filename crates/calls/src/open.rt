@@ -6,7 +6,7 @@ ghost use mathlib.Core.Path.{_≡_};
 ghost use mathlib.Core.List.{_++_};
 ghost use Prim.Native.Nat.{_≤_};
 ghost use lib.ListN.{length, drop};
-ghost use Rattle.table.specs.Checked.{memory};
+ghost use Rattle.layout.specs.Memory.{memory};
 ghost use Rattle.interface.specs.Effects.{Opens};
 
 // The recording at the front of the readings; those behind it keep their contents.

@@ -4,7 +4,7 @@ use interface::answers::Previewed;
 use layout::cells::at32;
 use scheduler::works::show;
 use scheduler::works::work;
-ghost use Rattle.table.specs.Checked.{memory};
+ghost use Rattle.layout.specs.Memory.{memory};
 ghost use Rattle.interface.specs.Effects.{Previews};
 
 // How many entries the call worked out, and with none left what the entry shows; or the refusal, and then no cell changes.

@@ -27,16 +27,18 @@ use Rattle.model.specs.Model as Model
 use Rattle.model.specs.Forms.{below-held}
 use Rattle.model.specs.Invariant as Inv
 use Rattle.model.specs.Invariant.{Invariant}
+use Rattle.model.specs.Decoding.{decodeFrom}
 use Rattle.model.specs.Graph.{among, formAt, Placed, AllPlaced, Stands, decodes, decode}
 use Rattle.model.specs.Checks as Checks
 use Rattle.layout.specs.Memory.{Memory, Node, Entry, entryCount, readingCount, recordingOf, entriesOf, nodesOf, node}
 use Rattle.layout.specs.Nodes.{memberKind, kindCount, worksKind, arity, memberOfKind, listed, kids, sameNode, build, numberOfKey}
-use Rattle.table.specs.WellFormed.{every, kindKnown, keyRight, given, arityRight, lower, hasNode, distinct, awaitedBy, awaitedAfter, isDone, doneAt, allDone, settled, namesRight, keptRight, wellFormed}
+use Rattle.table.specs.WellFormed.{every, kindKnown, keyRight, given, arityRight, lower, hasNode, distinct}
+use Rattle.table.specs.WellFormed.{awaitedBy, awaitedAfter, isDone, doneAt, allDone, settled, namesRight, keptRight, wellFormed}
 use Rattle.table.specs.AwaitedForms.{awaited-build}
 use Rattle.table.specs.NodeKinds.{Fine, aNumber, aVariable, anUnbound, theReadings, aFunction, anAsk, aCall, not-member, member-arity, build-ask, build-call}
 use Rattle.formulas.specs.Formulas.{formulas, IsReading}
 use Rattle.bridge.specs.Graphs.{nodes, graph-laws, equality, kids-function, kids-ask, kids-call, among-first, among-second}
-use Rattle.bridge.specs.Recorded.{formsOf}
+use Rattle.bridge.specs.EntryForms.{formsOf}
 use Rattle.bridge.specs.Proper.{Shape, Proper}
 use Rattle.bridge.specs.FormulaLaws.{formula-laws}
 use Rattle.demand.specs.Holds.{withMarks, holds, markOf, keptFor, Ok, Written}
@@ -161,7 +163,7 @@ awaited-by fs n h =
     (λ e. getD-awaited fs (n .second - 1) (h (n .second - 1) (second-among n e)))
 
 pub awaited-after : (fs : List Form) (ns : List Node) → AllPlaced formulas nodes (length fs) ns → awaitedAfter (map awaited fs) ns ≡ map awaited (decode formulas nodes fs ns)
-unfolding awaitedAfter decode
+unfolding awaitedAfter decodeFrom
 awaited-after fs [] p = refl
 awaited-after fs (n ∷ ns) p =
     let f = build n (formAt formulas nodes fs) in
@@ -370,7 +372,9 @@ module _ (m : Memory) (o : Ok m) (i : Invariant formulas formula-laws (holds m))
       let c1 : leb (entryCount m) tableEntries ≡ true = le-leb (entryCount m) tableEntries (omega arith) in
       let c2 : leb (readingCount m) tableReadings ≡ true = le-leb (readingCount m) tableReadings (o .readings) in
       let c3 = from (λ k (e : Entry). kindKnown (e .node)) es (λ j e h. kind-right (e .node) (at j e h .placed .fine)) in
-      let c4 = from (λ k (e : Entry). keyRight (e .node)) es (λ j e h. let a = at j e h in key-right (e .node) (formAt formulas nodes fs) (a .placed .fine) (subst Shape (sym (a .form)) (all-nth Proper fs j (getD fs j readings) proper (a .held) .shape))) in
+      let c4 = from (λ k (e : Entry). keyRight (e .node)) es
+      (λ j e h. let a = at j e h in key-right (e .node) (formAt formulas nodes fs) (a .placed .fine)
+      (subst Shape (sym (a .form)) (all-nth Proper fs j (getD fs j readings) proper (a .held) .shape))) in
       let c5 = from (λ k (e : Entry). arityRight (e .node)) es (λ j e h. arity-right (e .node) (at j e h .placed .fine)) in
       let c6 = from (λ k (e : Entry). lower k (e .node)) es (λ j e h. lower-by j (e .node) (at j e h .placed .fine) (at j e h .placed .lower)) in
       let c7 = distinct-by ns alone in

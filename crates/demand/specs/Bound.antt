@@ -10,6 +10,7 @@ use lib.ListN.{length, getD}
 use Rattle.language.specs.Cases.{impossible, split}
 use Rattle.meaning.specs.Forms.{Form}
 use Rattle.model.specs.Lists.{member, index}
+use Rattle.model.specs.Decoding.{decodeFrom}
 use Rattle.model.specs.Graph.{among, formAt, AllPlaced, decode}
 use Rattle.model.specs.Binder as Binder
 use Rattle.layout.specs.Memory.{Node}
@@ -123,7 +124,7 @@ all-same b (r ∷ rs) = all-same (bindOne b r) rs ∙ ap (λ (c : Binder.Bound f
 
 -- the records' forms, and that their links are earlier
 pub forms-same : (fs : List Form) (rs : List Node) → decode formulas nodes fs rs ≡ fs ++ Binder.recordForms formulas nodes fs (map Binder.fresh rs)
-unfolding decode Binder.recordForms Binder.recordForm
+unfolding decodeFrom Binder.recordForms Binder.recordForm
 forms-same fs [] = sym (append-nil fs)
 forms-same fs (r ∷ rs) =
     forms-same (fs ++ (build r (formAt formulas nodes fs) ∷ [])) rs

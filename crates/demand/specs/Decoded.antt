@@ -23,7 +23,7 @@ use Rattle.table.specs.NodeKinds.{right-fine}
 use Rattle.binder.specs.AppendedLaws.{Well}
 use Rattle.formulas.specs.Formulas.{formulas}
 use Rattle.bridge.specs.Graphs.{nodes, graph-laws, equality, among-one, among-two}
-use Rattle.bridge.specs.Recorded.{formsOf}
+use Rattle.bridge.specs.EntryForms.{formsOf}
 use Rattle.bridge.specs.FormulaLaws.{tests}
 use Rattle.demand.specs.Standing.{placed-all, count-nodes}
 use Rattle.demand.specs.Needs.{node-nth}

@@ -33,7 +33,8 @@ use Rattle.table.specs.Bind.{Bound, appendAll}
 use Rattle.records.specs.Records.{Recorded, recordsOf}
 use Rattle.formulas.specs.Formulas.{formulas, parsed}
 use Rattle.bridge.specs.Graphs.{nodes, graph-laws}
-use Rattle.bridge.specs.Recorded.{formsOf, formIn, length-forms, decode-append, Unfolds, unfolds}
+use Rattle.bridge.specs.Recorded.{formIn, length-forms, decode-append, Unfolds, unfolds}
+use Rattle.bridge.specs.EntryForms.{formsOf}
 use Rattle.bridge.specs.FormulaLaws.{formula-laws}
 use Rattle.interface.specs.Calls.{held, boundTo, editedAs, editedMemory, readAnswer, readMemory, editAnswer, editMemory}
 use Rattle.demand.specs.Holds.{withMarks, holds, Ok, Written}
@@ -86,7 +87,12 @@ module _ (m : Memory) (placed : AllPlaced formulas nodes 0 (nodesOf (entriesOf m
   pub fitted : Binder.Fits formulas nodes relinkBy (asBound b) (formsOf (R .records)) gs
   fitted =
       let f = Binder.fits-all formulas nodes relinkBy graph-laws (formula-laws .tests) relinks (asBound (held m)) [] fs (map Binder.fresh (R .records)) first (valid-same 0 (R .records) (u .placed)) in
-      let f₂ = subst (λ (c : Binder.Bound formulas nodes relinkBy). Binder.Fits formulas nodes relinkBy c ([] ++ Binder.recordForms formulas nodes [] (map Binder.fresh (R .records))) (insertAll same (Binder.recordForms formulas nodes [] (map Binder.fresh (R .records))) fs)) (sym (all-same (held m) (R .records))) f in
+      let f₂ =
+      subst
+      (λ (c : Binder.Bound formulas nodes relinkBy). Binder.Fits formulas nodes relinkBy c
+      ([] ++ Binder.recordForms formulas nodes [] (map Binder.fresh (R .records)))
+      (insertAll same (Binder.recordForms formulas nodes [] (map Binder.fresh (R .records))) fs))
+      (sym (all-same (held m) (R .records))) f in
       let f₃ = subst (λ (rf : List Form). Binder.Fits formulas nodes relinkBy (asBound b) rf (insertAll same rf fs)) record-forms f₂ in
       subst (λ (l : List Form). Binder.Fits formulas nodes relinkBy (asBound b) (formsOf (R .records)) l) (u .order fs) f₃
 
@@ -106,58 +112,60 @@ module _ (m : Memory) (placed : AllPlaced formulas nodes 0 (nodesOf (entriesOf m
   pub grown-forms : gs ≡ fs ++ added
   grown-forms = decoded (b .nodes) gs (fitted .stands) ∙ ap formsOf nodes-are ∙ decode-append [] ns new ∙ forms-same fs new
 
+  -- the entries that the model holds then
+  abbrev pub es : List (Model.Entry formulas)
+  es = Model.holdAll formulas (formsInOrder e) (holds m .entries)
+
+  held-forms : Model.forms formulas (holds m .entries) ≡ fs
+  held-forms = forms-joined fs (entriesOf m) (size-held m)
+
+  new-forms : Model.forms formulas es ≡ gs
+  new-forms = forms-holdAll formulas (formsInOrder e) (holds m .entries) ∙ ap (insertAll same (formsInOrder e)) held-forms
+
+  pub sizes : length (b .nodes) ≡ length es
+  sizes = fitted .stands .size ∙ ap length (sym new-forms) ∙ length-map es (λ (x : Model.Entry formulas). x .form)
+
+  numbered : (j : ℕ) → j < length (R .records) → getD (b .numbers) j 0 ≡ Model.numberOf formulas es (formIn (R .records) j)
+  numbered j h =
+      let l = length-forms (R .records) in
+      let x = nth-has (formsOf (R .records)) j (omega arith) in
+      Binder.number-is formulas nodes relinkBy graph-laws (formula-laws .tests) relinks (asBound b) (formsOf (R .records)) gs fitted j
+      (formIn (R .records) j) (x .1 ∙ ap some (sym (getD-nth (formsOf (R .records)) j (x .0) readings (x .1))))
+      ∙ ap (index same (formIn (R .records) j)) (sym new-forms)
+
+  all-numbered : (ps : List ℕ) → All (λ (p : ℕ). p < length (R .records)) ps → map (λ (j : ℕ). getD (b .numbers) j 0) ps ≡ map (Model.numberOf formulas es) (map (formIn (R .records)) ps)
+  all-numbered [] h = refl
+  all-numbered (p ∷ ps) h = λ t. numbered p (h .0) t ∷ all-numbered ps (h .1) t
+
+  counted : entryCount m ≡ length (holds m .entries)
+  counted =
+      sym (entries-length (m .links) (m .cells) 0 (entryCount m)) ∙ sym (size-held m) ∙ ap length (sym held-forms)
+      ∙ length-map (holds m .entries) (λ (x : Model.Entry formulas). x .form)
+
+  added-length : length added ≡ length new
+  added-length =
+      let a = fitted .stands .size in
+      let c = ap length nodes-are ∙ length-append ns new in
+      let d = ap length grown-forms ∙ length-append fs added in
+      let f = length-forms ns in
+      omega arith
+
+  entries-are : es ≡ holds m .entries ++ map (Model.unmarked formulas) added
+  entries-are = holdAll-as formulas (formsInOrder e) (holds m .entries) added (ap (insertAll same (formsInOrder e)) held-forms ∙ grown-forms ∙ ap (λ (l : List Form). l ++ added) (sym held-forms))
+
+  nodes-new : (l : List Node) → nodesOf (map newEntry l) ≡ l
+  nodes-new [] = refl
+  nodes-new (n ∷ l) = ap (λ (r : List Node). n ∷ r) (nodes-new l)
+
   -- of a cache that was opened and kept
   module _ (o : Ok m) where
-    abbrev es : List (Model.Entry formulas)
-    es = Model.holdAll formulas (formsInOrder e) (holds m .entries)
-
-    held-forms : Model.forms formulas (holds m .entries) ≡ fs
-    held-forms = forms-joined fs (entriesOf m) (size-held m)
-
-    new-forms : Model.forms formulas es ≡ gs
-    new-forms = forms-holdAll formulas (formsInOrder e) (holds m .entries) ∙ ap (insertAll same (formsInOrder e)) held-forms
-
-    sizes : length (b .nodes) ≡ length es
-    sizes = fitted .stands .size ∙ ap length (sym new-forms) ∙ length-map es (λ (x : Model.Entry formulas). x .form)
-
-    numbered : (j : ℕ) → j < length (R .records) → getD (b .numbers) j 0 ≡ Model.numberOf formulas es (formIn (R .records) j)
-    numbered j h =
-        let l = length-forms (R .records) in
-        let x = nth-has (formsOf (R .records)) j (omega arith) in
-        Binder.number-is formulas nodes relinkBy graph-laws (formula-laws .tests) relinks (asBound b) (formsOf (R .records)) gs fitted j
-        (formIn (R .records) j) (x .1 ∙ ap some (sym (getD-nth (formsOf (R .records)) j (x .0) readings (x .1))))
-        ∙ ap (index same (formIn (R .records) j)) (sym new-forms)
-
-    all-numbered : (ps : List ℕ) → All (λ (p : ℕ). p < length (R .records)) ps → map (λ (j : ℕ). getD (b .numbers) j 0) ps ≡ map (Model.numberOf formulas es) (map (formIn (R .records)) ps)
-    all-numbered [] h = refl
-    all-numbered (p ∷ ps) h = λ t. numbered p (h .0) t ∷ all-numbered ps (h .1) t
-
-    counted : entryCount m ≡ length (holds m .entries)
-    counted =
-        sym (entries-length (m .links) (m .cells) 0 (entryCount m)) ∙ sym (size-held m) ∙ ap length (sym held-forms)
-        ∙ length-map (holds m .entries) (λ (x : Model.Entry formulas). x .form)
-
-    added-length : length added ≡ length new
-    added-length =
-        let a = fitted .stands .size in
-        let c = ap length nodes-are ∙ length-append ns new in
-        let d = ap length grown-forms ∙ length-append fs added in
-        let f = length-forms ns in
-        omega arith
-
-    entries-are : es ≡ holds m .entries ++ map (Model.unmarked formulas) added
-    entries-are = holdAll-as formulas (formsInOrder e) (holds m .entries) added (ap (insertAll same (formsInOrder e)) held-forms ∙ grown-forms ∙ ap (λ (l : List Form). l ++ added) (sym held-forms))
-
-    nodes-new : (l : List Node) → nodesOf (map newEntry l) ≡ l
-    nodes-new [] = refl
-    nodes-new (n ∷ l) = ap (λ (r : List Node). n ∷ r) (nodes-new l)
-
     written-new : (l : List Node) → All Written (map newEntry l)
     written-new [] = tt
     written-new (n ∷ l) = (inl refl, written-new l)
 
     accepted : ltb tableEntries (length (b .nodes)) ≡ false
-        → Done (appendAll m new) (Model.editedTo formulas (holds m) es (formsByPlace e) (formOf e)) (edited (getD (b .numbers) (R .root) 0) (length (R .places)) (length (b .nodes) - entryCount m) (map (λ (j : ℕ). getD (b .numbers) j 0) (R .places)))
+        → Done (appendAll m new) (Model.editedTo formulas (holds m) es (formsByPlace e) (formOf e))
+        (edited (getD (b .numbers) (R .root) 0) (length (R .places)) (length (b .nodes) - entryCount m) (map (λ (j : ℕ). getD (b .numbers) j 0) (R .places)))
     accepted h =
         let room = ltb-false tableEntries (length (b .nodes)) h in
         let all = ap length nodes-are ∙ length-append ns new in

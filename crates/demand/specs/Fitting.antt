@@ -106,7 +106,9 @@ module _ (xs : List ℤ) where
       either (isDelayed (valueOf (evaluate xs ρ f))) (isDelayed (valueOf (evaluate xs ρ a))) (delayed1 m xs _ _ _ h)
       (λ e. let w = delayed-awaits f ρ e in record { name = w .name; free = joined-left (w .name) (awaited f) (awaited a) (w .free); unset = w .unset })
       (λ e. let w = delayed-awaits a ρ e in record { name = w .name; free = joined-right (w .name) (awaited f) (awaited a) (w .free); unset = w .unset })
-  delayed-awaits (function x b) ρ h = under x b ρ (unsettled b (bind x (Number (pos 0)) ρ) (function-delayed (valueOf (evaluate xs (bind x Delayed ρ) b)) (settled (bind x (Number (pos 0)) ρ) b) (λ z. evaluate xs (bind x (Number z) ρ) b) h))
+  delayed-awaits (function x b) ρ h =
+      under x b ρ (unsettled b (bind x (Number (pos 0)) ρ)
+      (function-delayed (valueOf (evaluate xs (bind x Delayed ρ) b)) (settled (bind x (Number (pos 0)) ρ) b) (λ z. evaluate xs (bind x (Number z) ρ) b) h))
 
 -- the awaited names are those of variables in the form
 awaited-within : (y : ℕ) (f : Form) → Has y (awaited f) → within (variable y) f ≡ true

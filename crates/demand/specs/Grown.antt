@@ -21,6 +21,7 @@ use Rattle.model.specs.Lists.{All, member, insert, insertAll, Distinct}
 use Rattle.model.specs.ListLaws.{nth-below, nth-old, nth-seam}
 use Rattle.model.specs.Graph.{formAt, Placed, AllPlaced, decode-snoc, decodes}
 use Rattle.model.specs.Binder as Binder
+use Rattle.model.specs.Model.{holdAll}
 use Rattle.layout.specs.Memory.{Memory, Node, Entry, fits, entryCount, entriesOf, nodesOf}
 use Rattle.layout.specs.Nodes.{sameNode, build}
 use Rattle.table.specs.WellFormed.{hasNode, awaitedBy, awaitedAfter, wellFormed}
@@ -31,14 +32,16 @@ use Rattle.binder.specs.AppendedLaws.{newEntry, append-fits, append-count, appe
 use Rattle.records.specs.Records.{recordsOf}
 use Rattle.formulas.specs.Formulas.{formulas, parsed}
 use Rattle.bridge.specs.Graphs.{nodes, graph-laws, equality}
-use Rattle.bridge.specs.Recorded.{formsOf, length-forms}
+use Rattle.bridge.specs.Recorded.{length-forms}
+use Rattle.bridge.specs.EntryForms.{formsOf}
 use Rattle.bridge.specs.Proper.{Proper}
 use Rattle.bridge.specs.FormulaLaws.{readable}
 use Rattle.interface.specs.Calls.{boundTo, tooMany, editedMemory, readMemory}
 use Rattle.demand.specs.Standing.{stands-placed, count-nodes}
 use Rattle.demand.specs.Accepted.{kind-right, key-right, arity-right, lower-by, has-at, awaited-by, awaited-after}
 use Rattle.demand.specs.Decoded.{one-number, nodes-apart, all-placed, forms-distinct}
-use Rattle.demand.specs.Editing.{gs, fitted, new, nodes-are, dropped, added, grown-forms}
+use Rattle.demand.specs.Holds.{holds}
+use Rattle.demand.specs.Editing.{gs, fitted, new, nodes-are, dropped, added, grown-forms, sizes}
 
 -- ---- one entry more
 
@@ -142,6 +145,11 @@ module _ (m : Memory) (f : fits m ≡ true) (w : wellFormed m ≡ true) (e : Exp
       rw (t, dropped m held one e k)
       (appended m (new m held one e k) f w (omega arith) (rw is at (stands-placed (b .nodes) (gs m held one e k) (s .stands)))
       (rw is at (nodes-apart (b .nodes) (gs m held one e k) (s .stands) (s .distinct))) added-proper))
+
+-- 01: entries held plus new forms
+pub held-and-new : (m : Memory) → wellFormed m ≡ true → (e : Expression) → KeepsLimits e
+    → length (boundTo m (recordsOf e) .nodes) ≡ length (holdAll formulas (formsInOrder e) (holds m .entries))
+held-and-new m w e k = let p = well-parts m w in sizes m (all-placed m p) (forms-distinct m p) e k
 
 -- a text that is read
 pub read-well : (m : Memory) (text : List ℕ) → fits m ≡ true → wellFormed m ≡ true → wellFormed (readMemory m (readText text)) ≡ true

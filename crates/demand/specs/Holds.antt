@@ -1,12 +1,12 @@
 -- What a cache that was opened and kept holds, as a state of the reference model: its recording, the forms of its entries, and the kept
 -- results as marks; and how such a cache is arranged. Assumes nothing: these are definitions.
 use mathlib.Core.Path.{_≡_}
-use mathlib.Core.Bool.{true, cond}
+use mathlib.Core.Bool.{Bool, true, cond}
 use mathlib.Core.List.{List, [], _∷_}
 use mathlib.Core.Option.{Option, none, some}
 use mathlib.Core.Logic.{_⊎_}
-use Prim.Native.Nat.{_≤_}
-use lib.Dec.{eqb}
+use Prim.Native.Nat.{ℕ, _≤_}
+use lib.Dec.{leb, eqb}
 use lib.ListN.{getD}
 use Rattle.language.specs.Limits.{tableReadings}
 use Rattle.rules.specs.declared.Value.{Value}
@@ -14,13 +14,13 @@ use Rattle.rules.specs.declared.Value.the-variants.{Number, Window, Function, D
 use Rattle.values.specs.Packing.{packOf, unpackOf}
 use Rattle.meaning.specs.Forms.{Form}
 use Rattle.meaning.specs.Evaluation.{Shown, aNumber, aWindow, aFunction, aDelay, aReason}
-use Rattle.model.specs.Lists.{All}
+use Rattle.model.specs.Lists.{All, countIf}
 use Rattle.model.specs.Model as Model
 use Rattle.model.specs.Graph.{AllPlaced}
 use Rattle.layout.specs.Memory.{Memory, Kept, Entry, fits, readingCount, recordingOf, entriesOf, nodesOf, nothingKept}
 use Rattle.formulas.specs.Formulas.{formulas}
 use Rattle.bridge.specs.Graphs.{nodes}
-use Rattle.bridge.specs.Recorded.{formsOf}
+use Rattle.bridge.specs.EntryForms.{formsOf}
 use Rattle.interface.specs.Answers.{namesOf}
 
 -- what a kept result shows
@@ -44,8 +44,16 @@ withMarks [] es = []
 withMarks (f ∷ fs) [] = []
 withMarks (f ∷ fs) (e ∷ es) = record { form = f; mark = markOf (e .kept) } ∷ withMarks fs es
 
+-- 01, "The plain book": the cache's recording, its forms by number, and its worked-out members and functions as marks
 abbrev pub holds : Memory → Model.State formulas
 holds m = record { recording = recordingOf m; entries = withMarks (formsOf (nodesOf (entriesOf m))) (entriesOf m) }
+
+-- 01, "Working out": the entries that previews worked out, which are those with a kept value, and how many there are
+abbrev pub isKept : Entry → Bool
+isKept e = leb 1 (e .kept .value)
+
+abbrev pub workedOut : Memory → ℕ
+workedOut m = countIf isKept (entriesOf m)
 
 -- the cells of what is shown
 abbrev pub keptFor : Shown → Kept

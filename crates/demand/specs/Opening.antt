@@ -9,7 +9,7 @@ use lib.IntN.{ℤ}
 use lib.ListN.{length, set, drop, length-set, length-append, length-drop}
 use lib.Seq.{getD-set-same, getD-set-other, take-at}
 use Rattle.language.specs.Limits.{tableReadings}
-use Rattle.model.specs.Graph.{decode}
+use Rattle.model.specs.Decoding.{decodeFrom}
 use Rattle.model.specs.Model as Model
 use Rattle.model.specs.Model.{refused, opened}
 use Rattle.layout.specs.Memory.{Memory, fits, entryCount, readingCount, recordingOf, entriesFrom, entriesOf}
@@ -51,7 +51,7 @@ module _ (m : Memory) (r : List ℤ) (l : Lengths m) (short : length r ≤ table
   recorded = take-at r (drop (length r) (m .readings)) (readingCount n) (sym count-readings)
 
   opened-done : Done n (Model.openedWith formulas r) opened
-  unfolding withMarks decode
+  unfolding withMarks decodeFrom
   opened-done =
       let e = no-entries in
       let c = count-readings in

@@ -294,7 +294,8 @@ module _ (links cells waits flags : List ℕ) (xs : List ℤ) (fs : List Form) (
         ← marked i now frame (omega arith) s g p,
       )
       (loop a k (suc i) _ _ (suc count) (omega arith) (omega arith) (stored i now frame (omega arith) s g p) (framed i now frame (omega arith) s g p)))
-      (λ q. let most = ltb-false count a q in let z : a - count ≡ 0 = omega arith in rw (q, z) (record { stored = s; entries = sym (upward-none formulas flag value (suc k) i (held links fs c now)) }))))
+      (λ q. let most = ltb-false count a q in let z : a - count ≡ 0 = omega arith in
+      rw (q, z) (record { stored = s; entries = sym (upward-none formulas flag value (suc k) i (held links fs c now)) }))))
       (λ p.
       rw (p, upward-skip formulas flag value k i (a - count) (held links fs c now) (sym same ∙ p))
       (loop a k (suc i) now frame count (omega arith) h s (passed i now frame (omega arith) s g p)))

@@ -42,7 +42,7 @@ use Rattle.refine.specs.Waiting.{waits-names, waits-full, good}
 use Rattle.refine.specs.Counts.{chosenIn, work-count, work-left}
 use Rattle.formulas.specs.Formulas.{formulas, IsReading}
 use Rattle.bridge.specs.Graphs.{nodes, graph-laws, kids-function, kids-ask, kids-call, among-first, among-second}
-use Rattle.bridge.specs.Recorded.{formsOf}
+use Rattle.bridge.specs.EntryForms.{formsOf}
 use Rattle.bridge.specs.Proper.{Proper}
 use Rattle.bridge.specs.FormulaLaws.{formula-laws}
 use Rattle.interface.specs.Answers.{shownOf, previewReply}
@@ -239,7 +239,13 @@ module _ (m : Memory) (o : Ok m) (i : Invariant formulas formula-laws (holds m))
 
   -- at first, each entry keeps nothing or what its form shows, and the frame has the leaves' values and what is kept
   stored : Stored (m .cells) xs fs (entryCount m) (m .cells)
-  stored = record { long = refl; keys = λ j. refl; kept = λ j h. by j (all-nth Written (entriesOf m) j _ (o .written) (entry-nth m j h)) (all-nth (Inv.Kept formulas xs) (holds m .entries) j _ (i .kept) (held-nth (m .links) fs (entryCount m) (m .cells) j size h)) }
+  stored = record {
+    long = refl;
+    keys = λ j. refl;
+    kept = λ j h.
+        by j (all-nth Written (entriesOf m) j _ (o .written) (entry-nth m j h))
+        (all-nth (Inv.Kept formulas xs) (holds m .entries) j _ (i .kept) (held-nth (m .links) fs (entryCount m) (m .cells) j size h));
+  }
     where
       by : (j : ℕ) → Written (entryAt (m .links) (m .cells) j) → Inv.Kept formulas xs (record { form = φ j; mark = markOf (keptAt (m .cells) j) })
           → (keptAt (m .cells) j ≡ nothingKept) ⊎ (keptAt (m .cells) j ≡ keptFor (shownAt xs fs j))

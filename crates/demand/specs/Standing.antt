@@ -18,7 +18,8 @@ use Rattle.layout.specs.Memory.{Memory, Node, Entry, entryCount, entriesOf, nod
 use Rattle.table.specs.Bind.{find, relink, Bound, bindOne, bindAll}
 use Rattle.formulas.specs.Formulas.{formulas}
 use Rattle.bridge.specs.Graphs.{nodes, graph-laws}
-use Rattle.bridge.specs.Recorded.{formsOf, length-forms}
+use Rattle.bridge.specs.Recorded.{length-forms}
+use Rattle.bridge.specs.EntryForms.{formsOf}
 use Rattle.demand.specs.Holds.{withMarks, markOf}
 use Rattle.binder.specs.AppendedLaws.{newEntry}
 use Rattle.demand.specs.Appended.{entries-length}

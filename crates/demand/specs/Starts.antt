@@ -33,7 +33,7 @@ use Rattle.table.specs.CheckedLaws.{well-is}
 use Rattle.table.specs.RightLaws.{right-key, right-at}
 use Rattle.formulas.specs.Formulas.{formulas}
 use Rattle.bridge.specs.Graphs.{nodes, graph-laws, number-key}
-use Rattle.bridge.specs.Recorded.{formsOf}
+use Rattle.bridge.specs.EntryForms.{formsOf}
 use Rattle.bridge.specs.FormulaLaws.{formula-laws}
 use Rattle.layout.specs.Links.{kindAt, keyAt}
 use Rattle.table.specs.Waits.{slotA, slotB}
@@ -41,7 +41,8 @@ use Rattle.table.specs.NodeKinds.{Fine, aNumber, aVariable, anUnbound, theReadi
 use Rattle.evaluator.specs.Frames.{leafOf, startAt, startFrom}
 use Rattle.scheduler.specs.declared.works.View.{View}
 use Rattle.scheduler.specs.Works.{nameFor, otherFor, view, showOf}
-use Rattle.refine.specs.Shows.{viewOf, slotNames, kept-shows}
+use Rattle.refine.specs.Shows.{slotNames, kept-shows}
+use Rattle.refine.specs.Views.{viewOf}
 use Rattle.interface.specs.Answers.{shownOf}
 use Rattle.demand.specs.Holds.{shownBy, shownIn, markOf, holds, keptFor, Ok}
 use Rattle.demand.specs.Appended.{lengths}

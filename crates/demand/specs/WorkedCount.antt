@@ -7,13 +7,8 @@ use Prim.Native.Nat.{ℕ, zero, suc, _+_, _≤_, _<_}
 use native.Mathlib.Omega.{arith}
 use lib.Dec.{leb}
 use Rattle.model.specs.Lists.{countIf}
-use Rattle.layout.specs.Memory.{Memory, Entry, keptAt, entriesFrom, entriesOf}
-
-abbrev pub isKept : Entry → Bool
-isKept e = leb 1 (e .kept .value)
-
-abbrev pub workedOut : Memory → ℕ
-workedOut m = countIf isKept (entriesOf m)
+use Rattle.layout.specs.Memory.{keptAt, entriesFrom}
+use Rattle.demand.specs.Holds.{isKept}
 
 module _ (links now then : List ℕ) where
   count-same : (p k : ℕ) → ((j : ℕ) → p ≤ j → keptAt then j ≡ keptAt now j) → countIf isKept (entriesFrom links then p k) ≡ countIf isKept (entriesFrom links now p k)

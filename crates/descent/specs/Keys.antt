@@ -13,7 +13,9 @@ use Rattle.language.specs.NamesLaws.{each-map, packed-word}
 use Rattle.language.specs.Cases.{by-cond}
 use Rattle.grammar.specs.Grammar.{Expression, Calls, Arguments, More, letIn, lambda, name, literal, bracket, done, call, none, first, last, next}
 use Rattle.grammar.specs.Faults.{Around, outermost, opened, inLet, inLambda}
-use Rattle.grammar.specs.KeptLimits.{InRange, ShortNames, SmallNumbers, EverywhereE, EverywhereC, EverywhereA, EverywhereM}
+use Rattle.grammar.specs.KeptLimits.{InRange, EverywhereE, EverywhereC, EverywhereA, EverywhereM}
+use Rattle.grammar.specs.SingleLimits.{ShortNames, SmallNumbers}
+use Rattle.grammar.specs.KeptLimitsLaws.{keeps-each}
 use Rattle.grammar.specs.Reading.{tree}
 use Rattle.grammar.specs.Machine.{readText}
 use Rattle.grammar.specs.Theorems.{text-read-plainly}
@@ -104,5 +106,5 @@ mutual
 
 pub small-keys : (text : List ℕ) (e : Expression) → readText text ≡ tree e → SmallKeys (recordsOf e .records)
 small-keys text e h =
-    let l = text-read-plainly text e .0 h .1 in
+    let l = keeps-each e (text-read-plainly text e .0 h .1) in
     keys-E e [] [] outermost (l .names) (l .numbers) (text-worded text e h) tt

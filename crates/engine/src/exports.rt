@@ -9,7 +9,7 @@ use interface::answers::PreviewAnswer;
 use interface::answers::Previewed;
 use scheduler::works::View;
 ghost use mathlib.Core.Path.{_≡_};
-ghost use Rattle.table.specs.Checked.{memory};
+ghost use Rattle.layout.specs.Memory.{memory};
 ghost use Rattle.interface.specs.declared.answers.Previewed.the-variants.{Finished};
 ghost use Rattle.interface.specs.Answers.{openNumber, editNumbers, previewNumbers};
 ghost use Rattle.interface.specs.Effects.{PlaceFits, OpensForC, EditsForC, PreviewsForC};
@@ -109,6 +109,7 @@ pub extern "C" fn formula_open(
     open_number(open(recording, readings, heads, links, cells))
 }
 
+// The edit's answer as plain numbers; each part's entry is written to the places.
 #[no_mangle]
 pub extern "C" fn formula_edit(
     text: &[u8],
@@ -127,6 +128,7 @@ pub extern "C" fn formula_edit(
     edit_numbers(edit(text, places, readings, heads, links, cells))
 }
 
+// The preview's answer as plain numbers.
 #[no_mangle]
 pub extern "C" fn formula_preview(
     entry: u32,

@@ -64,6 +64,7 @@ doneOf c = record { done = true; value = c; kind = numberKind; start = 0; length
 abbrev pub taskOf : ℕ → ℕ → ℕ → ℕ → ℕ → Task
 taskOf kind s l body v = record { done = false; value = 0; kind = kind; start = s; length = l; body = body; variable = v }
 
+-- a function: its body is judged with its own variable delayed, where the body awaits that
 unfoldable pub judgeOf : List ℕ → List ℕ → ℕ → ℕ → ℕ → Task
 judgeOf waits frame i body a =
     cond (leb 1 (ownOf (getD waits body 0) (getD waits i 0)))
@@ -81,10 +82,12 @@ runOf links waits f kind s l =
     (doneOf wrongCell))
     (doneOf wrongCell)
 
+-- what a member with one argument asks for
 unfoldable pub followOf : List ℕ → List ℕ → ℕ → ℕ → Applied → Task
 followOf links waits f kind (Done v) = doneOf (packOf v)
 followOf links waits f kind (Run s l) = runOf links waits f kind s l
 
+-- what entry i asks for, by its kind and what its dependencies have in the frame
 unfoldable pub planOf : Graph → List ℕ → ℕ → Task
 planOf g frame i =
     let kind : ℕ = kindAt (g .links) i in
@@ -124,10 +127,12 @@ overOf go body list v frame t (z ∷ zs) =
     let u : Tally = stepped t (unpackOf (getD after body 0)) in
     cond (u .stopped) u (overOf go body list v after u zs)
 
+-- what the runs come to, by the member
 unfoldable pub concludeOf : Found → Tally → ℕ
 concludeOf (Is m) t = packOf (finished m t)
 concludeOf Unknown t = wrongCell
 
+-- what entry i comes to, once what it asks for is worked out
 unfoldable pub finishOf : Graph → Go → List ℕ → ℕ → Task → ℕ
 finishOf g go frame i p =
     let list : List ℕ = gathered (g .links) (g .waits) (p .variable) (p .body) in

@@ -24,6 +24,7 @@ leafOf size kind key =
 unfoldable pub startAt : ℕ → List ℕ → List ℕ → ℕ → ℕ
 startAt size links cells i = cond (ltb (kindAt links i) functionKind) (leafOf size (kindAt links i) (keyAt cells i)) (valueAt cells i)
 
+-- k entries from i on
 unfoldable pub startFrom : ℕ → List ℕ → List ℕ → ℕ → ℕ → List ℕ → List ℕ
 startFrom size links cells zero i frame = frame
 startFrom size links cells (suc k) i frame = startFrom size links cells k (suc i) (set frame i (startAt size links cells i))

@@ -28,6 +28,7 @@ gatherFrom links waits v (suc j) flags list =
     cond (eqb (getD flags j 0) 1) (gatherFrom links waits v j (spread links waits v j flags) (j ∷ list))
     (gatherFrom links waits v j flags list)
 
+-- what a run of the body with the variable v has to work out again
 unfoldable pub gathered : List ℕ → List ℕ → ℕ → ℕ → List ℕ
 gathered links waits v body =
     cond (moves waits v body) (gatherFrom links waits v (suc body) (set (replicate tableEntries 0) body 1) [])

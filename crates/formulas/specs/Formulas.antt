@@ -14,10 +14,12 @@ use Rattle.model.specs.Language.{Language, Parsed, rejected, parts}
 abbrev pub IsReading : ℤ → Type 0
 IsReading z = mag z < 2 ^ 31
 
+-- what is read: the forms of the parts in the order of binding and by place, and the whole's form; or a refusal's number and place
 unfoldable pub parsed : Reading → Parsed Form
 parsed (tree e) = parts (formsInOrder e) (formsByPlace e) (formOf e)
 parsed (refused n at) = rejected n at
 
+-- our language
 abbrev pub formulas : Language
 formulas =
     record {

@@ -52,7 +52,15 @@ starred =
     ∷ record { text = bytes "let x = 3 in data.skip(1).take(x)"; whole = 6; parts = 7; new = 2; places = 6 ∷ 5 ∷ 1 ∷ 3 ∷ 2 ∷ 6 ∷ 5 ∷ []; worked = 1; shown = aWindow 1 3 } ∷ [])
     ∷ (record { text = bytes "data.countWhere(\\b -> b.gt(150))"; whole = 5; parts = 6; new = 6; places = 0 ∷ 5 ∷ 4 ∷ 1 ∷ 3 ∷ 2 ∷ []; worked = 3; shown = aNumber (pos 3) } ∷ [])
     ∷ (record { text = bytes "data.sum()"; whole = 1; parts = 2; new = 2; places = 0 ∷ 1 ∷ []; worked = 1; shown = aNumber (pos 755) } ∷ [])
-    ∷ (record { text = bytes "data.sumBy(\\p -> data.countWhere(\\q -> q.gt(p)))"; whole = 7; parts = 9; new = 8; places = 0 ∷ 7 ∷ 6 ∷ 0 ∷ 5 ∷ 4 ∷ 1 ∷ 3 ∷ 2 ∷ []; worked = 5; shown = aNumber (pos 10) } ∷ [])
+    ∷ (record {
+      text = bytes "data.sumBy(\\p -> data.countWhere(\\q -> q.gt(p)))";
+      whole = 7;
+      parts = 9;
+      new = 8;
+      places = 0 ∷ 7 ∷ 6 ∷ 0 ∷ 5 ∷ 4 ∷ 1 ∷ 3 ∷ 2 ∷ [];
+      worked = 5;
+      shown = aNumber (pos 10);
+    } ∷ [])
     ∷ (record { text = bytes "-7.div(2)"; whole = 2; parts = 3; new = 3; places = 0 ∷ 2 ∷ 1 ∷ []; worked = 1; shown = aNumber (negsuc 2) } ∷ [])
     ∷ (record { text = bytes "-2147483648.div(-1)"; whole = 2; parts = 3; new = 3; places = 0 ∷ 2 ∷ 1 ∷ []; worked = 1; shown = aReason 4 } ∷ [])
     ∷ (record { text = bytes "let u = 1.div(0) in 6"; whole = 3; parts = 5; new = 4; places = 3 ∷ 0 ∷ 2 ∷ 1 ∷ 3 ∷ []; worked = 0; shown = aNumber (pos 6) } ∷ [])
@@ -88,7 +96,15 @@ stretches =
     ∷ (record { text = bytes "data.bestSum(0)"; whole = 2; parts = 3; new = 3; places = 0 ∷ 2 ∷ 1 ∷ []; worked = 1; shown = aReason 5 } ∷ [])
     ∷ (record { text = bytes "data.bestAt(-1)"; whole = 2; parts = 3; new = 3; places = 0 ∷ 2 ∷ 1 ∷ []; worked = 1; shown = aReason 5 } ∷ [])
     ∷ (record { text = bytes "data.bestSum(6)"; whole = 2; parts = 3; new = 3; places = 0 ∷ 2 ∷ 1 ∷ []; worked = 1; shown = aReason 5 } ∷ [])
-    ∷ (record { text = bytes "data.sumBy(\\w -> data.take(3).bestSum(w.sub(w).add(2)))"; whole = 9; parts = 12; new = 10; places = 0 ∷ 9 ∷ 8 ∷ 0 ∷ 2 ∷ 1 ∷ 7 ∷ 3 ∷ 4 ∷ 3 ∷ 6 ∷ 5 ∷ []; worked = 6; shown = aNumber (pos 1560) } ∷ [])
+    ∷ (record {
+      text = bytes "data.sumBy(\\w -> data.take(3).bestSum(w.sub(w).add(2)))";
+      whole = 9;
+      parts = 12;
+      new = 10;
+      places = 0 ∷ 9 ∷ 8 ∷ 0 ∷ 2 ∷ 1 ∷ 7 ∷ 3 ∷ 4 ∷ 3 ∷ 6 ∷ 5 ∷ [];
+      worked = 6;
+      shown = aNumber (pos 1560);
+    } ∷ [])
     ∷ []
 
 pub stretches-hold : map (heard (start formulas recording)) stretches ≡ map expected stretches

@@ -17,6 +17,7 @@ use Rattle.grammar.specs.Grammar.{Expression, Calls, Arguments, More, le
 pub data Fault : Type 0 where
   fine outOfRange longName dataBound badCall manyLambdas reusedName tooMany : Fault
 
+-- 01, "When a call is declined": their numbers, 0 for no fault
 unfoldable pub faultNumber : Fault → ℕ
 faultNumber fine = 0
 faultNumber outOfRange = 6
@@ -48,6 +49,7 @@ inLet x d = record { marks = suc (d .marks); binders = byLet x ∷ d .binders }
 unfoldable pub inLambda : List ℕ → Around → Around
 inLambda x d = record { marks = suc (d .marks); binders = byLambda x ∷ d .binders }
 
+-- how many of them are lambdas
 unfoldable pub lambdasOf : List Binder → ℕ
 lambdasOf [] = 0
 lambdasOf (byLet x ∷ bs) = lambdasOf bs
@@ -122,10 +124,12 @@ orMany zero false = 0
 unfoldable pub fault : ℕ → Note → ℕ
 fault c (note f p) = orMany (faultNumber f) (p && leb textParts c)
 
+-- the parts up to this token
 unfoldable pub counted : ℕ → Note → ℕ
 counted c (note f true) = suc c
 counted c (note f false) = c
 
+-- of each token
 unfoldable pub faults : ℕ → List Note → List ℕ
 faults c [] = []
 faults c (n ∷ ns) = fault c n ∷ faults (counted c n) ns

@@ -11,6 +11,7 @@ use lib.IntN.{ℤ}
 use Rattle.grammar.specs.Tokens.{Token, kLet, kIn, kEquals, kLambda, kArrow, kDot, kOpen, kShut, kComma, word, number}
 
 mutual
+  -- let, lambda, or a chain by its atom: a name, a number, or brackets
   pub data Expression : Type 0 where
     letIn : List ℕ → Expression → Expression → Expression
     lambda : List ℕ → Expression → Expression

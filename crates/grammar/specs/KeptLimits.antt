@@ -76,87 +76,32 @@ module _ (P : Site → Around → Type 0) where
     EverywhereM (last r) d = EverywhereC r d
     EverywhereM (next e x) d = EverywhereE e (opened d) × EverywhereM x d
 
--- at most 16 of let, \ and ( are open at a point: where one opens, fewer are
-abbrev pub FewMarks : Site → Around → Type 0
-FewMarks (aLet x) d = d .marks < openMarks
-FewMarks (aLambda x) d = d .marks < openMarks
-FewMarks aBracket d = d .marks < openMarks
-FewMarks (aName x) d = Unit {0}
-FewMarks (aNumber z) d = Unit {0}
-FewMarks (aCall m n) d = d .marks < openMarks
-
--- and at most 2 of \
-abbrev pub FewLambdas : Site → Around → Type 0
-FewLambdas (aLet x) d = Unit {0}
-FewLambdas (aLambda x) d = lambdasOf (d .binders) < openLambdas
-FewLambdas aBracket d = Unit {0}
-FewLambdas (aName x) d = Unit {0}
-FewLambdas (aNumber z) d = Unit {0}
-FewLambdas (aCall m n) d = Unit {0}
-
 -- no lambda has the name of one around it, also where a let hides that one
 abbrev pub NoLambdaNamed : List ℕ → List Binder → Type 0
 NoLambdaNamed x [] = Unit {0}
 NoLambdaNamed x (byLet y ∷ bs) = NoLambdaNamed x bs
 NoLambdaNamed x (byLambda y ∷ bs) = (¬ (packed x ≡ packed y)) × NoLambdaNamed x bs
 
-abbrev pub NewLambdas : Site → Around → Type 0
-NewLambdas (aLet x) d = Unit {0}
-NewLambdas (aLambda x) d = NoLambdaNamed x (d .binders)
-NewLambdas aBracket d = Unit {0}
-NewLambdas (aName x) d = Unit {0}
-NewLambdas (aNumber z) d = Unit {0}
-NewLambdas (aCall m n) d = Unit {0}
-
--- names have at most 8 bytes
-abbrev pub ShortNames : Site → Around → Type 0
-ShortNames (aLet x) d = length x ≤ nameBytes
-ShortNames (aLambda x) d = length x ≤ nameBytes
-ShortNames aBracket d = Unit {0}
-ShortNames (aName x) d = length x ≤ nameBytes
-ShortNames (aNumber z) d = Unit {0}
-ShortNames (aCall m n) d = Unit {0}
-
 -- data is not bound
 abbrev pub NotData : List ℕ → Type 0
 NotData x = ¬ (packed x ≡ packed dataWord)
-
-abbrev pub DataUnbound : Site → Around → Type 0
-DataUnbound (aLet x) d = NotData x
-DataUnbound (aLambda x) d = NotData x
-DataUnbound aBracket d = Unit {0}
-DataUnbound (aName x) d = Unit {0}
-DataUnbound (aNumber z) d = Unit {0}
-DataUnbound (aCall m n) d = Unit {0}
 
 -- numbers are signed 32-bit
 abbrev pub InRange : ℤ → Type 0
 InRange z = (leastNumber ≤ℤ z) × (z ≤ℤ mostNumber)
 
-abbrev pub SmallNumbers : Site → Around → Type 0
-SmallNumbers (aLet x) d = Unit {0}
-SmallNumbers (aLambda x) d = Unit {0}
-SmallNumbers aBracket d = Unit {0}
-SmallNumbers (aName x) d = Unit {0}
-SmallNumbers (aNumber z) d = InRange z
-SmallNumbers (aCall m n) d = Unit {0}
+-- The table of limits. At most 16 of let, \ and ( are open at a point, and at most 2 of \: where one opens, fewer are. Names have at most 8
+-- bytes. Each member is known, and is given as many arguments as it takes.
+abbrev pub Limited : Site → Around → Type 0
+Limited (aLet x) d = (d .marks < openMarks) × ((length x ≤ nameBytes) × NotData x)
+Limited (aLambda x) d =
+    ((lambdasOf (d .binders) < openLambdas) × (d .marks < openMarks)) × ((length x ≤ nameBytes) × (NotData x × NoLambdaNamed x (d .binders)))
+Limited aBracket d = d .marks < openMarks
+Limited (aName x) d = length x ≤ nameBytes
+Limited (aNumber z) d = InRange z
+Limited (aCall m n) d = ((isUnknown (memberOf m) ≡ false) × (n ≡ takes (memberOf m))) × (d .marks < openMarks)
 
--- each member is known, and is given as many arguments as it takes
-abbrev pub RightCalls : Site → Around → Type 0
-RightCalls (aLet x) d = Unit {0}
-RightCalls (aLambda x) d = Unit {0}
-RightCalls aBracket d = Unit {0}
-RightCalls (aName x) d = Unit {0}
-RightCalls (aNumber z) d = Unit {0}
-RightCalls (aCall m n) d = (isUnknown (memberOf m) ≡ false) × (n ≡ takes (memberOf m))
-
--- all of them, of a whole tree
+-- of a whole tree; a text has at most 128 parts
 pub record KeepsLimits (e : Expression) : Type 0 where
-  pub marks : EverywhereE FewMarks e outermost
-  pub lambdas : EverywhereE FewLambdas e outermost
-  pub lambdaNames : EverywhereE NewLambdas e outermost
-  pub names : EverywhereE ShortNames e outermost
-  pub dataFree : EverywhereE DataUnbound e outermost
-  pub numbers : EverywhereE SmallNumbers e outermost
-  pub members : EverywhereE RightCalls e outermost
+  pub sites : EverywhereE Limited e outermost
   pub parts : partsE e ≤ textParts

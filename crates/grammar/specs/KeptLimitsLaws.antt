@@ -5,17 +5,17 @@ use mathlib.Core.Path.{_≡_, refl, ap}
 use mathlib.Core.Logic.{_↔_, Iff·rfl, Iff·trans, Iff·not, Iff·and}
 use mathlib.Core.Bool.{Bool, true, false, true≢false}
 use mathlib.Core.List.{List, [], _∷_}
-use Prim.Native.Nat.{ℕ, zero, suc, _+_, _-_, _<_, _≤_}
+use Prim.Native.Nat.{ℕ, zero, suc, _+_, _-_, _≤_}
 use native.Mathlib.Omega.{arith}
 use lib.Dec.{leb, eqb}
-use lib.ListN.{length}
-use Rattle.language.specs.Limits.{textParts, openMarks, openLambdas, nameBytes}
+use Rattle.language.specs.Limits.{textParts}
 use Rattle.members.specs.Members.{memberOf, isUnknown, takes}
 use Rattle.grammar.specs.Grammar.{Expression, Calls, Arguments, More, letIn, lambda, name, literal, bracket, done, call, none, first, last, next}
-use Rattle.grammar.specs.Faults.{Fault, fine, faultNumber, Around, outermost, opened, inLet, inLambda, lambdasOf}
+use Rattle.grammar.specs.Faults.{Fault, fine, faultNumber, Around, outermost, opened, inLet, inLambda}
 use Rattle.grammar.specs.Faults.{callFault, Note, note, plain, notesE, notesC, notesA, notesM, orMany, fault, counted, faults, faultsOf, Clean}
 use Rattle.grammar.specs.KeptLimits.{partsE, partsC, partsA, partsM, givenM, givenA, Site, aLet, aLambda, aBracket, aName, aNumber, aCall, EverywhereE, EverywhereC, EverywhereA, EverywhereM}
-use Rattle.grammar.specs.KeptLimits.{FewMarks, FewLambdas, NoLambdaNamed, NewLambdas, ShortNames, NotData, DataUnbound, InRange, SmallNumbers, RightCalls, KeepsLimits}
+use Rattle.grammar.specs.KeptLimits.{Limited, KeepsLimits}
+use Rattle.grammar.specs.SingleLimits.{FewLambdas, NewLambdas, ShortNames, DataUnbound, SmallNumbers, RightCalls, KeepsEach}
 use Rattle.grammar.specs.FaultLaws.{not-leb-iff, eqb-iff, is-false, same-fault, deep-fine, mark-fine, lambda-fine, lambda-name-fine, let-name-fine, name-fine, literal-fine, call-fine}
 
 abbrev AllFine : List Note → Type 0
@@ -78,15 +78,6 @@ mutual
   parts-M (last r) k d u = parts-C r d u
   parts-M (next e x) k d u = let h = parts-E e false (opened d) (notesM x (k - 1) d u) in let l = parts-M x (k - 1) d u in omega arith
 
--- what is asked at a site
-abbrev Good : Site → Around → Type 0
-Good (aLet x) d = (d .marks < openMarks) × ((length x ≤ nameBytes) × NotData x)
-Good (aLambda x) d = ((lambdasOf (d .binders) < openLambdas) × (d .marks < openMarks)) × ((length x ≤ nameBytes) × (NotData x × NoLambdaNamed x (d .binders)))
-Good aBracket d = d .marks < openMarks
-Good (aName x) d = length x ≤ nameBytes
-Good (aNumber z) d = InRange z
-Good (aCall m n) d = ((isUnknown (memberOf m) ≡ false) × (n ≡ takes (memberOf m))) × (d .marks < openMarks)
-
 -- a ) with no argument to come; an argument or a comma with one to come
 none-left : (k : ℕ) → (callFault (leb 1 k) ≡ fine) ↔ (0 ≡ k)
 none-left k = Iff·trans (call-fine (leb 1 k)) (Iff·trans (not-leb-iff 1 k) (λ h. omega arith, λ h. omega arith))
@@ -97,7 +88,7 @@ some-left k = Iff·trans (is-false (eqb k 0)) (Iff·trans (Iff·not (eqb-iff k 0
 mutual
   unfolding notesE givenA
 
-  fine-E : (e : Expression) (w : Bool) (d : Around) (u : List Note) → AllFine (notesE e w d u) ↔ ((w ≡ false) × EverywhereE Good e d × AllFine u)
+  fine-E : (e : Expression) (w : Bool) (d : Around) (u : List Note) → AllFine (notesE e w d u) ↔ ((w ≡ false) × EverywhereE Limited e d × AllFine u)
   fine-E (letIn x a b) w d u =
       let A = fine-E a false (opened d) (plain ∷ notesE b false (inLet x d) u) in
       let B = fine-E b false (inLet x d) u in (
@@ -134,7 +125,7 @@ mutual
         λ h. (mark-fine d w .1 (h .0, h .1 .0), A .1 (refl, h .1 .1, (refl, fine-C r d u .1 (h .1 .2, h .2)))),
       )
 
-  fine-C : (r : Calls) (d : Around) (u : List Note) → AllFine (notesC r d u) ↔ (EverywhereC Good r d × AllFine u)
+  fine-C : (r : Calls) (d : Around) (u : List Note) → AllFine (notesC r d u) ↔ (EverywhereC Limited r d × AllFine u)
   fine-C done d u = (λ h. (tt, h), λ h. h .1)
   fine-C (call m a) d u =
       let A = fine-A a (takes (memberOf m)) d u in (
@@ -144,7 +135,7 @@ mutual
         λ h. (refl, (call-fine (isUnknown (memberOf m)) .1 (h .0 .0 .0 .0), (deep-fine d .1 (h .0 .0 .1), A .1 (h .0 .0 .0 .1, h .0 .1, h .1)))),
       )
 
-  fine-A : (a : Arguments) (k : ℕ) (d : Around) (u : List Note) → AllFine (notesA a k d u) ↔ ((givenA a ≡ k) × EverywhereA Good a d × AllFine u)
+  fine-A : (a : Arguments) (k : ℕ) (d : Around) (u : List Note) → AllFine (notesA a k d u) ↔ ((givenA a ≡ k) × EverywhereA Limited a d × AllFine u)
   fine-A (none r) k d u = (
     λ h. let q = fine-C r d u .0 (h .1) in (none-left k .0 (h .0), q .0, q .1),
     λ h. (none-left k .1 (h .0), fine-C r d u .1 (h .1, h .2)),
@@ -161,7 +152,7 @@ mutual
         λ h. let n = h .0 in A .1 (some-left k .1 (omega arith), h .1 .0, B .1 (omega arith, h .1 .1, h .2)),
       )
 
-  fine-M : (x : More) (k : ℕ) (d : Around) (u : List Note) → AllFine (notesM x k d u) ↔ ((givenM x ≡ k) × EverywhereM Good x d × AllFine u)
+  fine-M : (x : More) (k : ℕ) (d : Around) (u : List Note) → AllFine (notesM x k d u) ↔ ((givenM x ≡ k) × EverywhereM Limited x d × AllFine u)
   fine-M (last r) k d u = (
     λ h. let q = fine-C r d u .0 (h .1) in (none-left k .0 (h .0), q .0, q .1),
     λ h. (none-left k .1 (h .0), fine-C r d u .1 (h .1, h .2)),
@@ -203,23 +194,6 @@ module _ (P Q R : Site → Around → Type 0) (f : (s : Site) (d : Around) → P
 abbrev pub Both : (P Q : Site → Around → Type 0) → Site → Around → Type 0
 Both P Q s d = P s d × Q s d
 
-abbrev OfNames : Site → Around → Type 0
-OfNames = Both NewLambdas (Both ShortNames DataUnbound)
-
-abbrev OfOpen : Site → Around → Type 0
-OfOpen = Both FewMarks FewLambdas
-
-abbrev All : Site → Around → Type 0
-All = Both OfOpen (Both OfNames (Both SmallNumbers RightCalls))
-
-all-good : (s : Site) (d : Around) → All s d ↔ Good s d
-all-good (aLet x) d = (λ h. (h .0 .0, h .1 .0 .1), λ h. ((h .0, tt), ((tt, h .1), (tt, tt))))
-all-good (aLambda x) d = (λ h. ((h .0 .1, h .0 .0), (h .1 .0 .1 .0, (h .1 .0 .1 .1, h .1 .0 .0))), λ h. ((h .0 .1, h .0 .0), ((h .1 .1 .1, (h .1 .0, h .1 .1 .0)), (tt, tt))))
-all-good aBracket d = (λ h. h .0 .0, λ h. ((h, tt), ((tt, (tt, tt)), (tt, tt))))
-all-good (aName x) d = (λ h. h .1 .0 .1 .0, λ h. ((tt, tt), ((tt, (h, tt)), (tt, tt))))
-all-good (aNumber z) d = (λ h. h .1 .1 .0, λ h. ((tt, tt), ((tt, (tt, tt)), (h, tt))))
-all-good (aCall m n) d = (λ h. (h .1 .1 .1, h .0 .0), λ h. ((h .1, tt), ((tt, (tt, tt)), (tt, h .0))))
-
 module _ (e : Expression) where
   pub onward : (P Q : Site → Around → Type 0) → ((s : Site) (d : Around) → P s d → Q s d) → EverywhereE P e outermost → EverywhereE Q e outermost
   onward P Q f h = weave-E P P Q (λ s d p q. f s d p) e outermost h h
@@ -227,31 +201,71 @@ module _ (e : Expression) where
   pub both : (P Q : Site → Around → Type 0) → EverywhereE P e outermost → EverywhereE Q e outermost → EverywhereE (Both P Q) e outermost
   both P Q = weave-E P Q (Both P Q) (λ s d p q. (p, q)) e outermost
 
-  keeps-good : (EverywhereE Good e outermost × (partsE e ≤ textParts)) ↔ KeepsLimits e
-  keeps-good = (
-    λ h.
-        let all = onward Good All (λ s d. all-good s d .1) (h .0) in
-        record {
-          marks = onward All FewMarks (λ s d p. p .0 .0) all;
-          lambdas = onward All FewLambdas (λ s d p. p .0 .1) all;
-          lambdaNames = onward All NewLambdas (λ s d p. p .1 .0 .0) all;
-          names = onward All ShortNames (λ s d p. p .1 .0 .1 .0) all;
-          dataFree = onward All DataUnbound (λ s d p. p .1 .0 .1 .1) all;
-          numbers = onward All SmallNumbers (λ s d p. p .1 .1 .0) all;
-          members = onward All RightCalls (λ s d p. p .1 .1 .1) all;
-          parts = h .1;
-        },
-    λ h.
-        let opens = both FewMarks FewLambdas (h .marks) (h .lambdas) in
-        let names = both NewLambdas (Both ShortNames DataUnbound) (h .lambdaNames) (both ShortNames DataUnbound (h .names) (h .dataFree)) in
-        let rest = both OfNames (Both SmallNumbers RightCalls) names (both SmallNumbers RightCalls (h .numbers) (h .members)) in
-        (onward All Good (λ s d. all-good s d .0) (both OfOpen (Both OfNames (Both SmallNumbers RightCalls)) opens rest), h .parts),
-  )
+  -- each limit by itself
+  pub keeps-each : KeepsLimits e → KeepsEach e
+  keeps-each h =
+      record {
+        lambdas = onward Limited FewLambdas lambdas (h .sites);
+        lambdaNames = onward Limited NewLambdas lambdaNames (h .sites);
+        names = onward Limited ShortNames names (h .sites);
+        dataFree = onward Limited DataUnbound dataFree (h .sites);
+        numbers = onward Limited SmallNumbers numbers (h .sites);
+        members = onward Limited RightCalls members (h .sites);
+      }
+    where
+      lambdas : (s : Site) (d : Around) → Limited s d → FewLambdas s d
+      lambdas (aLet x) d h = tt
+      lambdas (aLambda x) d h = h .0 .0
+      lambdas aBracket d h = tt
+      lambdas (aName x) d h = tt
+      lambdas (aNumber z) d h = tt
+      lambdas (aCall m n) d h = tt
+
+      lambdaNames : (s : Site) (d : Around) → Limited s d → NewLambdas s d
+      lambdaNames (aLet x) d h = tt
+      lambdaNames (aLambda x) d h = h .1 .1 .1
+      lambdaNames aBracket d h = tt
+      lambdaNames (aName x) d h = tt
+      lambdaNames (aNumber z) d h = tt
+      lambdaNames (aCall m n) d h = tt
+
+      names : (s : Site) (d : Around) → Limited s d → ShortNames s d
+      names (aLet x) d h = h .1 .0
+      names (aLambda x) d h = h .1 .0
+      names aBracket d h = tt
+      names (aName x) d h = h
+      names (aNumber z) d h = tt
+      names (aCall m n) d h = tt
+
+      dataFree : (s : Site) (d : Around) → Limited s d → DataUnbound s d
+      dataFree (aLet x) d h = h .1 .1
+      dataFree (aLambda x) d h = h .1 .1 .0
+      dataFree aBracket d h = tt
+      dataFree (aName x) d h = tt
+      dataFree (aNumber z) d h = tt
+      dataFree (aCall m n) d h = tt
+
+      numbers : (s : Site) (d : Around) → Limited s d → SmallNumbers s d
+      numbers (aLet x) d h = tt
+      numbers (aLambda x) d h = tt
+      numbers aBracket d h = tt
+      numbers (aName x) d h = tt
+      numbers (aNumber z) d h = h
+      numbers (aCall m n) d h = tt
+
+      members : (s : Site) (d : Around) → Limited s d → RightCalls s d
+      members (aLet x) d h = tt
+      members (aLambda x) d h = tt
+      members aBracket d h = tt
+      members (aName x) d h = tt
+      members (aNumber z) d h = tt
+      members (aCall m n) d h = h .0
 
   pub limits-kept : Clean (faultsOf e) ↔ KeepsLimits e
   unfolding partsIn
   limits-kept =
       let p = parts-E e false outermost [] in
-      Iff·trans (clean-fine (notesE e false outermost []) 0 (omega arith)) (Iff·trans
-      (λ h. let l = h .1 in (fine-E e false outermost [] .0 (h .0) .1, omega arith), λ h. let l = h .1 in (fine-E e false outermost [] .1 (refl, h .0, tt), omega arith))
-      keeps-good)
+      Iff·trans (clean-fine (notesE e false outermost []) 0 (omega arith)) (
+        λ h. let l = h .1 in record { sites = fine-E e false outermost [] .0 (h .0) .1; parts = omega arith },
+        λ h. let l = h .parts in (fine-E e false outermost [] .1 (refl, h .sites, tt), omega arith),
+      )

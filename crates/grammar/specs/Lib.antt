@@ -7,6 +7,7 @@ pub mod Machine
 pub mod MachineLaws
 pub mod ReadLaws
 pub mod KeptLimits
+pub mod SingleLimits
 pub mod FaultLaws
 pub mod KeptLimitsLaws
 pub mod Places

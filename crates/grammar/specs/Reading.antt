@@ -44,5 +44,6 @@ placeIn (x ∷ xs) end (suc j) = placeIn xs end j
 abbrev pub placeOf : List ℕ → ℕ → ℕ
 placeOf text j = placeIn (tokens text) (length text) j
 
+-- the tokens of a text, without their places
 abbrev pub tokensOf : List ℕ → List Token
 tokensOf text = map (λ (x : Located). x .token) (tokens text)

@@ -8,6 +8,7 @@ use lib.ListN.{take}
 use Rattle.language.specs.Names.{isLetter, isDigit, inWord, isBlank, letWord, inWord! }
 use Rattle.members.specs.Members.{sameBytes}
 
+-- let in = \ -> . ( ) , and words and numbers
 pub data Token : Type 0 where
   kLet kIn kEquals kLambda kArrow kDot kOpen kShut kComma : Token
   word : List ℕ → Token
@@ -45,9 +46,11 @@ lexeme t n = record { token = t; width = n }
 unfoldable pub wordToken : List ℕ → Token
 wordToken w = cond (sameBytes w letWord) kLet (cond (sameBytes w inWord!) kIn (word w))
 
+-- a word is a letter, then letters and digits
 unfoldable pub wordAt : List ℕ → Lexeme
 wordAt t = let n : ℕ = leading inWord t in lexeme (wordToken (take n t)) n
 
+-- a number is decimal digits; leading zeros are allowed
 unfoldable pub digitsAt : List ℕ → Lexeme
 digitsAt t = let n : ℕ = leading isDigit t in lexeme (number (pos (decimal (take n t)))) n
 
@@ -92,5 +95,6 @@ scan zero at (b ∷ bs) =
     (λ _. scan zero (suc at) bs)
     (λ _. let x : Lexeme = tokenAt b bs in record { token = x .token; place = at } ∷ scan (x .width - 1) (suc at) bs)
 
+-- of a whole text
 abbrev pub tokens : List ℕ → List Located
 tokens t = scan 0 0 t

@@ -43,8 +43,8 @@ pub record Ready (m : Memory) (places text : List ℕ) : Type 0 where
   pub room : textParts ≤ length places
   pub well : wellFormed m ≡ true
 
--- nor 5 to 12, as the text is read, nor 13: the entries held and the new ones
-pub record CanEdit (m : Memory) (places text : List ℕ) : Type 0 where
+-- nor 5 to 12, as the text is read, nor 13: its records bound to the entries held
+pub record CanBind (m : Memory) (places text : List ℕ) : Type 0 where
   pub ready : Ready m places text
   pub expression : Expression
   pub read : readText text ≡ tree expression

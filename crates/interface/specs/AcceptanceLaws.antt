@@ -32,7 +32,7 @@ use Rattle.interface.specs.declared.answers.Previewed.the-variants.{NotY
 use Rattle.interface.specs.Answers.{Reply, openReply, editReply, openNumber, editNumbers, previewNumbers}
 use Rattle.interface.specs.Calls.{boundTo, openAnswer, editAnswer, previewed}
 use Rattle.interface.specs.Effects.{OpensForC, EditsForC, PreviewsForC}
-use Rattle.interface.specs.Acceptance.{OpenRefusal, EditRefusal, PreviewRefusal, IsEdited, Ready, CanEdit, InLanguage, TextDeclined}
+use Rattle.interface.specs.Acceptance.{OpenRefusal, EditRefusal, PreviewRefusal, IsEdited, Ready, CanBind, InLanguage, TextDeclined}
 use Rattle.interface.specs.Outcomes.{OpenOutcome, open-outcome, is-edited, EditOutcome, edit-outcome, PreviewOutcome, preview-outcome}
 
 -- ---- open
@@ -67,10 +67,10 @@ same-tree : (m : Memory) (text : List ℕ) (e e′ : Expression) → readText te
     → length (boundTo m (recordsOf e) .nodes) ≡ length (boundTo m (recordsOf e′) .nodes)
 same-tree m text e e′ h h′ = let z : e ≡ e′ = cc in rw z
 
-pub edit-accepted : (m : Memory) (places text : List ℕ) → IsEdited (editAnswer m places text) ↔ CanEdit m places text
+pub edit-accepted : (m : Memory) (places text : List ℕ) → IsEdited (editAnswer m places text) ↔ CanBind m places text
 edit-accepted m places text = by (edit-outcome m places text)
   where
-    by : EditOutcome m places text → IsEdited (editAnswer m places text) ↔ CanEdit m places text
+    by : EditOutcome m places text → IsEdited (editAnswer m places text) ↔ CanBind m places text
     by (EditOutcome.long l e) = (λ h. impossible (not-edited e h), λ c. let z = c .ready .short in absurd (omega arith))
     by (EditOutcome.little q e) = (λ h. impossible (not-edited e h), λ c. impossible (not-little m places text q (c .ready)))
     by (EditOutcome.ill w e) = (λ h. impossible (not-edited e h), λ c. impossible (sym w ∙ c .ready .well))

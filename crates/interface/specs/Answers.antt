@@ -22,6 +22,7 @@ use Rattle.interface.specs.declared.answers.PreviewAnswer.{PreviewAnswer
 abbrev pub Reply : Type 0
 Reply = Answer formulas
 
+-- an open is done, or refused with a number
 abbrev pub openReply : Opened → Reply
 openReply O.Done = opened
 openReply (O.Refused n) = refused n 0
@@ -50,6 +51,7 @@ shownOf v =
     (cond (eqb (v .kind) 5) (aReason (natural (v .first)))
     (aReason 0)))))
 
+-- a preview says 'not yet' or what the entry shows, each with how many entries it worked out
 abbrev pub previewReply : Previewed → Reply
 previewReply (P.NotYet k) = notYet k
 previewReply (P.Finished k v) = finished k (shownOf v)

@@ -51,14 +51,17 @@ boundTo m R = bindAll (held m) (R .records)
 abbrev pub tooMany : Bound → Bool
 tooMany b = ltb tableEntries (length (b .nodes))
 
+-- the whole's entry, the number of parts, the number of new entries, and each part's entry by place
 abbrev pub editedAs : Memory → Recorded → Bound → Reply
 editedAs m R b =
     cond (tooMany b) (refused 13 0)
     (edited (getD (b .numbers) (R .root) 0) (length (R .places)) (length (b .nodes) - entryCount m) (map (λ (j : ℕ). getD (b .numbers) j 0) (R .places)))
 
+-- the new entries are appended
 abbrev pub editedMemory : Memory → Bound → Memory
 editedMemory m b = cond (tooMany b) m (appendAll m (drop (entryCount m) (b .nodes)))
 
+-- of what is read: 5 to 12, or the edit's answer
 unfoldable pub readAnswer : Memory → Reading → Reply
 readAnswer m (refusedAt n at) = refused n at
 readAnswer m (tree e) = editedAs m (recordsOf e) (boundTo m (recordsOf e))
@@ -71,6 +74,7 @@ readMemory m (tree e) = editedMemory m (boundTo m (recordsOf e))
 abbrev pub declines : Memory → List ℕ → List ℕ → Bool
 declines m places text = ltb textBytes (length text) || (not (fits m && leb textParts (length places)) || not (wellFormed m))
 
+-- 01: 1 to 4 are tested by number; then 5 to 12; then 13
 unfoldable pub editAnswer : Memory → (places text : List ℕ) → Reply
 editAnswer m places text =
     cond (ltb textBytes (length text)) (refused 1 0)
@@ -96,6 +100,7 @@ workedMemory m w = record { readings = m .readings; heads = m .heads; links = m 
 abbrev pub previewedAs : Memory → ℕ → Work → Previewed
 previewedAs m n w = cond (w .left) (NotYet (w .count)) (Finished (w .count) (showOf (readingCount m) (m .links) (w .cells) n))
 
+-- 01: 1 to 4 are tested by number; then 14
 unfoldable pub previewed : Memory → (number allowance : ℕ) → Previewed
 previewed m n a =
     cond (not (fits m)) (Refused 3)
@@ -122,10 +127,12 @@ windowIn Function = record { start = 0; length = 0 }
 windowIn Delayed = record { start = 0; length = 0 }
 windowIn (Missing r) = record { start = 0; length = 0 }
 
+-- 01, "Four calls": the empty part where the entry is not worked out or does not exist, or the cache is refused
 unfoldable pub partOf : Memory → ℕ → Part
 partOf m n =
     cond (fits m && (wellFormed m && doneAt (entriesOf m) n)) (windowIn (unpackOf (startAt (readingCount m) (m .links) (m .cells) n)))
     (record { start = 0; length = 0 })
 
+-- that very part of the kept readings
 abbrev pub fetched : Memory → ℕ → List ℤ
 fetched m n = take (partOf m n .length) (drop (partOf m n .start) (m .readings))

@@ -1,6 +1,7 @@
 // What the calls answer. Refusals have 01's numbers; an edit's has a byte place too.
 use scheduler::works::View;
 
+// Done, or refused.
 pub enum Opened {
     Done,
     Refused { number: u8 },

@@ -15,12 +15,17 @@ pub record Memory : Type 0 where
   pub links : List ℕ
   pub cells : List ℕ
 
+-- the memory that a call is lent as these slices
+abbrev pub memory : List ℤ → List ℕ → List ℕ → List ℕ → Memory
+memory readings heads links cells = record { readings = readings; heads = heads; links = links; cells = cells }
+
 -- 01, refusal 3: is the cache lent whole
 unfoldable pub fits : Memory → Bool
 fits m =
     leb tableReadings (length (m .readings))
     && (leb 2 (length (m .heads)) && (leb tableLinks (length (m .links)) && leb tableCells (length (m .cells))))
 
+-- how many entries and how many readings it has, and the recording
 abbrev pub entryCount : Memory → ℕ
 entryCount m = getD (m .heads) 0 0
 
@@ -46,10 +51,12 @@ pub record Kept : Type 0 where
   pub name : ℕ
   pub other : ℕ
 
+-- an entry, and what is kept of it
 pub record Entry : Type 0 where
   pub node : Node
   pub kept : Kept
 
+-- not worked out
 abbrev pub nothingKept : Kept
 nothingKept = record { value = 0; name = 0; other = 0 }
 
@@ -68,6 +75,7 @@ unfoldable pub entriesFrom : List ℕ → List ℕ → ℕ → ℕ → List Entr
 entriesFrom links cells i zero = []
 entriesFrom links cells i (suc n) = entryAt links cells i ∷ entriesFrom links cells (suc i) n
 
+-- all of them
 abbrev pub entriesOf : Memory → List Entry
 entriesOf m = entriesFrom (m .links) (m .cells) 0 (entryCount m)
 

@@ -44,6 +44,7 @@ kindCount = firstMember + length members
 unfoldable pub memberOfKind : ℕ → Found
 memberOfKind k = cond (ltb k firstMember) Unknown (memberAt (k - firstMember))
 
+-- receiver first, and then the arguments
 abbrev pub memberArity : Found → ℕ
 memberArity (Is m) = suc (row m .arguments)
 memberArity Unknown = 0
@@ -56,6 +57,7 @@ arity k = cond (eqb k functionKind) 1 (memberArity (memberOfKind k))
 abbrev pub worksKind : ℕ → Bool
 worksKind k = leb functionKind k
 
+-- the first so many links, as numbers
 abbrev pub listed : ℕ → Node → List ℕ
 listed zero n = []
 listed (suc zero) n = (n .first - 1) ∷ []
@@ -73,6 +75,7 @@ sameNode a b = eqb (a .kind) (b .kind) && (eqb (a .key) (b .key) && (eqb (a .fir
 abbrev pub numberOfKey : ℕ → ℤ
 numberOfKey key = pos key -ℤ pos 2147483648
 
+-- a member with its dependencies, receiver first
 abbrev pub memberForm : Found → Form → Form → Form
 memberForm (Is m) f a = cond (eqb (row m .arguments) 0) (ask m f) (call m f a)
 memberForm Unknown f a = readings

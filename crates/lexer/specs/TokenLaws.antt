@@ -11,7 +11,8 @@ use lib.ListN.{length, take}
 use borrow.Author.Tests.{leb-true, eqb-true, ne-eqb}
 use Rattle.language.specs.Names.{isLetter, isDigit, inWord, letWord, inWord! }
 use Rattle.members.specs.Members.{sameBytes}
-use Rattle.grammar.specs.Tokens.{Token, kLet, kIn, kEquals, kLambda, kArrow, kDot, kOpen, kShut, kComma, word, number, other, when, leading, decimal, Lexeme, lexeme, wordToken, wordAt, digitsAt, minusAt, markToken, tokenAt}
+use Rattle.grammar.specs.Tokens.{Token, kLet, kIn, kEquals, kLambda, kArrow, kDot, kOpen, kShut, kComma, word, number, other}
+use Rattle.grammar.specs.Tokens.{when, leading, decimal, Lexeme, lexeme, wordToken, wordAt, digitsAt, minusAt, markToken, tokenAt}
 use Rattle.lexer.specs.Lexing.{tokenKind, valueOf, tokenFor}
 use Rattle.lexer.specs.LoopsLaws.{leading-more, leading-le}
 

@@ -22,6 +22,7 @@ pub record Meaning : Type 0 where
 abbrev pub means : List ℕ → Form → Meaning
 means x f = record { name = x; form = f }
 
+-- an inner let or lambda hides an outer one; a name that none of them binds is unbound
 unfoldable pub lookUp : List ℕ → List Meaning → Form
 lookUp x [] = unbound (packed x)
 lookUp x (e ∷ Γ) = cond (sameName x (e .name)) (e .form) (lookUp x Γ)
@@ -30,6 +31,7 @@ lookUp x (e ∷ Γ) = cond (sameName x (e .name)) (e .form) (lookUp x Γ)
 unfoldable pub named : List ℕ → List Meaning → Form
 named x Γ = cond (isData x) readings (lookUp x Γ)
 
+-- in a lambda's body its name is a variable
 abbrev pub asLambda : List ℕ → List Meaning → List Meaning
 asLambda x Γ = means x (variable (packed x)) ∷ Γ
 

@@ -10,7 +10,7 @@ use lib.ListN.{length}
 use Rattle.rules.specs.declared.Value.{Value}
 use Rattle.rules.specs.declared.Value.the-variants.{Number, Window, Function, Delayed, Missing}
 use Rattle.rules.specs.Values.{unboundName}
-use Rattle.rules.specs.Apply.{apply0, apply1, isDelayed}
+use Rattle.rules.specs.Apply.{apply0, apply1, isMissing, isDelayed}
 use Rattle.meaning.specs.Forms.{Form, number, variable, unbound, readings, ask, call, function, nameOf}
 
 -- what a form comes to: a value that holds no function; or a function, with what its body comes to for a reading
@@ -32,6 +32,7 @@ pub data Environment : Type 0 where
   nowhere : Environment
   bind : ℕ → Value → Environment → Environment
 
+-- the innermost; a variable that stands for nothing is delayed
 unfoldable pub lookup : Environment → ℕ → Value
 lookup nowhere y = Delayed
 lookup (bind x v ρ) y = cond (eqb x y) v (lookup ρ y)
@@ -48,12 +49,9 @@ settled ρ (function x b) = settled (bind x (Number (pos 0)) ρ) b
 
 -- a function: missing where its body is, with its own variable delayed; delayed where the body awaits another variable
 abbrev pub functionOf : Value → Bool → (ℤ → Result) → Result
-functionOf (Missing r) s g = plain (Missing r)
-functionOf (Number z) s g = cond s (runs g) (plain Delayed)
-functionOf (Window i l) s g = cond s (runs g) (plain Delayed)
-functionOf Function s g = cond s (runs g) (plain Delayed)
-functionOf Delayed s g = cond s (runs g) (plain Delayed)
+functionOf v s g = cond (isMissing v) (plain v) (cond s (runs g) (plain Delayed))
 
+-- Figure 5, as mended by 01: data is a value, an unbound name is missing, and a member is applied to what its dependencies come to
 unfoldable pub evaluate : List ℤ → Environment → Form → Result
 evaluate xs ρ (number z) = plain (Number z)
 evaluate xs ρ (variable x) = plain (lookup ρ x)
@@ -85,10 +83,12 @@ unfoldable pub joined : List ℕ → List ℕ → List ℕ
 joined xs [] = xs
 joined xs (y ∷ ys) = joined (cond (hasName y xs) xs (xs ++ (y ∷ []))) ys
 
+-- the names but x
 unfoldable pub without : ℕ → List ℕ → List ℕ
 without x [] = []
 without x (y ∷ ys) = cond (eqb x y) (without x ys) (y ∷ without x ys)
 
+-- 01: delayed shows the awaited names by first occurrence in the let-free form
 unfoldable pub awaited : Form → List ℕ
 awaited (number z) = []
 awaited (variable x) = x ∷ []
@@ -106,6 +106,7 @@ pub data Shown : Type 0 where
   aDelay : (names : List ℕ) → Shown
   aReason : ℕ → Shown
 
+-- 01: a function shows its name
 abbrev pub shownAs : Form → Value → Shown
 shownAs f (Number z) = aNumber z
 shownAs f (Window s l) = aWindow s l

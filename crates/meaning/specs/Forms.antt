@@ -9,6 +9,8 @@ use Rattle.members.specs.declared.Member.{Member}
 use Rattle.members.specs.declared.Member.the-variants.{Add}
 use Rattle.rules.specs.Values.{sameℤ}
 
+-- 01: a number; a lambda variable by name; an unbound name; data; a member with its dependencies, receiver first; or a function with its name
+-- and its body, its one dependency
 pub data Form : Type 0 where
   number : ℤ → Form
   -- a lambda variable, by name
@@ -22,6 +24,19 @@ pub data Form : Type 0 where
   -- a function with its name and its body
   function : ℕ → Form → Form
 
+-- the dependencies of a form: a member's receiver and its argument, a function's body
+pub data IsDependency : Form → Form → Type 0 where
+  ofAsk : (m : Member) (f : Form) → IsDependency f (ask m f)
+  receiver : (m : Member) (f a : Form) → IsDependency f (call m f a)
+  argument : (m : Member) (f a : Form) → IsDependency a (call m f a)
+  body : (x : ℕ) (b : Form) → IsDependency b (function x b)
+
+-- 01, "Working out": below an entry lies all that its dependencies, and theirs in turn, reach; the first form is the second or lies below it
+pub data AtOrBelow : Form → Form → Type 0 where
+  itself : (f : Form) → AtOrBelow f f
+  through : (f d g : Form) → AtOrBelow f d → IsDependency d g → AtOrBelow f g
+
+-- the two members are one
 abbrev pub sameMember : Member → Member → Bool
 sameMember m n = eqb (memberNumber m) (memberNumber n)
 

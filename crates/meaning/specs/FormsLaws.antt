@@ -1,6 +1,6 @@
 -- The test `same` is equality of forms, and what lies within a form is the form itself or lies within a dependency. Assumes nothing.
 use mathlib.Core.Path.{_≡_, refl, ap}
-use mathlib.Core.Logic.{_⊎_, inl, inr}
+use mathlib.Core.Logic.{_↔_, _⊎_, inl, inr}
 use mathlib.Core.Bool.{true, _||_, and-eq-true-iff}
 use Prim.Native.Nat.{ℕ, zero, suc}
 use borrow.Author.Tests.{eqb-true, eq-eqb}
@@ -10,6 +10,7 @@ use Rattle.members.specs.Members.{memberNumber}
 use Rattle.members.specs.MembersLaws.{number-injective}
 use Rattle.members.specs.declared.Member.{Member}
 use Rattle.rules.specs.Values.{sameℤ}
+use Rattle.meaning.specs.Forms.{IsDependency, ofAsk, receiver, argument, body, AtOrBelow, itself, through}
 use Rattle.meaning.specs.Forms.{Form, number, variable, unbound, readings, ask, call, function, sameMember, shapeOf, integerOf, nameOf, memberOf, firstOf, secondOf, same, dependency, within}
 
 -- pieces
@@ -172,3 +173,56 @@ within-only g (function x b) h =
     either (same g (function x b)) (within g b) h
     (λ e. inl (same-eq g (function x b) e))
     (λ e. inr (b, same-self b, e))
+
+-- the tests, by what they mean
+pub same-exactly : (f g : Form) → (same f g ≡ true) ↔ (f ≡ g)
+same-exactly f g = (same-eq f g, λ e. rw e (same-self g))
+
+is-dependency : (f g : Form) → dependency f g ≡ true → IsDependency f g
+unfolding dependency
+is-dependency f (number z) h = impossible h
+is-dependency f (variable x) h = impossible h
+is-dependency f (unbound x) h = impossible h
+is-dependency f readings h = impossible h
+is-dependency f (ask m g) h = rw (same-eq f g h) (ofAsk m g)
+is-dependency f (call m g a) h = either (same f g) (same f a) h (λ e. rw (same-eq f g e) (receiver m g a)) (λ e. rw (same-eq f a e) (argument m g a))
+is-dependency f (function x b) h = rw (same-eq f b h) (body x b)
+
+depends : (f g : Form) → IsDependency f g → dependency f g ≡ true
+unfolding dependency
+depends _ _ (ofAsk m f) = same-self f
+depends _ _ (receiver m f a) = rw (same-self f)
+depends _ _ (argument m f a) = or-right (same a f) _ (same-self a)
+depends _ _ (body x b) = same-self b
+
+pub dependency-exactly : (f g : Form) → (dependency f g ≡ true) ↔ IsDependency f g
+dependency-exactly f g = (is-dependency f g, depends f g)
+
+is-below : (f g : Form) → within f g ≡ true → AtOrBelow f g
+unfolding within
+is-below f (number z) h = rw (same-eq f (number z) h) (itself (number z))
+is-below f (variable x) h = rw (same-eq f (variable x) h) (itself (variable x))
+is-below f (unbound x) h = rw (same-eq f (unbound x) h) (itself (unbound x))
+is-below f readings h = rw (same-eq f readings h) (itself readings)
+is-below f (ask m g) h =
+    either (same f (ask m g)) (within f g) h
+    (λ e. rw (same-eq f (ask m g) e) (itself (ask m g)))
+    (λ e. through f g (ask m g) (is-below f g e) (ofAsk m g))
+is-below f (call m g a) h =
+    either (same f (call m g a)) (within f g || within f a) h
+    (λ e. rw (same-eq f (call m g a) e) (itself (call m g a)))
+    (λ e.
+    either (within f g) (within f a) e
+    (λ i. through f g (call m g a) (is-below f g i) (receiver m g a))
+    (λ i. through f a (call m g a) (is-below f a i) (argument m g a)))
+is-below f (function x b) h =
+    either (same f (function x b)) (within f b) h
+    (λ e. rw (same-eq f (function x b) e) (itself (function x b)))
+    (λ e. through f b (function x b) (is-below f b e) (body x b))
+
+lies : (f g : Form) → AtOrBelow f g → within f g ≡ true
+lies _ _ (itself f) = within-self f
+lies _ _ (through f d g p q) = within-trans f d g (lies f d p) (dependency-within d g (depends d g q))
+
+pub within-exactly : (f g : Form) → (within f g ≡ true) ↔ AtOrBelow f g
+within-exactly f g = (is-below f g, lies f g)

@@ -38,25 +38,3 @@ module _ (f : Form) where
 pub record PartsSubstituted (x : List ℕ) (a b : Expression) (Γ : List Meaning) : Type 0 where
   pub filled : placesE b (means x (formE a Γ) ∷ Γ) [] ≡ map (fill (formE a Γ)) (placesE b (means x hole ∷ Γ) [])
   pub avoids : AvoidsE (formE a Γ) b [] (means x hole ∷ Γ)
-
--- P holds of every let of a tree, in the environment that let elimination has there
-module _ (P : List ℕ → (a b : Expression) → List Meaning → Type 0) where
-  abbrev mutual
-    pub AtLetsE : Expression → List Meaning → Type 0
-    AtLetsE (letIn x a b) Γ = P x a b Γ × AtLetsE a Γ × AtLetsE b (means x (formE a Γ) ∷ Γ)
-    AtLetsE (lambda x b) Γ = AtLetsE b (asLambda x Γ)
-    AtLetsE (name x r) Γ = AtLetsC r Γ
-    AtLetsE (literal z r) Γ = AtLetsC r Γ
-    AtLetsE (bracket e r) Γ = AtLetsE e Γ × AtLetsC r Γ
-
-    pub AtLetsC : Calls → List Meaning → Type 0
-    AtLetsC done Γ = Unit {0}
-    AtLetsC (call m a) Γ = AtLetsA a Γ
-
-    pub AtLetsA : Arguments → List Meaning → Type 0
-    AtLetsA (none r) Γ = AtLetsC r Γ
-    AtLetsA (first e x) Γ = AtLetsE e Γ × AtLetsM x Γ
-
-    pub AtLetsM : More → List Meaning → Type 0
-    AtLetsM (last r) Γ = AtLetsC r Γ
-    AtLetsM (next e x) Γ = AtLetsE e Γ × AtLetsM x Γ

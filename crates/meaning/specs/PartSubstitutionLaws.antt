@@ -5,18 +5,19 @@ use mathlib.Core.List.{List, [], _∷_, map}
 use Prim.Native.Nat.{ℕ}
 use lib.IntN.{pos}
 use Rattle.language.specs.Names.{bytes, packed, packOnto, dataWord, isData}
-use Rattle.language.specs.NamesLaws.{Each}
 use Rattle.members.specs.Members.{row, sameBytes, namedIn, memberOf}
 use Rattle.members.specs.declared.Member.the-variants.{Add}
 use Rattle.grammar.specs.Grammar.{Expression, Calls, Arguments, More, letIn, lambda, name, literal, bracket, done, call, none, first, last, next}
 use Rattle.grammar.specs.Faults.{Around, outermost, opened, inLet, inLambda}
-use Rattle.grammar.specs.KeptLimits.{EverywhereE, EverywhereC, EverywhereA, EverywhereM, NewLambdas, KeepsLimits}
+use Rattle.grammar.specs.KeptLimits.{EverywhereE, EverywhereC, EverywhereA, EverywhereM, KeepsLimits}
+use Rattle.grammar.specs.SingleLimits.{NewLambdas}
+use Rattle.grammar.specs.KeptLimitsLaws.{keeps-each}
 use Rattle.meaning.specs.Forms.{Form, number}
 use Rattle.meaning.specs.Binding.{Meaning, means, lookUp, named, asLambda, member, formE, called, placesE, placesC, placesA, placesM}
-use Rattle.meaning.specs.Substitution.{hole, fill, NotFree, NonzeroNames}
+use Rattle.meaning.specs.Substitution.{hole, fill, NoneFree, AtLetsE, AtLetsC, AtLetsA, AtLetsM, NonzeroNames}
 use Rattle.meaning.specs.SubstitutionLaws.{Forms, of-name, fillAll, fill-named, fill-E, Whole, whole-variable, fill-whole, whole-E}
 use Rattle.meaning.specs.SubstitutionLaws.{not-variable, not-free-E, Scoped, Clear, whole-clear, Within, clear-E}
-use Rattle.meaning.specs.PartSubstitution.{AvoidsE, AvoidsC, AvoidsA, AvoidsM, PartsSubstituted, AtLetsE, AtLetsC, AtLetsA, AtLetsM}
+use Rattle.meaning.specs.PartSubstitution.{AvoidsE, AvoidsC, AvoidsA, AvoidsM, PartsSubstituted}
 
 -- ---- filling the parts of a tree is filling the forms of its environment
 
@@ -68,7 +69,7 @@ module _ (f : Form) where
 module _ (f : Form) where
   -- below functions and lambdas whose names are not free in f
   abbrev Free : List ℕ → Type 0
-  Free ys = Each (λ y. NotFree y f) ys
+  Free ys = NoneFree ys f
 
   clear-called : (a : Arguments) (m : List ℕ) (g : Form) (Γ : List Meaning) (d : Around) → Within f d → EverywhereA NewLambdas a d → Forms (Clear f) Γ
       → Clear f g → Clear f (called a m g Γ)
@@ -164,7 +165,7 @@ mutual
   every-M (next e x) Γ d w s l n = (every-E e Γ (opened d) w s (l .0) (n .0), every-M x Γ d w s (l .1) (n .1))
 
 pub parts-substituted : (e : Expression) → KeepsLimits e → EverywhereE NonzeroNames e outermost → AtLetsE PartsSubstituted e []
-parts-substituted e k n = every-E e [] outermost tt (λ y o. tt) (k .lambdaNames) n
+parts-substituted e k n = every-E e [] outermost tt (λ y o. tt) (keeps-each e k .lambdaNames) n
 
 -- in `let x = 2 in let u = x.add(1) in 6` the body's parts with a hole for x: the let's own form has none, and the parts of u's value have it
 unused-value : placesE (letIn (bytes "u") (name (bytes "x") (call (bytes "add") (first (literal (pos 1) done) (last done)))) (literal (pos 6) done))

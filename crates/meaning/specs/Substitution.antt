@@ -9,7 +9,6 @@ use mathlib.Core.List.{List, [], _∷_}
 use Prim.Native.Nat.{ℕ}
 use lib.Dec.{eqb}
 use Rattle.language.specs.Names.{packed}
-use Rattle.language.specs.NamesLaws.{Each}
 use Rattle.grammar.specs.Grammar.{Expression, Calls, Arguments, More, letIn, lambda, name, literal, bracket, done, call, none, first, last, next}
 use Rattle.grammar.specs.Faults.{Around}
 use Rattle.grammar.specs.KeptLimits.{Site, aLet, aLambda, aBracket, aName, aNumber, aCall}
@@ -17,6 +16,7 @@ use Rattle.meaning.specs.Forms.{Form, number, variable, unbound, reading
 use Rattle.meaning.specs.Binding.{Meaning, means, asLambda, formE}
 use Rattle.meaning.specs.Evaluation.{hasName, awaited}
 
+-- no name packs to 0, so that the unbound name 0 stands for nothing else
 abbrev pub hole : Form
 hole = unbound 0
 
@@ -34,11 +34,16 @@ fill f (function x b) = function x (fill f b)
 abbrev pub NotFree : ℕ → Form → Type 0
 NotFree y f = hasName y (awaited f) ≡ false
 
+-- none of the names is
+abbrev pub NoneFree : List ℕ → Form → Type 0
+NoneFree [] f = Unit {0}
+NoneFree (y ∷ ys) f = NotFree y f × NoneFree ys f
+
 -- filling g with f captures nothing: at each hole no function around, of g or of those named ys, has a name that is free in f
 abbrev pub Avoids : Form → List ℕ → Form → Type 0
 Avoids f ys (number z) = Unit {0}
 Avoids f ys (variable x) = Unit {0}
-Avoids f ys (unbound x) = x ≡ 0 → Each (λ y. NotFree y f) ys
+Avoids f ys (unbound x) = x ≡ 0 → NoneFree ys f
 Avoids f ys readings = Unit {0}
 Avoids f ys (ask m g) = Avoids f ys g
 Avoids f ys (Form.call m g a) = Avoids f ys g × Avoids f ys a
@@ -49,26 +54,27 @@ pub record Substituted (x : List ℕ) (a b : Expression) (Γ : List Meaning) : T
   pub filled : formE (letIn x a b) Γ ≡ fill (formE a Γ) (formE b (means x hole ∷ Γ))
   pub avoids : Avoids (formE a Γ) [] (formE b (means x hole ∷ Γ))
 
--- so of every let of a tree, in the environment that let elimination has there
-abbrev mutual
-  pub EveryLetE : Expression → List Meaning → Type 0
-  EveryLetE (letIn x a b) Γ = Substituted x a b Γ × EveryLetE a Γ × EveryLetE b (means x (formE a Γ) ∷ Γ)
-  EveryLetE (lambda x b) Γ = EveryLetE b (asLambda x Γ)
-  EveryLetE (name x r) Γ = EveryLetC r Γ
-  EveryLetE (literal z r) Γ = EveryLetC r Γ
-  EveryLetE (bracket e r) Γ = EveryLetE e Γ × EveryLetC r Γ
+-- P holds of every let of a tree, in the environment that let elimination has there
+module _ (P : List ℕ → (a b : Expression) → List Meaning → Type 0) where
+  abbrev mutual
+    pub AtLetsE : Expression → List Meaning → Type 0
+    AtLetsE (letIn x a b) Γ = P x a b Γ × AtLetsE a Γ × AtLetsE b (means x (formE a Γ) ∷ Γ)
+    AtLetsE (lambda x b) Γ = AtLetsE b (asLambda x Γ)
+    AtLetsE (name x r) Γ = AtLetsC r Γ
+    AtLetsE (literal z r) Γ = AtLetsC r Γ
+    AtLetsE (bracket e r) Γ = AtLetsE e Γ × AtLetsC r Γ
 
-  pub EveryLetC : Calls → List Meaning → Type 0
-  EveryLetC done Γ = Unit {0}
-  EveryLetC (call m a) Γ = EveryLetA a Γ
+    pub AtLetsC : Calls → List Meaning → Type 0
+    AtLetsC done Γ = Unit {0}
+    AtLetsC (call m a) Γ = AtLetsA a Γ
 
-  pub EveryLetA : Arguments → List Meaning → Type 0
-  EveryLetA (none r) Γ = EveryLetC r Γ
-  EveryLetA (first e x) Γ = EveryLetE e Γ × EveryLetM x Γ
+    pub AtLetsA : Arguments → List Meaning → Type 0
+    AtLetsA (none r) Γ = AtLetsC r Γ
+    AtLetsA (first e x) Γ = AtLetsE e Γ × AtLetsM x Γ
 
-  pub EveryLetM : More → List Meaning → Type 0
-  EveryLetM (last r) Γ = EveryLetC r Γ
-  EveryLetM (next e x) Γ = EveryLetE e Γ × EveryLetM x Γ
+    pub AtLetsM : More → List Meaning → Type 0
+    AtLetsM (last r) Γ = AtLetsC r Γ
+    AtLetsM (next e x) Γ = AtLetsE e Γ × AtLetsM x Γ
 
 -- no name in use packs to 0
 abbrev pub NonzeroNames : Site → Around → Type 0

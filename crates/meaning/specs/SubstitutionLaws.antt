@@ -14,11 +14,13 @@ use Rattle.language.specs.NamesLaws.{Each, NameByte, packed-injective}
 use Rattle.language.specs.Cases.{split, by-cond}
 use Rattle.grammar.specs.Grammar.{Expression, Calls, Arguments, More, letIn, lambda, name, literal, bracket, done, call, none, first, last, next}
 use Rattle.grammar.specs.Faults.{Around, outermost, opened, inLet, inLambda}
-use Rattle.grammar.specs.KeptLimits.{EverywhereE, EverywhereC, EverywhereA, EverywhereM, NoLambdaNamed, NewLambdas, KeepsLimits}
+use Rattle.grammar.specs.KeptLimits.{EverywhereE, EverywhereC, EverywhereA, EverywhereM, NoLambdaNamed, KeepsLimits}
+use Rattle.grammar.specs.SingleLimits.{NewLambdas}
+use Rattle.grammar.specs.KeptLimitsLaws.{keeps-each}
 use Rattle.meaning.specs.Forms.{Form, number, variable, unbound, readings, ask, function}
 use Rattle.meaning.specs.Binding.{Meaning, means, lookUp, named, asLambda, member, formE, formC, formA, formM}
 use Rattle.meaning.specs.Evaluation.{hasName, joined, without, awaited}
-use Rattle.meaning.specs.Substitution.{hole, fill, NotFree, Avoids, EveryLetE, EveryLetC, EveryLetA, EveryLetM, NonzeroNames}
+use Rattle.meaning.specs.Substitution.{hole, fill, NotFree, NoneFree, Avoids, Substituted, AtLetsE, AtLetsC, AtLetsA, AtLetsM, NonzeroNames}
 
 -- no word packs to 0
 pub word-nonzero : (b : ℕ) (w : List ℕ) → Each NameByte (b ∷ w) → ¬ (packed (b ∷ w) ≡ 0)
@@ -181,7 +183,7 @@ module _ (f : Form) where
 
   -- nothing is captured below functions whose names are not free in f
   abbrev pub Clear : Form → Type 0
-  Clear g = (ys : List ℕ) → Each (λ y. NotFree y f) ys → Avoids f ys g
+  Clear g = (ys : List ℕ) → NoneFree ys f → Avoids f ys g
 
   pub whole-clear : (Γ : List Meaning) → Forms Whole Γ → Forms Clear Γ
   whole-clear [] w = tt
@@ -220,7 +222,7 @@ module _ (f : Form) where
 mutual
   unfolding opened inLet inLambda
 
-  every-E : (e : Expression) (Γ : List Meaning) (d : Around) → Forms Whole Γ → Scoped Γ d → EverywhereE NewLambdas e d → EverywhereE NonzeroNames e d → EveryLetE e Γ
+  every-E : (e : Expression) (Γ : List Meaning) (d : Around) → Forms Whole Γ → Scoped Γ d → EverywhereE NewLambdas e d → EverywhereE NonzeroNames e d → AtLetsE Substituted e Γ
   every-E (letIn x a b) Γ d w s l n =
       let f = formE a Γ in
       let i : Within f d = λ y o. not-free-E (packed y) a Γ (s y o) in (
@@ -237,18 +239,18 @@ mutual
   every-E (literal z r) Γ d w s l n = every-C r Γ d w s (l .1) (n .1)
   every-E (bracket e r) Γ d w s l n = (every-E e Γ (opened d) w s (l .1) (n .1), every-C r Γ d w s (l .2) (n .2))
 
-  every-C : (r : Calls) (Γ : List Meaning) (d : Around) → Forms Whole Γ → Scoped Γ d → EverywhereC NewLambdas r d → EverywhereC NonzeroNames r d → EveryLetC r Γ
+  every-C : (r : Calls) (Γ : List Meaning) (d : Around) → Forms Whole Γ → Scoped Γ d → EverywhereC NewLambdas r d → EverywhereC NonzeroNames r d → AtLetsC Substituted r Γ
   every-C done Γ d w s l n = tt
   every-C (call m a) Γ d w s l n = every-A a Γ d w s (l .1) (n .1)
 
-  every-A : (a : Arguments) (Γ : List Meaning) (d : Around) → Forms Whole Γ → Scoped Γ d → EverywhereA NewLambdas a d → EverywhereA NonzeroNames a d → EveryLetA a Γ
+  every-A : (a : Arguments) (Γ : List Meaning) (d : Around) → Forms Whole Γ → Scoped Γ d → EverywhereA NewLambdas a d → EverywhereA NonzeroNames a d → AtLetsA Substituted a Γ
   every-A (none r) Γ d w s l n = every-C r Γ d w s l n
   every-A (first e x) Γ d w s l n = (every-E e Γ (opened d) w s (l .0) (n .0), every-M x Γ d w s (l .1) (n .1))
 
-  every-M : (x : More) (Γ : List Meaning) (d : Around) → Forms Whole Γ → Scoped Γ d → EverywhereM NewLambdas x d → EverywhereM NonzeroNames x d → EveryLetM x Γ
+  every-M : (x : More) (Γ : List Meaning) (d : Around) → Forms Whole Γ → Scoped Γ d → EverywhereM NewLambdas x d → EverywhereM NonzeroNames x d → AtLetsM Substituted x Γ
   every-M (last r) Γ d w s l n = every-C r Γ d w s l n
   every-M (next e x) Γ d w s l n = (every-E e Γ (opened d) w s (l .0) (n .0), every-M x Γ d w s (l .1) (n .1))
 
 -- every let of a text that keeps the limits is replaced by capture-avoiding substitution
-pub lets-substituted : (e : Expression) → KeepsLimits e → EverywhereE NonzeroNames e outermost → EveryLetE e []
-lets-substituted e k n = every-E e [] outermost tt (λ y o. tt) (k .lambdaNames) n
+pub lets-substituted : (e : Expression) → KeepsLimits e → EverywhereE NonzeroNames e outermost → AtLetsE Substituted e []
+lets-substituted e k n = every-E e [] outermost tt (λ y o. tt) (keeps-each e k .lambdaNames) n

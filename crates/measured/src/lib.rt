@@ -15,7 +15,7 @@ ghost use Rattle.members.specs.declared.Member.the-variants as Members;
 ghost use Rattle.values.specs.Packing.{packOf};
 ghost use Rattle.rules.specs.Rules.{ofWindow, onWindow};
 ghost use Rattle.table.specs.WellFormed.{wellFormed};
-ghost use Rattle.table.specs.Checked.{memory};
+ghost use Rattle.layout.specs.Memory.{memory};
 ghost use Rattle.measured.specs.Measures.{flag, readNumber, ReadInto, canBind, boundNumber, bindNumber, packedWork, canWork, Worked};
 
 // The sum of a window, as a packed value.

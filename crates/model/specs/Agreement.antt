@@ -7,7 +7,7 @@ use borrow.Author.Tests.{ltb-true, ltb-false}
 use lib.Dec.{ltb}
 use lib.ListN.{length}
 use Rattle.language.specs.Cases.{impossible, split}
-use Rattle.model.specs.Limits.{readingsMost}
+use Rattle.language.specs.Limits.{tableReadings}
 use Rattle.model.specs.Language.{Language}
 use Rattle.model.specs.Model.{Request, Open, Edit, Preview, Answer, opened, placesAfter, start, onOpen, onRequest, respond, answer, next}
 use Rattle.model.specs.Since.{isOpening, SoundRequest, Sendable}
@@ -24,15 +24,15 @@ module _ (L : Language) (H : Laws L) (E : Engine L) (I : Implements L H E) where
   open Engine E using (Memory)
 
   -- an open is accepted only over memory of the cache's size, and with no more readings than allowed
-  pub accepted : (m : Memory) (r : List Reading) → E .openAnswer m r ≡ opened → (E .fits m ≡ true) × (length r ≤ readingsMost)
+  pub accepted : (m : Memory) (r : List Reading) → E .openAnswer m r ≡ opened → (E .fits m ≡ true) × (length r ≤ tableReadings)
   accepted m r e =
       split (E .fits m)
-      (λ f. (f, split (ltb readingsMost (length r)) (λ p. let z = I .long m r f (ltb-true _ _ p) .0 in impossible (cc)) (λ p. ltb-false _ _ p)))
+      (λ f. (f, split (ltb tableReadings (length r)) (λ p. let z = I .long m r f (ltb-true _ _ p) .0 in impossible (cc)) (λ p. ltb-false _ _ p)))
       (λ f. impossible (declined (sym (I .short-answer m (Open r) (start L r) f) ∙ e)))
     where
       declined : answer L (start L r) (record { enough = false; request = Open r }) ≡ opened → false ≡ true
       declined z =
-          unfold onRequest onOpen in split (ltb readingsMost (length r))
+          unfold onRequest onOpen in split (ltb tableReadings (length r))
           (λ p. let y = rw (p, answer) at z in (cc)) (λ p. let y = rw (p, answer) at z in (cc))
 
   -- Memory that is a cache, opened and kept.
@@ -40,7 +40,7 @@ module _ (L : Language) (H : Laws L) (E : Engine L) (I : Implements L H E) where
     pub ok : I .Ok m
     pub invariant : Invariant L H (E .holds m)
 
-  pub opens : (m : Memory) (r : List Reading) → E .fits m ≡ true → length r ≤ readingsMost → Sound r
+  pub opens : (m : Memory) (r : List Reading) → E .fits m ≡ true → length r ≤ tableReadings → Sound r
       → Cache (E .openMemory m r) × (E .holds (E .openMemory m r) ≡ start L r)
   opens m r f h sound = let o = I .opening m r f h sound in let e = o .holds in (record { ok = o .ok; invariant = rw e (invariant-start L H r h sound) }, e)
 
@@ -55,7 +55,7 @@ module _ (L : Language) (H : Laws L) (E : Engine L) (I : Implements L H E) where
       → Agrees E (I .Ok) (respond L (E .holds m) (record { enough = true; request = q })) (says E m q) (leaves E m q)
   agree-on m (Open r) sound k =
       let f = I .kept-fits m (k .ok) in
-      split (ltb readingsMost (length r))
+      split (ltb tableReadings (length r))
       (λ p.
       let l = ltb-true _ _ p in
       let z = I .long m r f l in

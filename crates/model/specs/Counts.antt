@@ -7,7 +7,7 @@ use Prim.Native.Nat.{ℕ, zero, suc, _+_, _≤_}
 use native.Mathlib.Omega.{arith}
 use lib.ListN.{length, length-append}
 use Rattle.language.specs.Cases.{impossible, split}
-use Rattle.model.specs.Limits.{readingsMost}
+use Rattle.language.specs.Limits.{tableReadings}
 use Rattle.model.specs.Lists.{countIf, firsts, onFirsts, occurrences}
 use Rattle.model.specs.ListLaws.{count-append}
 use Rattle.model.specs.Language.{Language}
@@ -126,7 +126,7 @@ module _ (L : Language) where
       pub sum : total L 0 (answers (model L) (start L r) cs) ≡ length (workLog (model L) [] (start L r) cs)
       pub marked : total L 0 (answers (model L) (start L r) cs) ≡ marks L (after (model L) (start L r) cs .entries)
 
-    pub once : (r : List Reading) (cs : List (Call L)) → length r ≤ readingsMost → Sound r → Sendable L cs → Once r cs
+    pub once : (r : List Reading) (cs : List (Call L)) → length r ≤ tableReadings → Sound r → Sendable L cs → Once r cs
     unfolding countIf
     once r cs h sound sent =
         let i = invariant-after L H (start L r) cs sent (invariant-start L H r h sound) in

@@ -7,7 +7,7 @@ use mathlib.Core.List.{List, [], map, List·Memᴰ}
 use mathlib.Core.Option.{none, some}
 use Prim.Native.Nat.{ℕ, suc, _≤_}
 use lib.ListN.{length, getElem?}
-use Rattle.model.specs.Limits.{partsMost, entriesMost}
+use Rattle.language.specs.Limits.{textParts, tableEntries}
 use Rattle.model.specs.Lists.{All, occurrences}
 use Rattle.model.specs.Language.{Language}
 use Rattle.model.specs.Model.{Entry, forms, start, Edit, Preview, Call, Answer, refused, opened, finished, left}
@@ -55,6 +55,7 @@ module _ (L : Language) (E : Engine L) where
 
   -- Memory m, of any contents, is opened with r, and then the calls cs are sent.
   module _ (m : Memory) (r : List Reading) (cs : List (Sent E)) where
+    -- what the model is told of them, what they get, and the cache that they leave
     abbrev pub calls : List (Call L)
     calls = map (told E) cs
 
@@ -72,6 +73,7 @@ module _ (L : Language) (E : Engine L) where
     abbrev pub Given : Part L → Type 0
     Given x = List·Memᴰ x (partsGiven L [] calls replies)
 
+    -- 01, "The plain book": all that is demanded of the answers and of what the cache holds in the end
     pub record Demand : Type 0 where
       -- Each call gets the model's answer and leaves the lent places as the model says, and the last memory holds what the model holds: the
       -- recording, the forms by number, and the marks with what their forms show. Number 4 never comes up.
@@ -84,7 +86,7 @@ module _ (L : Language) (E : Engine L) where
       -- over the recording; unmarked entries keep none.
       pub distinct : (i j : ℕ) (f : Form) → getElem? (forms L (holds last .entries)) i ≡ some f → getElem? (forms L (holds last .entries)) j ≡ some f
           → i ≡ j
-      pub few : length (holds last .entries) ≤ entriesMost
+      pub few : length (holds last .entries) ≤ tableEntries
       pub mark-shown : (n : ℕ) (e : Entry L) (v : Shown) → getElem? (holds last .entries) n ≡ some e → e .mark ≡ some v
           → (works (e .form) ≡ true) × (v ≡ shows (holds last .recording) (e .form))
       pub bare : (n : ℕ) (e : Entry L) → getElem? (holds last .entries) n ≡ some e → e .mark ≡ none → KeepsNone last n
@@ -93,7 +95,7 @@ module _ (L : Language) (E : Engine L) where
       -- Whatever was sent before, a finished preview of a part shows what its text, as the first edit after an opening over the same recording,
       -- shows in the end.
       pub fresh : (x : Part L) → Given x → (c : Sent E) (v : Shown) → Finishes last c (x .number) v
-          → (n l : Memory) (places : List ℕ) (a : ℕ) → fits n ≡ true → fits l ≡ true → partsMost ≤ length places → 1 ≤ a
+          → (n l : Memory) (places : List ℕ) (a : ℕ) → fits n ≡ true → fits l ≡ true → textParts ≤ length places → 1 ≤ a
           → Anew n l (holds last .recording) x places a v
       -- Parts carry one number exactly when their let-free forms are equal, and the number is that form's.
       pub one-number : (x y : Part L) → Given x → Given y → (x .number ≡ y .number) ↔ (x .form ≡ y .form)

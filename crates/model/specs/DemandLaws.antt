@@ -7,7 +7,7 @@ use mathlib.Core.Option.{some}
 use Prim.Native.Nat.{ℕ, _≤_}
 use lib.ListN.{length, getElem?}
 use Rattle.language.specs.Cases.{impossible}
-use Rattle.model.specs.Limits.{readingsMost}
+use Rattle.language.specs.Limits.{tableReadings}
 use Rattle.model.specs.Language.{Language}
 use Rattle.model.specs.ListLaws.{all-nth, index-nth}
 use Rattle.model.specs.Model.{Entry, forms, start, opened}
@@ -39,7 +39,7 @@ module _ (L : Language) (H : Laws L) (E : Engine L) (I : Implements L H E) where
   open Engine E using (Memory, fits, openAnswer, openMemory, holds)
 
   anew : (n l : Memory) (r : List Reading) (x : Part L) (places : List ℕ) (a : ℕ) (v : Shown)
-      → fits n ≡ true → fits l ≡ true → length r ≤ readingsMost → Sound r → Afresh L H r x places a v → Anew L E n l r x places a v
+      → fits n ≡ true → fits l ≡ true → length r ≤ tableReadings → Sound r → Afresh L H r x places a v → Anew L E n l r x places a v
   anew n l r x places a v f g h sound fr =
       let o = opens L H E I n r f h sound in
       let e = o .1 in

@@ -7,6 +7,7 @@ use Rattle.model.specs.Language.{Language}
 use Rattle.model.specs.Model.{State, Request, Open, Edit, Preview, Call, Answer}
 use Rattle.model.specs.Runs.{Machine}
 
+-- what is known of an engine
 pub record Engine (L : Language) : Type 1 where
   -- the memory lent for a cache, of any contents, and whether it has the cache's size
   pub Memory : Type 0
@@ -30,6 +31,7 @@ pub record Engine (L : Language) : Type 1 where
 module _ {L : Language} (E : Engine L) where
   open Engine E using (Memory)
 
+  -- what a call answers, the lent places afterwards, and the lent memory afterwards
   abbrev pub says : Memory → Request L → Answer L
   says m (Open r) = E .openAnswer m r
   says m (Edit ps t) = E .editAnswer m ps t

@@ -9,7 +9,7 @@ use borrow.Author.Tests.{eqb-false}
 use lib.Dec.{eqb}
 use lib.ListN.{length, getElem?}
 use Rattle.language.specs.Cases.{split}
-use Rattle.model.specs.Limits.{partsMost}
+use Rattle.language.specs.Limits.{textParts}
 use Rattle.model.specs.Lists.{member}
 use Rattle.model.specs.ListLaws.{nth-map, member-tail, member-nth, nth-index, insertAll-has}
 use Rattle.model.specs.Language.{Language}
@@ -54,7 +54,7 @@ module _ (L : Language) where
       pub given : getElem? (numbersIn L (answer L (start L r) (editing ps (x .text)))) (x .place) ≡ some number
       pub shown : inTheEnd (model L) times (next L (start L r) (editing ps (x .text))) (previewing L number a) ≡ some v
 
-    afresh : (r : List Reading) (fs : List Form) (x : Part L) (ps : List ℕ) (a : ℕ) → Known L fs x → partsMost ≤ length ps → 1 ≤ a
+    afresh : (r : List Reading) (fs : List Form) (x : Part L) (ps : List ℕ) (a : ℕ) → Known L fs x → textParts ≤ length ps → 1 ≤ a
         → Afresh r x ps a (shows r (x .form))
     afresh r fs x ps a k p h =
         let text = H .readable (x .text) (k .order) (k .places) (k .whole) (k .short) (k .reads) in
@@ -79,7 +79,7 @@ module _ (L : Language) where
     -- after any run of calls from an opening
     pub fresh : (r : List Reading) (cs : List (Call L)) (x : Part L) → List·Memᴰ x (partsGiven L [] cs (answers (model L) (start L r) cs))
         → (c : Call L) (b k : ℕ) (v : Shown) → c .request ≡ Preview (x .number) b → answer L (after (model L) (start L r) cs) c ≡ finished k v
-        → (ps : List ℕ) (a : ℕ) → partsMost ≤ length ps → 1 ≤ a → Afresh (after (model L) (start L r) cs .recording) x ps a v
+        → (ps : List ℕ) (a : ℕ) → textParts ≤ length ps → 1 ≤ a → Afresh (after (model L) (start L r) cs .recording) x ps a v
     fresh r cs x i c b k v q e ps a p h =
         let s = after (model L) (start L r) cs in
         let z : v ≡ shows (s .recording) (x .form) = finished-is L H s c (x .number) b (x .form) k v q (its-number L H r cs x i) e .shown in

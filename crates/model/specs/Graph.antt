@@ -15,6 +15,7 @@ use Rattle.model.specs.Lists.{member, index, insert, Distinct}
 use Rattle.model.specs.Language.{Language}
 use Rattle.model.specs.ListLaws.{nth-below, nth-has, nth-front, nth-seam, old-or-last, getD-nth, length-snoc, Equality, member-nth, nth-index, index-nth, index-last}
 use Rattle.model.specs.Laws.{Tests}
+use Rattle.model.specs.Decoding.{decodeFrom}
 
 -- the number j is one of the links
 abbrev pub among : ℕ → List ℕ → Bool
@@ -62,12 +63,11 @@ module _ (L : Language) (G : Graph L) where
     pub form : (i : ℕ) (n : Node) → getElem? ns i ≡ some n → getElem? fs i ≡ some (build n (formAt fs))
 
   -- the forms of a table, from the first node on
-  unfoldable pub decode : List Form → List Node → List Form
-  decode fs [] = fs
-  decode fs (n ∷ ns) = decode (fs ++ (build n (formAt fs) ∷ [])) ns
+  abbrev pub decode : List Form → List Node → List Form
+  decode = decodeFrom build (G .nowhere)
 
   pub decode-snoc : (fs : List Form) (ns : List Node) (n : Node) → decode fs (ns ++ (n ∷ [])) ≡ decode fs ns ++ (build n (formAt (decode fs ns)) ∷ [])
-  unfolding decode
+  unfolding decodeFrom
   decode-snoc fs [] n = refl
   decode-snoc fs (m ∷ ns) n = decode-snoc (fs ++ (build m (formAt fs) ∷ [])) ns n
 
@@ -119,7 +119,7 @@ module _ (L : Language) (G : Graph L) where
 
     decode-stands : (pre : List Node) (fs : List Form) (ns : List Node) → Stands pre fs → AllPlaced (length pre) ns
         → Stands (pre ++ ns) (decode fs ns)
-    unfolding decode
+    unfolding decodeFrom
     decode-stands pre fs [] st b = rw (append-nil pre) st
     decode-stands pre fs (n ∷ ns) st b =
         let z = sym (length-snoc pre n) in

@@ -5,7 +5,7 @@ use mathlib.Core.List.{List}
 use mathlib.Core.Option.{none, some}
 use Prim.Native.Nat.{ℕ, _≤_, _<_}
 use lib.ListN.{length, getElem?}
-use Rattle.model.specs.Limits.{readingsMost}
+use Rattle.language.specs.Limits.{tableReadings}
 use Rattle.model.specs.Language.{Language}
 use Rattle.model.specs.Model.{Entry, State, Request, Answer, refused, written, Outcome, openedWith, onEdit, onPreview, answer}
 use Rattle.model.specs.Laws.{Laws}
@@ -41,9 +41,9 @@ pub record Implements (L : Language) (H : Laws L) (E : Engine L) : Type 1 where
       → says E m q ≡ answer L s (record { enough = false; request = q })
   pub short-memory : (m : E .Memory) (q : Request L) → E .fits m ≡ false → leaves E m q ≡ m
   -- open, over memory of any contents
-  pub long : (m : E .Memory) (r : List (L .Reading)) → E .fits m ≡ true → readingsMost < length r
+  pub long : (m : E .Memory) (r : List (L .Reading)) → E .fits m ≡ true → tableReadings < length r
       → (E .openAnswer m r ≡ refused 2 0) × (E .openMemory m r ≡ m)
-  pub opening : (m : E .Memory) (r : List (L .Reading)) → E .fits m ≡ true → length r ≤ readingsMost → L .Sound r
+  pub opening : (m : E .Memory) (r : List (L .Reading)) → E .fits m ≡ true → length r ≤ tableReadings → L .Sound r
       → Agrees E Ok (openedWith L r) (E .openAnswer m r) (E .openMemory m r)
   -- edit and preview, over a cache that was opened and kept
   pub edit : (m : E .Memory) (places text : List ℕ) → Ok m → Invariant L H (E .holds m)

@@ -5,7 +5,7 @@ use mathlib.Core.List.{List, [], _∷_}
 use mathlib.Core.Option.{none, some}
 use Prim.Native.Nat.{_≤_}
 use lib.ListN.{length}
-use Rattle.model.specs.Limits.{readingsMost, entriesMost}
+use Rattle.language.specs.Limits.{tableReadings, tableEntries}
 use Rattle.model.specs.Lists.{All, Distinct}
 use Rattle.model.specs.Language.{Language}
 use Rattle.model.specs.Model.{Entry, State, forms, marked}
@@ -33,9 +33,9 @@ module _ (L : Language) where
   Settled pre (e ∷ es) = (marked L e ≡ true → (d : Form) → dependency d (e .form) ≡ true → doneIn d pre ≡ true) × Settled (e ∷ pre) es
 
 pub record Invariant (L : Language) (H : Laws L) (s : State L) : Type 0 where
-  pub short : length (s .recording) ≤ readingsMost
+  pub short : length (s .recording) ≤ tableReadings
   pub sound : L .Sound (s .recording)
-  pub few : length (s .entries) ≤ entriesMost
+  pub few : length (s .entries) ≤ tableEntries
   pub ordered : Ordered L [] (forms L (s .entries))
   pub distinct : Distinct (L .same) (forms L (s .entries))
   pub proper : All (H .Proper) (forms L (s .entries))

@@ -6,7 +6,7 @@ use mathlib.Core.Bool.{true}
 use mathlib.Core.List.{List, [], _∷_}
 use Prim.Native.Nat.{ℕ, _≤_}
 use lib.ListN.{length}
-use Rattle.model.specs.Limits.{textBytes, partsMost}
+use Rattle.language.specs.Limits.{textBytes, textParts}
 use Rattle.model.specs.Lists.{All, member}
 use Rattle.model.specs.ListLaws.{Equality}
 use Rattle.model.specs.Language.{Language, rejected, parts}
@@ -32,8 +32,8 @@ pub record Readable (L : Language) (Proper : L .Form → Type 0) (order places :
   pub ordered : Ordered L [] order
   pub proper : All Proper order
   pub bound : Among L (whole ∷ places) order
-  pub few : length order ≤ partsMost
-  pub placed : length places ≤ partsMost
+  pub few : length order ≤ textParts
+  pub placed : length places ≤ textParts
 
 -- A text that is rejected: the reader's numbers are 5 to 12, and the place is one of the text's or its end.
 pub record Rejected (text : List ℕ) (number place : ℕ) : Type 0 where

@@ -1,5 +1,4 @@
 -- Definitions: what the papers' reference model is, and the terms of demand 3.
-pub mod Limits
 pub mod Lists
 pub mod Language
 pub mod Model
@@ -25,6 +24,7 @@ pub mod Implements
 pub mod Agreement
 pub mod DemandLaws
 -- From tables of entries to the model: for the engine's own proof that it implements it.
+pub mod Decoding
 pub mod Graph
 pub mod Binder
 pub mod Sweep

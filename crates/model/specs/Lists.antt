@@ -6,6 +6,7 @@ use mathlib.Core.Option.{Option, none, some}
 use Prim.Native.Nat.{ℕ, zero, suc}
 
 module _ {A : Type 0} where
+  -- there is one
   abbrev pub isSome : Option A → Bool
   isSome none = false
   isSome (some x) = true
@@ -34,6 +35,7 @@ module _ {A : Type 0} where
 
 -- lists whose elements are told apart by a test
 module _ {A : Type 0} (same : A → A → Bool) where
+  -- x is in the list
   unfoldable pub member : A → List A → Bool
   member x [] = false
   member x (y ∷ ys) = cond (same y x) true (member x ys)
@@ -43,6 +45,7 @@ module _ {A : Type 0} (same : A → A → Bool) where
   index x [] = 0
   index x (y ∷ ys) = cond (same y x) 0 (suc (index x ys))
 
+  -- how often x is in the list
   abbrev pub occurrences : A → List A → ℕ
   occurrences x = countIf (λ (y : A). same y x)
 

@@ -6,7 +6,7 @@ use mathlib.Core.Option.{Option, none, some}
 use Prim.Native.Nat.{ℕ, _-_, min}
 use lib.Dec.{ltb, eqb}
 use lib.ListN.{length, drop, getElem?}
-use Rattle.model.specs.Limits.{textBytes, partsMost, readingsMost, entriesMost}
+use Rattle.language.specs.Limits.{textBytes, textParts, tableReadings, tableEntries}
 use Rattle.model.specs.Lists.{isSome, countIf, onFirsts, member, index}
 use Rattle.model.specs.Language.{Language, Parsed, rejected, parts}
 
@@ -22,6 +22,7 @@ module _ (L : Language) where
     pub recording : List Reading
     pub entries : List Entry
 
+  -- The forms by number; and whether an entry is marked.
   abbrev pub forms : List Entry → List Form
   forms es = map (λ (e : Entry). e .form) es
 
@@ -60,6 +61,7 @@ module _ (L : Language) where
   placesAfter (Edit places text) x = written x places
   placesAfter (Preview n a) x = []
 
+  -- What a call gets, and what the model then holds.
   pub record Outcome : Type 0 where
     pub answer : Answer
     pub state : State
@@ -79,12 +81,13 @@ module _ (L : Language) where
   openedWith r = record { answer = opened; state = start r }
 
   unfoldable pub onOpen : State → Bool → List Reading → Outcome
-  onOpen s enough r = refuseIf (ltb readingsMost (length r)) 2 s (refuseIf (not enough) 3 s (openedWith r))
+  onOpen s enough r = refuseIf (ltb tableReadings (length r)) 2 s (refuseIf (not enough) 3 s (openedWith r))
 
   -- Edit: each of the parts' forms that is not yet held takes the next number, unmarked.
   abbrev pub unmarked : Form → Entry
   unmarked f = record { form = f; mark = none }
 
+  -- A form that is held stays where it is; any other takes the next number.
   unfoldable pub hold : Form → List Entry → List Entry
   hold f es = cond (member same f (forms es)) es (es ++ (unmarked f ∷ []))
 
@@ -95,6 +98,7 @@ module _ (L : Language) where
   abbrev pub numberOf : List Entry → Form → ℕ
   numberOf es f = index same f (forms es)
 
+  -- The whole's number, the number of parts, the number of forms added, and each part's number at its place.
   abbrev pub editedTo : State → List Entry → List Form → Form → Outcome
   editedTo s es places whole =
       record {
@@ -102,15 +106,17 @@ module _ (L : Language) where
         state = record { recording = s .recording; entries = es };
       }
 
+  -- The reader's refusals, 5 to 12; then 13: entries held plus new forms exceed 512.
   unfoldable pub bind : State → Parsed Form → Outcome
   bind s (rejected n at) = refuse n at s
   bind s (parts order places whole) =
       let es : List Entry = holdAll order (s .entries) in
-      refuseIf (ltb entriesMost (length es)) 13 s (editedTo s es places whole)
+      refuseIf (ltb tableEntries (length es)) 13 s (editedTo s es places whole)
 
+  -- 1: text over 1,024 bytes. 3: places under 128 entries, or cache memory under its size.
   unfoldable pub onEdit : State → Bool → List ℕ → List ℕ → Outcome
   onEdit s enough places text =
-      refuseIf (ltb textBytes (length text)) 1 s (refuseIf (not enough || ltb (length places) partsMost) 3 s (bind s (read text)))
+      refuseIf (ltb textBytes (length text)) 1 s (refuseIf (not enough || ltb (length places) textParts) 3 s (bind s (read text)))
 
   -- Preview: the unmarked members and functions at or below form f are pending. The a lowest are marked, or all if they are fewer.
   unfoldable pub pending : Form → Entry → Bool
@@ -125,6 +131,7 @@ module _ (L : Language) where
   abbrev pub workOut : List Reading → ℕ → Form → List Entry → List Entry
   workOut r a f = onFirsts (pending f) (markWith r) a
 
+  -- It answers how many it marked and, with some left, 'not yet'; otherwise what the form shows.
   abbrev pub previewed : State → ℕ → Form → Outcome
   previewed s a f =
       let es : List Entry = workOut (s .recording) a f (s .entries) in
@@ -134,13 +141,16 @@ module _ (L : Language) where
         state = record { recording = s .recording; entries = es };
       }
 
+  -- 14: no such entry.
   unfoldable pub look : State → ℕ → Option Form → Outcome
   look s a none = refuse 14 0 s
   look s a (some f) = previewed s a f
 
+  -- 3: cache memory under its size.
   unfoldable pub onPreview : State → Bool → ℕ → ℕ → Outcome
   onPreview s enough n a = refuseIf (not enough) 3 s (look s a (getElem? (forms (s .entries)) n))
 
+  -- Any call: what it gets, and what is then held.
   unfoldable pub onRequest : State → Bool → Request → Outcome
   onRequest s enough (Open r) = onOpen s enough r
   onRequest s enough (Edit places text) = onEdit s enough places text

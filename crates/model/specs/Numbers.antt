@@ -8,7 +8,7 @@ use mathlib.Core.Option.{some}
 use Prim.Native.Nat.{ℕ, suc, _+_, _≤_}
 use native.Mathlib.Omega.{arith}
 use lib.ListN.{length, getElem?}
-use Rattle.model.specs.Limits.{textBytes}
+use Rattle.language.specs.Limits.{textBytes}
 use Rattle.model.specs.Lists.{All, member, index, insertAll}
 use Rattle.model.specs.ListLaws.{all-append, all-in, member-tail, member-nth, nth-index, index-one, member-insertAll, insertAll-has, index-insertAll}
 use Rattle.model.specs.Language.{Language, parts}

@@ -7,7 +7,7 @@ use native.Mathlib.Omega.{arith}
 use lib.Dec.{eqb}
 use lib.ListN.{length}
 use Rattle.language.specs.Cases.{impossible, split}
-use Rattle.model.specs.Limits.{textBytes, readingsMost, entriesMost}
+use Rattle.language.specs.Limits.{textBytes, tableReadings, tableEntries}
 use Rattle.model.specs.Lists.{All, member}
 use Rattle.model.specs.ListLaws.{distinct-insertAll, all-insertAll}
 use Rattle.model.specs.Language.{Language, parts}
@@ -29,11 +29,11 @@ module _ (L : Language) (H : Laws L) where
   abbrev worked : State L → ℕ → Form → State L
   worked s a f = record { recording = s .recording; entries = workOut L (s .recording) a f (s .entries) }
 
-  pub invariant-start : (r : List Reading) → length r ≤ readingsMost → Sound r → Invariant L H (start L r)
+  pub invariant-start : (r : List Reading) → length r ≤ tableReadings → Sound r → Invariant L H (start L r)
   invariant-start r h sound = record { short = h; sound = sound; few = omega arith; ordered = tt; distinct = tt; proper = tt; kept = tt; settled = tt }
 
   invariant-edit : (s : State L) (t : List ℕ) (order places : List Form) (whole : Form) → length t ≤ textBytes → read t ≡ parts order places whole
-      → length (holdAll L order (s .entries)) ≤ entriesMost → Invariant L H s → Invariant L H (extended s order)
+      → length (holdAll L order (s .entries)) ≤ tableEntries → Invariant L H s → Invariant L H (extended s order)
   unfolding member
   invariant-edit s t order places whole l e h i =
       let text = H .readable t order places whole l e in

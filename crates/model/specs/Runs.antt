@@ -18,6 +18,7 @@ pub record Machine (L : Language) : Type 1 where
   pub next : Memory → Sent → Memory
   pub holds : Memory → State L
 
+-- The reference model as such a machine.
 abbrev pub model : (L : Language) → Machine L
 model L =
     record {
@@ -41,6 +42,7 @@ module _ (L : Language) where
   newlyMarked (e ∷ es) (f ∷ fs) = cond (not (marked L e) && marked L f) (f .form ∷ newlyMarked es fs) (newlyMarked es fs)
 
 module _ {L : Language} (M : Machine L) where
+  -- The answers to a list of calls, the lent places after each of them, and the memory after all.
   unfoldable pub answers : M .Memory → List (M .Sent) → List (Answer L)
   answers m [] = []
   answers m (c ∷ cs) = M .answer m c ∷ answers (M .next m c) cs

@@ -51,11 +51,13 @@ module _ (L : Language) where
     pub form : Form
     pub number : ℕ
 
+  -- Forms and numbers by place, as parts of the text t from place p on.
   unfoldable pub partsFrom : List ℕ → ℕ → List Form → List ℕ → List Part
   partsFrom t p [] ns = []
   partsFrom t p (f ∷ fs) [] = []
   partsFrom t p (f ∷ fs) (n ∷ ns) = record { text = t; place = p; form = f; number = n } ∷ partsFrom t (suc p) fs ns
 
+  -- The let-free forms of a text's parts, and the numbers that an accepted edit gave them.
   abbrev pub formsByPlace : Parsed Form → List Form
   formsByPlace (rejected n at) = []
   formsByPlace (parts order places whole) = places
@@ -67,6 +69,7 @@ module _ (L : Language) where
   numbersIn (notYet k) = []
   numbersIn (finished k v) = []
 
+  -- The parts that a call numbers.
   abbrev pub partsIn : Request L → Answer L → List Part
   partsIn (Open r) x = []
   partsIn (Edit ps t) x = partsFrom t 0 (formsByPlace (read t)) (numbersIn x)

@@ -10,7 +10,7 @@ use borrow.Author.Tests.{ltb-false, le-ltb, lt-ltb}
 use lib.Dec.{ltb}
 use lib.ListN.{length, getElem?}
 use Rattle.language.specs.Cases.{split}
-use Rattle.model.specs.Limits.{textBytes, partsMost, readingsMost, entriesMost}
+use Rattle.language.specs.Limits.{textBytes, textParts, tableReadings, tableEntries}
 use Rattle.model.specs.Language.{Language, Parsed, rejected, parts}
 use Rattle.model.specs.Model.{State, forms, Request, Open, Edit, Preview, Call, refuse, openedWith, onOpen, holdAll, editedTo, bind, onEdit, previewed, look, onPreview, onRequest, respond, next}
 use Rattle.model.specs.Laws.{Laws}
@@ -20,29 +20,29 @@ module _ (L : Language) where
 
   pub data Step (s : State L) (c : Call L) : Type 0 where
     declines : (n at : ℕ) → (n ≡ 4 → ⊥) → respond L s c ≡ refuse L n at s → Step s c
-    opens : (r : List Reading) → c .request ≡ Open r → length r ≤ readingsMost → respond L s c ≡ openedWith L r → Step s c
-    edits : (ps t : List ℕ) (order places : List Form) (whole : Form) → c .request ≡ Edit ps t → length t ≤ textBytes → partsMost ≤ length ps
-        → read t ≡ parts order places whole → length (holdAll L order (s .entries)) ≤ entriesMost
+    opens : (r : List Reading) → c .request ≡ Open r → length r ≤ tableReadings → respond L s c ≡ openedWith L r → Step s c
+    edits : (ps t : List ℕ) (order places : List Form) (whole : Form) → c .request ≡ Edit ps t → length t ≤ textBytes → textParts ≤ length ps
+        → read t ≡ parts order places whole → length (holdAll L order (s .entries)) ≤ tableEntries
         → respond L s c ≡ editedTo L s (holdAll L order (s .entries)) places whole → Step s c
     previews : (n a : ℕ) (f : Form) → c .request ≡ Preview n a → getElem? (forms L (s .entries)) n ≡ some f → respond L s c ≡ previewed L s a f
         → Step s c
 
   -- what a call comes to
-  pub accepts-open : (s : State L) (r : List Reading) → length r ≤ readingsMost → onRequest L s true (Open r) ≡ openedWith L r
+  pub accepts-open : (s : State L) (r : List Reading) → length r ≤ tableReadings → onRequest L s true (Open r) ≡ openedWith L r
   unfolding onRequest onOpen
-  accepts-open s r h = rw (le-ltb readingsMost (length r) h)
+  accepts-open s r h = rw (le-ltb tableReadings (length r) h)
 
-  pub declines-open : (s : State L) (b : Bool) (r : List Reading) → readingsMost < length r → onRequest L s b (Open r) ≡ refuse L 2 0 s
+  pub declines-open : (s : State L) (b : Bool) (r : List Reading) → tableReadings < length r → onRequest L s b (Open r) ≡ refuse L 2 0 s
   unfolding onRequest onOpen
-  declines-open s b r h = rw (lt-ltb readingsMost (length r) h)
+  declines-open s b r h = rw (lt-ltb tableReadings (length r) h)
 
-  pub accepts-edit : (s : State L) (ps t : List ℕ) (order places : List Form) (whole : Form) → length t ≤ textBytes → partsMost ≤ length ps
+  pub accepts-edit : (s : State L) (ps t : List ℕ) (order places : List Form) (whole : Form) → length t ≤ textBytes → textParts ≤ length ps
       → read t ≡ parts order places whole
-      → length (holdAll L order (s .entries)) ≤ entriesMost
+      → length (holdAll L order (s .entries)) ≤ tableEntries
       → onRequest L s true (Edit ps t) ≡ editedTo L s (holdAll L order (s .entries)) places whole
   unfolding onRequest onEdit bind
   accepts-edit s ps t order places whole h p e z =
-      rw (le-ltb textBytes (length t) h, le-ltb (length ps) partsMost p) (ap (bind L s) e ∙ rw (le-ltb entriesMost (length (holdAll L order (s .entries))) z))
+      rw (le-ltb textBytes (length t) h, le-ltb (length ps) textParts p) (ap (bind L s) e ∙ rw (le-ltb tableEntries (length (holdAll L order (s .entries))) z))
 
   pub accepts-preview : (s : State L) (n a : ℕ) (f : Form) → getElem? (forms L (s .entries)) n ≡ some f
       → onRequest L s true (Preview n a) ≡ previewed L s a f
@@ -52,7 +52,7 @@ module _ (L : Language) where
   -- too little memory: the state stays
   pub short-next : (s : State L) (q : Request L) → next L s (record { enough = false; request = q }) ≡ s
   unfolding onRequest onOpen onEdit onPreview
-  short-next s (Open r) = split (ltb readingsMost (length r)) (λ p. rw (p, next)) (λ p. rw (p, next))
+  short-next s (Open r) = split (ltb tableReadings (length r)) (λ p. rw (p, next)) (λ p. rw (p, next))
   short-next s (Edit ps t) = split (ltb textBytes (length t)) (λ p. rw (p, next)) (λ p. rw (p, next))
   short-next s (Preview n a) = refl
 
@@ -60,21 +60,21 @@ module _ (L : Language) where
     step-open : (s : State L) (b : Bool) (r : List Reading) → Step s (record { enough = b; request = Open r })
     unfolding onRequest onOpen
     step-open s b r =
-        split (ltb readingsMost (length r)) (λ p. declines 2 0 (omega arith) (rw p))
+        split (ltb tableReadings (length r)) (λ p. declines 2 0 (omega arith) (rw p))
         (λ p. split b (λ q. opens r refl (ltb-false _ _ p) (rw (p, q))) (λ q. declines 3 0 (omega arith) (rw (p, q))))
 
     step-edit : (s : State L) (b : Bool) (ps t : List ℕ) → Step s (record { enough = b; request = Edit ps t })
     unfolding onRequest onEdit bind
     step-edit s b ps t =
         split (ltb textBytes (length t)) (λ p. declines 1 0 (omega arith) (rw p))
-        (λ p. split (not b || ltb (length ps) partsMost) (λ q. declines 3 0 (omega arith) (rw (p, q)))
-        (λ q. go (ltb-false _ _ p) (ltb-false _ _ (neither (not b) (ltb (length ps) partsMost) .0 q .1)) (rw (p, q)) (read t) refl))
+        (λ p. split (not b || ltb (length ps) textParts) (λ q. declines 3 0 (omega arith) (rw (p, q)))
+        (λ q. go (ltb-false _ _ p) (ltb-false _ _ (neither (not b) (ltb (length ps) textParts) .0 q .1)) (rw (p, q)) (read t) refl))
       where
-        go : length t ≤ textBytes → partsMost ≤ length ps → onRequest L s b (Edit ps t) ≡ bind L s (read t) → (x : Parsed Form) → read t ≡ x
+        go : length t ≤ textBytes → textParts ≤ length ps → onRequest L s b (Edit ps t) ≡ bind L s (read t) → (x : Parsed Form) → read t ≡ x
             → Step s (record { enough = b; request = Edit ps t })
         go short room h (rejected n at) e = declines n at (let z = H .rejected t n at short e .least in omega arith) (h ∙ ap (bind L s) e)
         go short room h (parts order places whole) e =
-            split (ltb entriesMost (length (holdAll L order (s .entries))))
+            split (ltb tableEntries (length (holdAll L order (s .entries))))
             (λ u. declines 13 0 (omega arith) (h ∙ ap (bind L s) e ∙ rw u))
             (λ u. edits ps t order places whole refl short room e (ltb-false _ _ u) (h ∙ ap (bind L s) e ∙ rw u))
 

@@ -18,11 +18,10 @@ use Rattle.grammar.specs.Machine.{readText}
 use Rattle.grammar.specs.Theorems.{text-read-plainly}
 use Rattle.model.specs.Lists.{All}
 use Rattle.model.specs.Model.{refused, edited}
-use Rattle.layout.specs.Memory.{Memory, Node, entryCount, nodeAt}
+use Rattle.layout.specs.Memory.{Memory, Node, entryCount, nodeAt, memory}
 use Rattle.table.specs.Bind.{Bound, bindAll, appendAll}
 use Rattle.layout.specs.Numbered.{numbered}
 use Rattle.layout.specs.Held.{freshAt}
-use Rattle.table.specs.Checked.{memory}
 use Rattle.table.specs.CheckedLaws.{nodes-are}
 use Rattle.binder.specs.Records.{recordAt, bound, BoundAll, isFull}
 use Rattle.binder.specs.RecordsLaws.{bound-waits, bound-numbers, bound-total}

@@ -12,10 +12,9 @@ ghost use Prim.Native.Nat.{ℕ, _≤_};
 ghost use lib.IntN.{ℤ};
 ghost use lib.ListN.{length, getD};
 ghost use Rattle.language.specs.Limits.{textParts, tableEntries};
-ghost use Rattle.layout.specs.Memory.{nodeAt};
+ghost use Rattle.layout.specs.Memory.{nodeAt, memory};
 ghost use Rattle.table.specs.WellFormed.{distinct};
 ghost use Rattle.layout.specs.Numbered.{numbered};
-ghost use Rattle.table.specs.Checked.{memory};
 ghost use Rattle.planner.specs.Plans.{Planned};
 
 // What a text comes to: a refusal's number and place; or number 0, the entry of the whole, how many parts the text has, and how many entries

@@ -2,6 +2,7 @@
 -- fits. And a preview of any cache works out as many entries as it says. Assumes nothing.
 use mathlib.Core.Path.{_≡_, sym, ap, _∙_}
 use mathlib.Core.Bool.{true, _&&_, and-eq-true-iff}
+use mathlib.Core.Logic.{_↔_, Iff·trans}
 use mathlib.Core.List.{List}
 use Prim.Native.Nat.{ℕ, _+_}
 use native.Mathlib.Omega.{arith}
@@ -11,22 +12,28 @@ use lib.IntN.{ℤ}
 use lib.ListN.{length}
 use Rattle.language.specs.Limits.{textBytes, textParts, tableReadings}
 use Rattle.language.specs.Cases.{impossible, split}
+use Rattle.grammar.specs.Grammar.{Expression}
+use Rattle.grammar.specs.Reading.{tree}
 use Rattle.grammar.specs.Machine.{readText}
+use Rattle.grammar.specs.Theorems.{text-read-plainly}
+use Rattle.meaning.specs.Binding.{formsInOrder}
 use Rattle.model.specs.Lists.{All}
-use Rattle.model.specs.Model.{refused, opened}
+use Rattle.model.specs.Model.{refused, opened, holdAll}
 use Rattle.layout.specs.Memory.{Memory, fits, entryCount, recordingOf}
 use Rattle.table.specs.WellFormed.{wellFormed}
 use Rattle.binder.specs.AppendedLaws.{well-parts, well-from, well-empty}
-use Rattle.formulas.specs.Formulas.{IsReading}
+use Rattle.formulas.specs.Formulas.{IsReading, formulas}
+use Rattle.records.specs.Records.{recordsOf}
 use Rattle.scheduler.specs.Works.{Work}
-use Rattle.interface.specs.declared.answers.Previewed.{Previewed}
-use Rattle.interface.specs.declared.answers.Previewed.the-variants.{NotYet, Finished, Refused}
-use Rattle.interface.specs.Calls.{openAnswer, openMemory, openedMemory, editMemory, workOn, workedMemory, previewedAs, previewed, previewMemory}
+use Rattle.interface.specs.Acceptance.{IsEdited, Ready}
+use Rattle.interface.specs.AcceptanceLaws as Acceptance
+use Rattle.interface.specs.Calls.{openAnswer, openMemory, openedMemory, boundTo, editAnswer, editMemory, workOn, workedMemory, previewedAs, previewed, previewMemory}
 use Rattle.demand.specs.Appended.{lengths, long-enough}
 use Rattle.demand.specs.Opening.{count-zero, count-readings, longer}
-use Rattle.demand.specs.Grown.{read-well, read-fits}
-use Rattle.demand.specs.WorkedCount.{workedOut}
+use Rattle.demand.specs.Grown.{held-and-new, read-well, read-fits}
+use Rattle.demand.specs.Holds.{holds, workedOut}
 use Rattle.demand.specs.AnyCache.{worked-well, worked-fits, worked-rise}
+use Rattle.promises.specs.Terms.{CanEdit, counted}
 
 -- ---- open
 
@@ -67,6 +74,17 @@ edit-well m places text w =
     (λ q. rw (p, q, w) (read-well m text (and-eq-true-iff (fits m) _ .0 q .0) w))
     (λ q. rw (p, q) w))
 
+-- the records bound to the entries held are the forms that the model then holds
+pub edit-accepted : (m : Memory) (places text : List ℕ) → IsEdited (editAnswer m places text) ↔ CanEdit m places text
+edit-accepted m places text = Iff·trans (Acceptance.edit-accepted m places text) (
+  λ c. record { ready = c .ready; expression = c .expression; read = c .read; held = rw (size (c .ready) (c .expression) (c .read)) at (c .held) },
+  λ c. record { ready = c .ready; expression = c .expression; read = c .read; held = rw (size (c .ready) (c .expression) (c .read)) (c .held) },
+)
+  where
+    size : Ready m places text → (e : Expression) → readText text ≡ tree e
+        → length (boundTo m (recordsOf e) .nodes) ≡ length (holdAll formulas (formsInOrder e) (holds m .entries))
+    size r e h = held-and-new m (r .well) e (text-read-plainly text e .0 h .1)
+
 -- ---- preview
 
 pub preview-fits : (m : Memory) (n a : ℕ) → fits (previewMemory m n a) ≡ fits m
@@ -81,12 +99,6 @@ preview-well m n a w sound =
     let b = and-eq-true-iff (fits m) _ .0 p in
     rw p (well-from (workedMemory m (workOn m n a)) (worked-well m (b .0) (well-parts m w) sound n (ltb-true n (entryCount m) (and-eq-true-iff (wellFormed m) _ .0 (b .1) .1)) a)))
     (λ p. rw p w)
-
--- how many entries the answer says were worked out
-abbrev pub counted : Previewed → ℕ
-counted (NotYet k) = k
-counted (Finished k v) = k
-counted (Refused r) = 0
 
 pub preview-rise : (m : Memory) (n a : ℕ) → All IsReading (recordingOf m) → workedOut (previewMemory m n a) ≡ workedOut m + counted (previewed m n a)
 unfolding previewMemory previewed

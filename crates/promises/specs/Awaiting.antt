@@ -1,11 +1,10 @@
 -- The paper's delayed previews (Figure 5): which names a form awaits, that a form with a free lambda variable is delayed or missing, and that
 -- one which is delayed has one. And a run of a function puts the number for its variable in the body. Assumes nothing.
 use mathlib.Core.Path.{_≡_, refl, sym, ap, _∙_}
-use mathlib.Core.Logic.{_⊎_, inl, inr}
-use mathlib.Core.Bool.{Bool, true, false, not, _&&_, _||_}
-use mathlib.Core.List.{List, [], _∷_}
+use mathlib.Core.Logic.{_↔_, _⊎_, inl, inr}
+use mathlib.Core.Bool.{Bool, true, false, _||_}
+use mathlib.Core.List.{List}
 use Prim.Native.Nat.{ℕ}
-use lib.Dec.{eqb}
 use lib.IntN.{ℤ, pos}
 use Rattle.language.specs.Cases.{or-right, impossible, split}
 use Rattle.members.specs.declared.Member.{Member}
@@ -14,27 +13,14 @@ use Rattle.rules.specs.declared.Value.the-variants.{Number, Window, Function, D
 use Rattle.rules.specs.Apply.{isMissing, isDelayed, apply0, apply1}
 use Rattle.meaning.specs.Forms.{Form, number, variable, unbound, readings, ask, call, function}
 use Rattle.meaning.specs.Evaluation.{Result, valueOf, runOf, Environment, nowhere, bind, lookup, settled, functionOf, evaluate, putFor}
-use Rattle.meaning.specs.Evaluation.{hasName, joined, without, awaited, aDelay, aReason, shownAs, shows}
+use Rattle.meaning.specs.Evaluation.{hasName, awaited, aDelay, aReason, shownAs, shows}
 use Rattle.meaning.specs.EvaluationLaws.{evaluate-put}
 use Rattle.table.specs.AwaitsLaws.{has-joined}
-use Rattle.refine.specs.Free.{settled-no, has-without}
+use Rattle.refine.specs.Free.{settled-no, settled-find, has-without}
 use Rattle.demand.specs.Fitting.{delayed-awaits}
+use Rattle.promises.specs.Terms.{AwaitedNames}
 
 -- ---- the names awaited
-
--- Figure 5: a variable awaits itself (var); a member what its dependencies await, the receiver's names first and each once (mem-expr); a
--- function what its body awaits but its own name (fun-bind, fun-expr); all else is a value and awaits nothing (val)
-pub record AwaitedNames : Type 0 where
-  pub of-number : (z : ℤ) → awaited (number z) ≡ []
-  pub of-variable : (x : ℕ) → awaited (variable x) ≡ x ∷ []
-  pub of-unbound : (x : ℕ) → awaited (unbound x) ≡ []
-  pub of-readings : awaited readings ≡ []
-  pub of-ask : (m : Member) (f : Form) → awaited (ask m f) ≡ awaited f
-  pub of-call : (m : Member) (f a : Form) → awaited (call m f a) ≡ joined (awaited f) (awaited a)
-  pub of-function : (x : ℕ) (b : Form) → awaited (function x b) ≡ without x (awaited b)
-  -- the names of two lists joined are those of either, and of a list without x those that are not x
-  pub either : (y : ℕ) (xs ys : List ℕ) → hasName y (joined xs ys) ≡ (hasName y xs || hasName y ys)
-  pub others : (y x : ℕ) (ys : List ℕ) → hasName y (without x ys) ≡ (not (eqb x y) && hasName y ys)
 
 pub awaited-names : AwaitedNames
 unfolding awaited
@@ -50,6 +36,14 @@ awaited-names =
       either = has-joined;
       others = has-without;
     }
+
+-- what is not settled awaits a name that stands for nothing
+pub settled-exactly : (ρ : Environment) (f : Form)
+    → (settled ρ f ≡ false) ↔ ((y : ℕ) × (hasName y (awaited f) ≡ true) × (isDelayed (lookup ρ y) ≡ true))
+settled-exactly ρ f = (
+  λ h. let w = settled-find ρ f h in (w .name, w .isFree, w .unset),
+  λ w. settled-no ρ f (w .0) (w .1) (w .2),
+)
 
 -- ---- a form that awaits a name
 

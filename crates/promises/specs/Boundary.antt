@@ -10,7 +10,7 @@ use Rattle.model.specs.Engine.{Sent, told}
 use Rattle.model.specs.Demand.{last, Demand}
 use Rattle.formulas.specs.Formulas.{formulas}
 use Rattle.layout.specs.Memory.{Memory}
-use Rattle.refine.specs.Shows.{viewOf}
+use Rattle.refine.specs.Views.{viewOf}
 use Rattle.interface.specs.declared.answers.Edited.the-variants as Edit
 use Rattle.interface.specs.declared.answers.Previewed.the-variants as Preview
 use Rattle.interface.specs.declared.answers.EditAnswer.{EditAnswer}
@@ -19,7 +19,7 @@ use Rattle.interface.specs.Answers.{Reply, editNumbers, previewNumbers}
 use Rattle.interface.specs.Effects.{OpensForC, EditsForC, PreviewsForC}
 use Rattle.demand.specs.Holds.{holds}
 use Rattle.promises.specs.Lending.{lend, back}
-use Rattle.promises.specs.Implementing.{engine}
+use Rattle.promises.specs.Engine.{engine}
 
 -- What a call gives: an open its number, an edit its answer and the lent places afterwards, a preview its answer.
 pub data ForC : Type 0 where
@@ -65,11 +65,13 @@ previewFor (edited w p k ns) = previewNumbers (Preview.NotYet 0)
 previewFor (notYet k) = previewNumbers (Preview.NotYet k)
 previewFor (finished k v) = previewNumbers (Preview.Finished k (viewOf v))
 
+-- by what was called
 abbrev pub forC : Request formulas → Reply → ForC
 forC (Open r) x = fromOpen (openFor x)
 forC (Edit places text) x = fromEdit (editFor x) (written formulas x places)
 forC (Preview n a) x = fromPreview (previewFor x)
 
+-- of a list of calls
 unfoldable pub allForC : List (Sent engine) → List Reply → List ForC
 allForC [] xs = []
 allForC (c ∷ cs) [] = []

@@ -28,7 +28,8 @@ use Rattle.interface.specs.Effects.{OpensForC}
 use Rattle.interface.specs.AcceptanceLaws.{open-zero}
 use Rattle.promises.specs.Lending.{lend, back}
 use Rattle.promises.specs.LendingLaws.{lent-fits}
-use Rattle.promises.specs.Implementing.{engine, implements}
+use Rattle.promises.specs.Implementing.{implements}
+use Rattle.promises.specs.Engine.{engine}
 use Rattle.promises.specs.Showing.{preview-plain}
 use Rattle.promises.specs.Boundary.{ForC, fromOpen, fromEdit, fromPreview, Step, opens, edits, previews, Run, none, next}
 use Rattle.promises.specs.Boundary.{openFor, editFor, previewFor, forC, allForC, DemandForC}

@@ -2,7 +2,7 @@
 -- Assumes nothing.
 use mathlib.Core.Path.{_≡_, refl, sym, ap, _∙_}
 use mathlib.Core.Bool.{true, false, _&&_}
-use mathlib.Core.List.{List, []}
+use mathlib.Core.List.{List}
 use Prim.Native.Nat.{ℕ, _<_}
 use borrow.Author.Tests.{lt-ltb}
 use lib.Dec.{ltb, eqb}
@@ -13,7 +13,7 @@ use Rattle.rules.specs.declared.Value.{Value}
 use Rattle.rules.specs.declared.Value.the-variants.{Number, Window, Function, Delayed, Missing}
 use Rattle.values.specs.Packing.{unpackOf}
 use Rattle.values.specs.Shown.{shownNumbers}
-use Rattle.meaning.specs.Evaluation.{Shown, aNumber, aWindow, aFunction, aDelay, aReason}
+use Rattle.meaning.specs.Evaluation.{aWindow}
 use Rattle.model.specs.Lists.{All}
 use Rattle.formulas.specs.Formulas.{IsReading}
 use Rattle.layout.specs.Memory.{Memory, fits, entryCount, readingCount, recordingOf, entriesOf}
@@ -26,15 +26,8 @@ use Rattle.interface.specs.declared.answers.Previewed.the-variants.{Finished}
 use Rattle.interface.specs.Answers.{shownOf}
 use Rattle.interface.specs.Calls.{workOn, workedMemory, previewed, previewMemory, windowIn, partOf, fetched}
 use Rattle.interface.specs.CallsLaws.{part-held}
+use Rattle.promises.specs.Terms.{readingsOf}
 use Rattle.promises.specs.Finishing.{finished-by}
-
--- the readings of what is shown
-unfoldable pub readingsOf : List ℤ → Shown → List ℤ
-readingsOf xs (aWindow s l) = take l (drop s xs)
-readingsOf xs (aNumber z) = []
-readingsOf xs (aFunction x) = []
-readingsOf xs (aDelay names) = []
-readingsOf xs (aReason r) = []
 
 -- of a value, whatever its names
 value-shown : (xs : List ℤ) (v : Value) (name other : ℕ)

@@ -7,37 +7,19 @@ use Rattle.language.specs.Limits.{textBytes, tableReadings}
 use Rattle.language.specs.Cases.{split}
 use Rattle.model.specs.Model as Model
 use Rattle.model.specs.Model.{State, Request, Open, Edit, Preview, Outcome, Answer, answer}
-use Rattle.model.specs.Engine.{Engine, says, leaves}
+use Rattle.model.specs.Engine.{says, leaves}
 use Rattle.model.specs.Implements.{Agrees, Same, Implements}
 use Rattle.formulas.specs.Formulas.{formulas}
 use Rattle.bridge.specs.FormulaLaws.{formula-laws}
-use Rattle.layout.specs.Memory.{Memory, fits, keptAt, nothingKept}
-use Rattle.interface.specs.Calls.{openAnswer, openMemory, editAnswer, editMemory, editPlaces, previewed, previewAnswer, previewMemory}
+use Rattle.layout.specs.Memory.{Memory, fits}
+use Rattle.interface.specs.Calls.{openAnswer, openMemory, editAnswer, editMemory, previewed, previewMemory}
 use Rattle.demand.specs.Holds.{holds, Ok}
 use Rattle.demand.specs.Editing.{Done, editing}
 use Rattle.demand.specs.Opening.{opening, too-long}
 use Rattle.demand.specs.Accepted.{accepted}
 use Rattle.demand.specs.Previewing.{previewing}
-use Rattle.promises.specs.Lending.{lend, back}
+use Rattle.promises.specs.Engine.{engine}
 use Rattle.promises.specs.LendingLaws.{lent-short, restored, lent-whole, back-whole, keeps-none}
-
-abbrev pub engine : Engine formulas
-engine =
-    record {
-      Memory = Memory;
-      fits = fits;
-      lend = lend;
-      back = back;
-      openAnswer = openAnswer;
-      openMemory = openMemory;
-      editAnswer = editAnswer;
-      editPlaces = editPlaces;
-      editMemory = editMemory;
-      previewAnswer = previewAnswer;
-      previewMemory = previewMemory;
-      holds = holds;
-      KeepsNone = λ m n. keptAt (m .cells) n ≡ nothingKept;
-    }
 
 agrees : (o : Outcome formulas) (x : Answer formulas) (m : Memory) → Done m o x → Agrees engine Ok o x m
 agrees o x m d = record { answer = d .answer; ok = d .ok; holds = d .holds }

@@ -20,7 +20,7 @@ use Rattle.model.specs.Invariant.{Invariant}
 use Rattle.meaning.specs.Forms.{Form}
 use Rattle.formulas.specs.Formulas.{formulas}
 use Rattle.bridge.specs.FormulaLaws.{formula-laws}
-use Rattle.bridge.specs.Recorded.{formsOf}
+use Rattle.bridge.specs.EntryForms.{formsOf}
 use Rattle.layout.specs.Links.{tableLinks, tableCells, kindIndex, firstIndex, secondIndex, keyIndex, valueIndex, nameIndex, otherIndex}
 use Rattle.layout.specs.Memory.{Memory, Entry, fits, entryCount, readingCount, recordingOf, nothingKept, entryAt, nodeAt, keptAt}
 use Rattle.layout.specs.Memory.{entriesFrom, entriesOf, nodesOf}
@@ -29,7 +29,8 @@ use Rattle.demand.specs.Holds.{holds, withMarks, markOf, Written, Ok}
 use Rattle.demand.specs.Appended.{Lengths, lengths, long-enough, entries-length}
 use Rattle.demand.specs.Needs.{entry-nth}
 use Rattle.demand.specs.Accepted.{accepted}
-use Rattle.promises.specs.Outside.{Outside, open-outside, few-entries, edit-outside, preview-outside}
+use Rattle.promises.specs.Outside.{open-outside, few-entries, edit-outside, preview-outside}
+use Rattle.promises.specs.Terms.{Outside}
 use Rattle.promises.specs.Accepting.{open-fits, edit-fits, preview-fits}
 use Rattle.promises.specs.Lending.{lendSlice, lend, FirstOf, backSlice, back}
 

@@ -1,8 +1,10 @@
+pub mod Terms
 pub mod Declined
 pub mod Outside
 pub mod Accepting
 pub mod Lending
 pub mod LendingLaws
+pub mod Engine
 pub mod Implementing
 pub mod Finishing
 pub mod Showing

@@ -21,12 +21,7 @@ use Rattle.scheduler.specs.Works.{chosen, nameFor, otherFor, kept, workFrom, wo
 use Rattle.records.specs.Records.{recordsOf}
 use Rattle.interface.specs.Calls.{openedMemory, openMemory, boundTo, tooMany, editedMemory, readMemory, editMemory, workOn, workedMemory, previewMemory}
 use Rattle.demand.specs.Appended.{lengths}
-
-pub record Outside (m n : Memory) : Type 0 where
-  pub readings : drop tableReadings (n .readings) ≡ drop tableReadings (m .readings)
-  pub heads : drop 2 (n .heads) ≡ drop 2 (m .heads)
-  pub links : drop tableLinks (n .links) ≡ drop tableLinks (m .links)
-  pub cells : drop tableCells (n .cells) ≡ drop tableCells (m .cells)
+use Rattle.promises.specs.Terms.{Outside}
 
 same : (m : Memory) → Outside m m
 same m = record { readings = refl; heads = refl; links = refl; cells = refl }

@@ -18,7 +18,7 @@ use lib.IntN.{ℤ}
 use lib.ListN.{length}
 use Rattle.language.specs.Limits.{textParts, tableReadings}
 use Rattle.grammar.specs.Grammar.{Expression, Spells}
-use Rattle.grammar.specs.KeptLimits.{KeepsLimits}
+use Rattle.grammar.specs.KeptLimits.{partsE, KeepsLimits}
 use Rattle.grammar.specs.Reading.{tree, refused as refusedAt, RefusedBy, placeOf, tokensOf}
 use Rattle.grammar.specs.Machine.{readText}
 use Rattle.grammar.specs.Theorems.{text-read-plainly, text-refused}
@@ -30,18 +30,21 @@ use Rattle.model.specs.Demand.{Demand}
 use Rattle.model.specs.DemandLaws.{demand}
 use Rattle.formulas.specs.Formulas.{IsReading, formulas}
 use Rattle.rules.specs.declared.Value.the-variants.{Number, Function}
-use Rattle.meaning.specs.Forms.{Form, function}
-use Rattle.meaning.specs.Evaluation.{valueOf, runOf, Environment, bind, evaluate, putFor, hasName, awaited, aWindow, aDelay, aReason, shows}
+use Rattle.meaning.specs.Forms.{Form, function, same, IsDependency, dependency, AtOrBelow, within}
+use Rattle.meaning.specs.FormsLaws as Forms
+use Rattle.rules.specs.Apply.{isDelayed}
+use Rattle.meaning.specs.Binding.{formsByPlace}
+use Rattle.meaning.specs.Evaluation.{valueOf, runOf, Environment, bind, lookup, settled, evaluate, putFor, hasName, awaited, aWindow, aDelay, aReason, shows}
 use Rattle.meaning.specs.EvaluationLaws.{evaluate-put}
-use Rattle.meaning.specs.Substitution.{EveryLetE}
-use Rattle.meaning.specs.PartSubstitution.{PartsSubstituted, AtLetsE}
-use Rattle.bridge.specs.FormulaLaws.{formula-laws}
+use Rattle.meaning.specs.Substitution.{Substituted, AtLetsE}
+use Rattle.meaning.specs.PartSubstitution.{PartsSubstituted}
+use Rattle.bridge.specs.FormulaLaws.{parts-placed, formula-laws}
 use Rattle.bridge.specs.LetLaws.{text-lets, text-parts}
 use Rattle.layout.specs.Memory.{Memory, fits, entryCount, readingCount, recordingOf, entriesOf}
 use Rattle.table.specs.WellFormed.{doneAt, wellFormed}
 use Rattle.scheduler.specs.declared.works.View.{View}
 use Rattle.scheduler.specs.Works.{showOf}
-use Rattle.refine.specs.Shows.{viewOf}
+use Rattle.refine.specs.Views.{viewOf}
 use Rattle.interface.specs.declared.answers.Opened.{Opened}
 use Rattle.interface.specs.declared.answers.Edited.{Edited}
 use Rattle.interface.specs.declared.answers.Previewed.{Previewed}
@@ -51,23 +54,22 @@ use Rattle.interface.specs.declared.answers.PreviewAnswer.{PreviewAnswer}
 use Rattle.interface.specs.Answers.{openReply, editReply, previewReply, shownOf}
 use Rattle.interface.specs.Calls.{openAnswer, openMemory, editAnswer, editMemory, editPlaces, previewed, previewAnswer, previewMemory, partOf, fetched}
 use Rattle.interface.specs.Effects.{Opens, Edits, Previews, OpensForC, EditsForC, PreviewsForC}
-use Rattle.interface.specs.Acceptance.{OpenRefusal, EditRefusal, PreviewRefusal, IsEdited, CanEdit, InLanguage, TextDeclined}
+use Rattle.interface.specs.Acceptance.{OpenRefusal, EditRefusal, PreviewRefusal, IsEdited, InLanguage, TextDeclined}
 use Rattle.interface.specs.AcceptanceLaws as Acceptance
-use Rattle.demand.specs.WorkedCount.{workedOut}
+use Rattle.demand.specs.Holds.{workedOut}
 use Rattle.promises.specs.Lending.{lend, FirstOf, back}
 use Rattle.promises.specs.LendingLaws as Lending
-use Rattle.promises.specs.Implementing.{engine, implements}
+use Rattle.promises.specs.Implementing.{implements}
+use Rattle.promises.specs.Engine.{engine}
 use Rattle.promises.specs.Boundary.{ForC, Run, DemandForC}
 use Rattle.promises.specs.BoundaryLaws as Boundary
 use Rattle.promises.specs.Awaiting as Awaiting
-use Rattle.promises.specs.Awaiting.{AwaitedNames}
+use Rattle.promises.specs.Terms.{Outside, CanEdit, counted, readingsOf, AwaitedNames}
 use Rattle.promises.specs.Declined as Declined
 use Rattle.promises.specs.Outside as Outside
 use Rattle.promises.specs.Showing as Showing
 use Rattle.promises.specs.Fetching as Fetching
 use Rattle.promises.specs.Accepting as Accepting
-use Rattle.promises.specs.Accepting.{counted}
-use Rattle.promises.specs.Fetching.{readingsOf}
 
 -- What the functions answer is, by 01's numbers and values of their enums, the answer of Calls.
 pub open-answers : (m : Memory) (r : List ℤ) (m′ : Memory) (x : Opened) → Opens m r m′ x → openReply x ≡ openAnswer m r
@@ -87,7 +89,7 @@ open-accepted = Acceptance.open-accepted
 -- An edit: the text has at most 1,024 bytes, the memory fits with 128 places, the cache is well-formed, the reader reads the text, and the
 -- entries held and the new ones are at most 512.
 pub edit-accepted : (m : Memory) (places text : List ℕ) → IsEdited (editAnswer m places text) ↔ CanEdit m places text
-edit-accepted = Acceptance.edit-accepted
+edit-accepted = Accepting.edit-accepted
 
 -- A preview: the memory fits, the cache is well-formed, and it holds the entry.
 pub preview-accepted : (m : Memory) (n a : ℕ)
@@ -129,13 +131,13 @@ pub preview-declined : (m : Memory) (n a k : ℕ) → previewed m n a ≡ Refuse
 preview-declined = Declined.preview-declined
 
 -- Cells beyond the sizes keep their contents.
-pub open-outside : (m : Memory) (r : List ℤ) → Outside.Outside m (openMemory m r)
+pub open-outside : (m : Memory) (r : List ℤ) → Outside m (openMemory m r)
 open-outside = Outside.open-outside
 
-pub edit-outside : (m : Memory) (places text : List ℕ) → Outside.Outside m (editMemory m places text)
+pub edit-outside : (m : Memory) (places text : List ℕ) → Outside m (editMemory m places text)
 edit-outside = Outside.edit-outside
 
-pub preview-outside : (m : Memory) (n a : ℕ) → Outside.Outside m (previewMemory m n a)
+pub preview-outside : (m : Memory) (n a : ℕ) → Outside m (previewMemory m n a)
 preview-outside = Outside.preview-outside
 
 -- What an open leaves is well-formed, and so is what an edit or a preview leaves of a cache that is, whatever was in it.
@@ -170,6 +172,10 @@ read-exactly = text-read-plainly
 pub refused-exactly : (text : List ℕ) (n p : ℕ) → (readText text ≡ refusedAt n p) ↔ ((j : ℕ) × RefusedBy (tokensOf text) n j × (p ≡ placeOf text j))
 refused-exactly = text-refused
 
+-- A text has a place for each of its parts.
+pub parts-exactly : (e : Expression) → partsE e ≡ length (formsByPlace e)
+parts-exactly = parts-placed
+
 -- Where neither 3 nor 4 comes up, an edit is declined with 1 or a number from 5 to 12 exactly if the text is over 1,024 bytes or no tree of the
 -- grammar spells its tokens and keeps the limits.
 pub text-declined : (m : Memory) (places text : List ℕ) → fits m ≡ true → textParts ≤ length places → wellFormed m ≡ true
@@ -177,13 +183,23 @@ pub text-declined : (m : Memory) (places text : List ℕ) → fits m ≡ true �
 text-declined = Acceptance.text-declined
 
 -- Every let of a text that is read is replaced by capture-avoiding substitution.
-pub lets-replaced : (text : List ℕ) (e : Expression) → readText text ≡ tree e → EveryLetE e []
+pub lets-replaced : (text : List ℕ) (e : Expression) → readText text ≡ tree e → AtLetsE Substituted e []
 lets-replaced = text-lets
 
 -- And so in each part of its body, with the lambdas around the part: also in one that the let's own form does not have, as a part of the value
 -- of an unused let.
 pub parts-replaced : (text : List ℕ) (e : Expression) → readText text ≡ tree e → AtLetsE PartsSubstituted e []
 parts-replaced = text-parts
+
+-- The tests of forms mean what they say: the one is the other, is a dependency of it, is it or lies below it.
+pub same-exactly : (f g : Form) → (same f g ≡ true) ↔ (f ≡ g)
+same-exactly = Forms.same-exactly
+
+pub dependency-exactly : (f g : Form) → (dependency f g ≡ true) ↔ IsDependency f g
+dependency-exactly = Forms.dependency-exactly
+
+pub within-exactly : (f g : Form) → (within f g ≡ true) ↔ AtOrBelow f g
+within-exactly = Forms.within-exactly
 
 -- A run of a function on a reading puts the number for its variable in the let-free body.
 pub run-puts : (xs : List ℤ) (ρ : Environment) (x : ℕ) (b : Form) (z : ℤ) → valueOf (evaluate xs ρ (function x b)) ≡ Function
@@ -193,11 +209,17 @@ run-puts = Awaiting.run-puts
 pub body-put : (xs : List ℤ) (x : ℕ) (z : ℤ) (ρ : Environment) (b : Form) → evaluate xs (bind x (Number z) ρ) b ≡ evaluate xs ρ (putFor x z b)
 body-put = evaluate-put
 
--- The names that a form awaits are joined from its dependencies as in Figure 5. A form that has a free lambda variable is delayed, and shows
--- them, or missing; one that is delayed shows them, and there is one.
+-- The names that a form awaits are joined from its dependencies as in Figure 5.
 pub awaited-names : AwaitedNames
 awaited-names = Awaiting.awaited-names
 
+-- A form is not settled exactly if one of these stands for nothing.
+pub settled-exactly : (ρ : Environment) (f : Form)
+    → (settled ρ f ≡ false) ↔ ((y : ℕ) × (hasName y (awaited f) ≡ true) × (isDelayed (lookup ρ y) ≡ true))
+settled-exactly = Awaiting.settled-exactly
+
+-- A form that has a free lambda variable is delayed, and shows the names that it awaits, or missing; one that is delayed shows them, and there
+-- is one.
 pub free-shown : (xs : List ℤ) (f : Form) (y : ℕ) → hasName y (awaited f) ≡ true
     → (shows xs f ≡ aDelay (awaited f)) ⊎ ((r : ℕ) × (shows xs f ≡ aReason r))
 free-shown = Awaiting.free-shown

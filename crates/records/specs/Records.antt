@@ -34,10 +34,12 @@ newRecord n t ps = record { records = t ++ (n ∷ []); root = length t; places =
 abbrev pub numberKey : ℤ → ℕ
 numberKey z = natAbs (z +ℤ pos 2147483648)
 
+-- the record of a name that is bound: a variable's own, or that of the let's value
 abbrev pub linked : ℕ → List ℕ → List Node → Recorded
 linked zero x t = newRecord (node variableKind (packed x) 0 0) t (length t ∷ [])
 linked (suc j) x t = record { records = t; root = j; places = j ∷ [] }
 
+-- an inner let or lambda hides an outer one; a name that none of them binds is unbound
 unfoldable pub recordScoped : List ℕ → List Named → List Node → Recorded
 recordScoped x [] t = newRecord (node unboundKind (packed x) 0 0) t (length t ∷ [])
 recordScoped x (e ∷ Σ) t = cond (sameName x (e .name)) (linked (e .link) x t) (recordScoped x Σ t)

@@ -29,7 +29,8 @@ use Rattle.evaluator.specs.Reach.{moves, gathered}
 use Rattle.evaluator.specs.Frames.{bound}
 use Rattle.evaluator.specs.Applying.{Go, fillOf, setOf, overOf}
 use Rattle.refine.specs.Free.{decEq, free, never, free-variable, unbound-same}
-use Rattle.refine.specs.Tables.{EntryAt, is-number, is-variable, is-unbound, is-readings, is-function, is-ask, is-call, Good, PlainValue, Plain, kept-entry, Sees, here, down, sees-free, sees-below, sees-trans}
+use Rattle.refine.specs.Tables.{EntryAt, is-number, is-variable, is-unbound, is-readings, is-function, is-ask, is-call}
+use Rattle.refine.specs.Tables.{Good, PlainValue, Plain, kept-entry, Sees, here, down, sees-free, sees-below, sees-trans}
 use Rattle.refine.specs.Sweeps.{In, Rising, rising-above, list-moves, list-rises, list-low, list-top, list-down}
 
 -- each reading is within signed 32 bits
@@ -68,7 +69,8 @@ module _ (links cells waits : List ℕ) (xs : List ℤ) (n : ℕ) (φ : ℕ → 
         by (is-call m _ _ q _ _ _ _ _) = absurd (omega (arith, q))
 
     -- a variable x, the entry of it, and a value for it
-    module _ (j₀ : ℕ) (var-n : j₀ < n) (var-k : kindAt links j₀ ≡ 1) (go : Go) (f : ℕ) (right : GoRight go f) (ρ : Environment) (plain : Plain ρ) (body : ℕ) (body-n : body < n) (body-f : body < f) where
+    module _ (j₀ : ℕ) (var-n : j₀ < n) (var-k : kindAt links j₀ ≡ 1) (go : Go) (f : ℕ) (right : GoRight go f) (ρ : Environment) (plain : Plain ρ) (body : ℕ)
+        (body-n : body < n) (body-f : body < f) where
       abbrev x : ℕ
       x = keyAt cells j₀
 

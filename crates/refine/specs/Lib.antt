@@ -4,6 +4,7 @@ pub mod Sweeps
 pub mod Frames
 pub mod Kinds
 pub mod Meaning
+pub mod Views
 pub mod Shows
 pub mod Counts
 pub mod Waiting

@@ -43,7 +43,8 @@ use Rattle.evaluator.specs.Reach.{gathered}
 use Rattle.evaluator.specs.Frames as Code
 use Rattle.evaluator.specs.Applying.{graph, Go, boundedOf, askOf, callOf, doneOf, taskOf, judgeOf, runOf as taskRun, followOf, planOf, fillOf, overOf, concludeOf, finishOf, applyAt}
 use Rattle.refine.specs.Free.{free, never, decEq, free-variable, free-call, free-function, unbound-same, settled-no, settled-find}
-use Rattle.refine.specs.Tables.{EntryAt, is-number, is-variable, is-unbound, is-readings, is-function, is-ask, is-call, Good, PlainValue, Plain, plain-lookup, kept-entry, Link, Sees, here, down, sees-free, sees-below}
+use Rattle.refine.specs.Tables.{EntryAt, is-number, is-variable, is-unbound, is-readings, is-function, is-ask, is-call}
+use Rattle.refine.specs.Tables.{Good, PlainValue, Plain, plain-lookup, kept-entry, Link, Sees, here, down, sees-free, sees-below}
 use Rattle.refine.specs.Kinds.{isFunction, ask-none, call-none}
 use Rattle.refine.specs.Frames.{Right, GoRight, Small, turn, set-value, over-right}
 
@@ -543,7 +544,8 @@ module _ (links cells waits : List ℕ) (xs : List ℤ) (n : ℕ) (φ : ℕ → 
             let jn : j < n = omega (arith, o .low) in
             ap (finishOf (graph links waits xs) go frame i) (plan-function links waits xs frame i b k fs l ∙ judge-again links waits xs frame i b j (o .is) (omega (arith, good .most)))
             ∙ ap (Code.functionOf frame (getD waits i 0))
-            (set-value links cells waits xs n φ good j jn (o .kind) go f right ρ plain b (omega arith) (omega arith) Delayed tt frame len (λ p t nf. rest p t (subst (λ (m : ℕ). free m (φ p) ≡ false) (o .key) nf))
+            (set-value links cells waits xs n φ good j jn (o .kind) go f right ρ plain b (omega arith) (omega arith) Delayed tt frame len
+            (λ p t nf. rest p t (subst (λ (m : ℕ). free m (φ p) ≡ false) (o .key) nf))
             ∙ ap (λ (m : ℕ). packOf (valueOf (evaluate xs (bind m Delayed ρ) (φ b)))) (o .key)))
             (λ h.
             ap (finishOf (graph links waits xs) go frame i) (plan-function links waits xs frame i b k fs l ∙ judge-kept links waits xs frame i b (own-none i b i-n l e h))

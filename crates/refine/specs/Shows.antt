@@ -17,22 +17,14 @@ use Rattle.values.specs.Packing.{packOf, unpackOf, functionCell, delayedCell}
 use Rattle.values.specs.PackingLaws.{round}
 use Rattle.values.specs.Ranges.{up-size}
 use Rattle.meaning.specs.Forms.{Form, nameOf}
-use Rattle.meaning.specs.Evaluation.{awaited, Shown, aNumber, aWindow, aFunction, aDelay, aReason, shownAs}
-use Rattle.scheduler.specs.declared.works.View.{View}
+use Rattle.meaning.specs.Evaluation.{awaited, shownAs}
 use Rattle.layout.specs.Links.{keyAt}
 use Rattle.table.specs.Waits.{slotA, slotB}
 use Rattle.scheduler.specs.Works.{slotName, nameFor, otherFor, view}
+use Rattle.refine.specs.Views.{viewOf}
 
--- 01's cases of what is shown, as the plain numbers and names of the answer
-abbrev pub nameAt : List ℕ → ℕ → ℕ
+abbrev nameAt : List ℕ → ℕ → ℕ
 nameAt names k = getD names k 0
-
-unfoldable pub viewOf : Shown → View
-viewOf (aNumber z) = record { kind = 1; first = z; second = 0; name = 0; other = 0 }
-viewOf (aWindow s l) = record { kind = 2; first = pos s; second = l; name = 0; other = 0 }
-viewOf (aFunction x) = record { kind = 3; first = pos 0; second = 0; name = x; other = 0 }
-viewOf (aDelay names) = record { kind = 4; first = pos 0; second = 0; name = nameAt names 0; other = nameAt names 1 }
-viewOf (aReason r) = record { kind = 5; first = pos r; second = 0; name = 0; other = 0 }
 
 -- the names of the variables that an entry awaits
 abbrev pub slotNames : List ℕ → ℕ → List ℕ

@@ -122,7 +122,8 @@ module _ (links cells waits : List ℕ) (xs : List ℤ) (n : ℕ) (φ : ℕ → 
       wrong = reason-kept (length xs) 2 (omega arith) (omega arith)
 
       by : EntryAt links cells φ i
-          → ((j : ℕ) → j < i → (σ : Environment) → Plain σ → Keepable (length xs) (valueOf (evaluate xs σ (φ j))) × ((z : ℤ) → mag z < 2147483648 → Keepable (length xs) (runOf (evaluate xs σ (φ j)) z)))
+          → ((j : ℕ) → j < i → (σ : Environment) → Plain σ
+          → Keepable (length xs) (valueOf (evaluate xs σ (φ j))) × ((z : ℤ) → mag z < 2147483648 → Keepable (length xs) (runOf (evaluate xs σ (φ j)) z)))
           → Keepable (length xs) (valueOf (evaluate xs ρ (φ i))) × ((z : ℤ) → mag z < 2147483648 → Keepable (length xs) (runOf (evaluate xs ρ (φ i)) z))
       by (is-number _ l e) again = rw e (record { held = down-range 2147483648 (keyAt cells i) (omega arith); inside = tt; reasoned = tt }, λ z m. wrong)
       by (is-variable _ _ _ e) again = rw e (plain-kept (length xs) (lookup ρ (keyAt cells i)) (plain-lookup ρ p (keyAt cells i)), λ z m. wrong)
@@ -139,7 +140,11 @@ module _ (links cells waits : List ℕ) (xs : List ℤ) (n : ℕ) (φ : ℕ → 
           )
       by (is-ask m d _ _ _ l e) again = rw e (kept-apply0 (length xs) (omega (arith, good .few)) m xs (good .small) (valueOf (evaluate xs ρ (φ d))) (again d l ρ p .0), λ z m. wrong)
       by (is-call m d a _ _ _ l l′ e) again =
-          rw e (kept-apply1 (length xs) (omega (arith, good .few)) m xs (good .small) (runOf (evaluate xs ρ (φ a))) (λ z q. again a l′ ρ p .1 z (q .held)) (valueOf (evaluate xs ρ (φ d))) (valueOf (evaluate xs ρ (φ a))) (again d l ρ p .0) (again a l′ ρ p .0), λ z m. wrong)
+          rw e (
+            kept-apply1 (length xs) (omega (arith, good .few)) m xs (good .small) (runOf (evaluate xs ρ (φ a)))
+                (λ z q. again a l′ ρ p .1 z (q .held)) (valueOf (evaluate xs ρ (φ d))) (valueOf (evaluate xs ρ (φ a))) (again d l ρ p .0) (again a l′ ρ p .0),
+            λ z m. wrong,
+          )
 
   pub kept-entry : (i : ℕ) → i < n → (ρ : Environment) → Plain ρ → Keepable (length xs) (valueOf (evaluate xs ρ (φ i)))
   kept-entry i h ρ p = mutual-kept (suc i) i (omega arith) h ρ p .0

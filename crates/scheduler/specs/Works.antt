@@ -47,6 +47,7 @@ nameFor cells i c w = cond (eqb c functionCell) (keyAt cells i) (cond (eqb c del
 unfoldable pub otherFor : List ℕ → ℕ → ℕ → ℕ
 otherFor cells c w = cond (eqb c delayedCell) (slotName cells (slotB w)) 0
 
+-- the cells with entry i worked out to c
 abbrev pub kept : List ℕ → ℕ → ℕ → ℕ → List ℕ
 kept cells i c w = keptWith cells i c (nameFor cells i c w) (otherFor cells c w)
 

@@ -27,6 +27,7 @@ pub record Bound : Type 0 where
   pub nodes : List Node
   pub numbers : List ℕ
 
+-- 01: equal forms have one entry; a new one takes the next number
 unfoldable pub bindOne : Bound → Node → Bound
 bindOne b r =
     let n : Node = relink (b .numbers) r in

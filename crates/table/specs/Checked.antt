@@ -2,14 +2,10 @@
 use mathlib.Core.Bool.{Bool, _&&_}
 use mathlib.Core.List.{List}
 use Prim.Native.Nat.{ℕ}
-use lib.IntN.{ℤ}
-use Rattle.layout.specs.Memory.{Memory, Kept, nodeAt, entryAt, entriesFrom}
+use Rattle.layout.specs.Memory.{Kept, nodeAt, entryAt, entriesFrom}
 use Rattle.table.specs.WellFormed.{distinct, awaitsFew, settled, keptRight}
 use Rattle.table.specs.Right.{rightAt}
 use Rattle.layout.specs.Numbered.{allFrom, numbered}
-
-abbrev pub memory : List ℤ → List ℕ → List ℕ → List ℕ → Memory
-memory readings heads links cells = record { readings = readings; heads = heads; links = links; cells = cells }
 
 abbrev pub kept : ℕ → ℕ → ℕ → Kept
 kept value name other = record { value = value; name = name; other = other }

@@ -11,13 +11,13 @@ use lib.ListN.{getD}
 use Rattle.language.specs.Cases.{split}
 use Rattle.values.specs.Packing.{functionCell, delayedCell, isPacked}
 use Rattle.layout.specs.Links.{kindAt, valueAt, nameAt, otherAt}
-use Rattle.layout.specs.Memory.{Node, Entry, nodeAt, keptAt, entryAt, entriesFrom, nodesOf}
+use Rattle.layout.specs.Memory.{Node, Entry, nodeAt, keptAt, entryAt, entriesFrom, nodesOf, memory}
 use Rattle.layout.specs.Nodes.{worksKind, arity, listed, kids, isName}
 use Rattle.table.specs.WellFormed.{every, kindKnown, keyRight, arityRight, lower, distinct, awaitsFew, isDone, doneAt, allDone, settled, namesRight, keptRight, wellFormed}
 use Rattle.table.specs.Right.{nodeRight, rightAt}
 use Rattle.layout.specs.Numbered.{allFrom, numbered}
 use Rattle.layout.specs.Held.{shaped}
-use Rattle.table.specs.Checked.{memory, kept, keptOk, entriesRight}
+use Rattle.table.specs.Checked.{kept, keptOk, entriesRight}
 use Rattle.layout.specs.declared.nodes.Shape.{Shape}
 
 -- entries by number

@@ -7,6 +7,7 @@ use lib.Dec.{leb, ltb, eqb}
 use lib.ListN.{getD, set}
 use Rattle.layout.specs.Links.{kindAt, firstAt, secondAt, keyAt, isBelow}
 
+-- the first and the second
 abbrev pub slotA : ℕ → ℕ
 slotA w = w / 65536
 
@@ -43,6 +44,7 @@ withoutSlot cells key w =
 abbrev pub waitsOf : List ℕ → ℕ → ℕ → ℕ
 waitsOf waits link i = cond (isBelow link i) (getD waits (link - 1) 0) 0
 
+-- of entry i, by its kind: a variable awaits itself, a function what its body awaits but its own name
 unfoldable pub waitsAt : List ℕ → List ℕ → List ℕ → ℕ → ℕ
 waitsAt links cells waits i =
     cond (eqb (kindAt links i) 1) ((i + 1) * 65536)

@@ -70,6 +70,7 @@ awaitsFew ns = every (λ i (names : List ℕ). leb (length names) 2) 0 (awaitedA
 abbrev pub isDone : Entry → Bool
 isDone e = not (worksKind (e .node .kind)) || leb 1 (e .kept .value)
 
+-- entry i is, and all of a list of entries are
 unfoldable pub doneAt : List Entry → ℕ → Bool
 doneAt [] i = false
 doneAt (e ∷ es) zero = isDone e
@@ -93,9 +94,11 @@ namesRight k =
     (cond (isDelayedCell (k .value)) (nameless k || (isName (k .name) && (eqb (k .other) 0 || isName (k .other))))
     (nameless k))
 
+-- a kept value is that of a member or a function, and within its range
 unfoldable pub keptRight : ℕ → Entry → Bool
 keptRight readings e = namesRight (e .kept) && (eqb (e .kept .value) 0 || (worksKind (e .node .kind) && isPacked (e .kept .value) readings))
 
+-- 01, refusal 4: over 512 entries or 1,024 readings, or any of the above
 unfoldable pub wellFormed : Memory → Bool
 wellFormed m =
     leb (entryCount m) tableEntries

@@ -22,12 +22,12 @@ ghost use mathlib.Core.List.{List};
 ghost use Prim.Native.Nat.{_≤_};
 ghost use lib.IntN.{ℤ};
 ghost use Rattle.language.specs.Limits.{tableEntries};
-ghost use Rattle.layout.specs.Memory.{nodeAt, entriesFrom};
+ghost use Rattle.layout.specs.Memory.{nodeAt, entriesFrom, memory};
 ghost use Rattle.layout.specs.Nodes.{kids};
 ghost use Rattle.table.specs.WellFormed.{doneAt, allDone, namesRight, distinct, awaitsFew, wellFormed};
 ghost use Rattle.table.specs.Right.{rightAt};
 ghost use Rattle.layout.specs.Numbered.{numbered, allFrom};
-ghost use Rattle.table.specs.Checked.{memory, kept, keptOk, entriesRight};
+ghost use Rattle.table.specs.Checked.{kept, keptOk, entriesRight};
 
 // Whether entry j of n is worked out.
 fn is_done(links: &[u16], cells: &[u64], n: u16, j: u16) -> bool
