@@ -23,8 +23,8 @@ use Rattle.values.specs.PackingLaws.{unpack-number, unpack-window, unpack-delay
 use Rattle.values.specs.Keepable.{Inside}
 use Rattle.layout.specs.Links.{kindAt, keyAt, valueAt}
 use Rattle.evaluator.specs.Frames.{leafOf, startAt}
-use Rattle.scheduler.specs.declared.works.View.{View}
-use Rattle.scheduler.specs.Works.{Lent, Works, showOf}
+use Rattle.schedule.specs.declared.View.{View}
+use Rattle.schedule.specs.Works.{Lent, Works, showOf}
 use Rattle.interface.specs.declared.answers.Previewed.the-variants.{NotYet, Finished, Refused}
 use Rattle.interface.specs.Calls.{previewed, previewMemory, Part, windowIn, partOf, fetched}
 use Rattle.interface.specs.CallsLaws.{part-held, kept-right}

@@ -32,7 +32,7 @@ use Rattle.table.specs.AwaitsLaws.{few-at}
 use Rattle.table.specs.WaitsLaws.{apart, found}
 use Rattle.evaluator.specs.Frames.{startAt, startFrom}
 use Rattle.evaluator.specs.Applying.{graph, applyAt}
-use Rattle.scheduler.specs.Works.{needOf, chosen, nameFor, otherFor, kept, Work, workFrom, worked}
+use Rattle.schedule.specs.Works.{needOf, chosen, nameFor, otherFor, kept, Work, workFrom, worked}
 use Rattle.refine.specs.Packed.{Cell, Cells, set-cells, Right, apply-packed, leaf-packed, zeros, start-cells}
 use Rattle.refine.specs.Named.{names-right}
 use Rattle.refine.specs.Needed.{Flagged, needed-link}

@@ -21,7 +21,7 @@ use Rattle.formulas.specs.Formulas.{formulas}
 use Rattle.bridge.specs.Graphs.{nodes, graph-laws, kids-function, kids-ask, kids-call, among-first, among-second}
 use Rattle.layout.specs.Links.{firstAt, secondAt, isBelow}
 use Rattle.table.specs.NodeKinds.{Fine, aNumber, aVariable, anUnbound, theReadings, aFunction, anAsk, aCall, less-one}
-use Rattle.scheduler.specs.Works.{raised, needFrom, needOf}
+use Rattle.schedule.specs.Works.{raised, needFrom, needOf}
 use Rattle.demand.specs.Holds.{Ok}
 use Rattle.demand.specs.Bound.{among-by}
 

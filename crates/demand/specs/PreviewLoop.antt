@@ -26,7 +26,7 @@ use Rattle.layout.specs.Links.{entryCells, kindAt, keyAt, valueAt}
 use Rattle.layout.specs.LinksLaws.{kept-length as keep-length, kept-key as keep-key, kept-apart as keep-apart, kept-here as keep-here}
 use Rattle.table.specs.Waits.{slotA, slotB}
 use Rattle.evaluator.specs.Applying.{graph, applyAt}
-use Rattle.scheduler.specs.Works.{chosen, nameFor, otherFor, kept, workFrom}
+use Rattle.schedule.specs.Works.{chosen, nameFor, otherFor, kept, workFrom}
 use Rattle.refine.specs.Shows.{slotNames}
 use Rattle.refine.specs.Tables.{Good, Link, Sees, here, down, kept-entry}
 use Rattle.refine.specs.Meaning.{apply-right}

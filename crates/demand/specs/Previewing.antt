@@ -36,7 +36,7 @@ use Rattle.table.specs.Waits.{waitsFrom}
 use Rattle.table.specs.NodeKinds.{Fine, aNumber, aVariable, anUnbound, theReadings, aFunction, anAsk, aCall, build-ask, build-call}
 use Rattle.evaluator.specs.Frames.{startAt, startFrom}
 use Rattle.evaluator.specs.Applying.{graph, applyAt}
-use Rattle.scheduler.specs.Works.{Work, needOf, worked, showOf}
+use Rattle.schedule.specs.Works.{Work, needOf, worked, showOf}
 use Rattle.refine.specs.Tables.{Link}
 use Rattle.refine.specs.Waiting.{waits-names, waits-full, good}
 use Rattle.refine.specs.Counts.{chosenIn, work-count, work-left}

@@ -39,8 +39,8 @@ use Rattle.layout.specs.Links.{kindAt, keyAt}
 use Rattle.table.specs.Waits.{slotA, slotB}
 use Rattle.table.specs.NodeKinds.{Fine, aNumber, aVariable, anUnbound, theReadings, aFunction, anAsk, aCall}
 use Rattle.evaluator.specs.Frames.{leafOf, startAt, startFrom}
-use Rattle.scheduler.specs.declared.works.View.{View}
-use Rattle.scheduler.specs.Works.{nameFor, otherFor, view, showOf}
+use Rattle.schedule.specs.declared.View.{View}
+use Rattle.schedule.specs.Works.{nameFor, otherFor, view, showOf}
 use Rattle.refine.specs.Shows.{slotNames, kept-shows}
 use Rattle.refine.specs.Views.{viewOf}
 use Rattle.interface.specs.Answers.{shownOf}

@@ -17,7 +17,7 @@ use Rattle.grammar.specs.Machine.{readText}
 use Rattle.model.specs.Model.{refused, opened, edited, notYet, finished}
 use Rattle.layout.specs.Memory.{Memory, fits}
 use Rattle.table.specs.WellFormed.{wellFormed}
-use Rattle.scheduler.specs.declared.works.View.{View}
+use Rattle.schedule.specs.declared.View.{View}
 use Rattle.records.specs.Records.{recordsOf}
 use Rattle.formulas.specs.Formulas.{parsed}
 use Rattle.bridge.specs.FormulaLaws.{formula-laws}

@@ -7,7 +7,7 @@ use interface::answers::Edited;
 use interface::answers::Opened;
 use interface::answers::PreviewAnswer;
 use interface::answers::Previewed;
-use scheduler::works::View;
+use schedule::View;
 ghost use mathlib.Core.Path.{_≡_};
 ghost use Rattle.layout.specs.Memory.{memory};
 ghost use Rattle.interface.specs.declared.answers.Previewed.the-variants.{Finished};

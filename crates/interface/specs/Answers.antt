@@ -8,7 +8,7 @@ use lib.ListN.{take}
 use Rattle.meaning.specs.Evaluation.{Shown, aNumber, aWindow, aFunction, aDelay, aReason}
 use Rattle.model.specs.Model.{Answer, refused, opened, edited, notYet, finished}
 use Rattle.formulas.specs.Formulas.{formulas}
-use Rattle.scheduler.specs.declared.works.View.{View}
+use Rattle.schedule.specs.declared.View.{View}
 use Rattle.interface.specs.declared.answers.Opened.{Opened}
 use Rattle.interface.specs.declared.answers.Opened.the-variants as O
 use Rattle.interface.specs.declared.answers.Edited.{Edited}

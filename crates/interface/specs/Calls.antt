@@ -19,7 +19,7 @@ use Rattle.layout.specs.Memory.{Memory, fits, entryCount, readingCount, recordi
 use Rattle.table.specs.WellFormed.{doneAt, wellFormed}
 use Rattle.table.specs.Bind.{Bound, bindAll, appendAll}
 use Rattle.evaluator.specs.Frames.{startAt}
-use Rattle.scheduler.specs.Works.{Work, worked, showOf}
+use Rattle.schedule.specs.Works.{Work, worked, showOf}
 use Rattle.interface.specs.declared.answers.Previewed.{Previewed}
 use Rattle.interface.specs.declared.answers.Previewed.the-variants.{NotYet, Finished, Refused}
 use Rattle.interface.specs.Answers.{Reply, previewReply}

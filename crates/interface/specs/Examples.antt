@@ -13,7 +13,7 @@ use Rattle.values.specs.Packing.{delayedCell, isPacked}
 use Rattle.meaning.specs.Evaluation.{hasName, joined, without}
 use Rattle.model.specs.Model.{refused}
 use Rattle.layout.specs.Memory.{Memory, fits, nodeAt, keptAt, entriesFrom}
-use Rattle.layout.specs.Nodes.{memberOfKind, arity, kids, sameNode, wordNumber, isName}
+use Rattle.layout.specs.Nodes.{kindCount, memberOfKind, arity, kids, sameNode, wordNumber, isName}
 use Rattle.table.specs.WellFormed.{every, keyRight, arityRight, hasNode, distinct, awaitedBy, awaitedAfter, doneAt, allDone, namesRight, keptRight, wellFormed}
 use Rattle.interface.specs.Calls.{editAnswer, previewed, previewAnswer}
 
@@ -50,7 +50,7 @@ caches =
     ∷ memory 513 [] []
     ∷ record { readings = replicate 1024 (pos 0); heads = 0 ∷ 1025 ∷ []; links = replicate 1536 0; cells = replicate 2048 0 }
     -- an unknown kind; a name that is none; a wrong number of dependencies; equal entries twice
-    ∷ memory 1 (21 ∷ 0 ∷ 0 ∷ []) []
+    ∷ memory 1 (kindCount ∷ 0 ∷ 0 ∷ []) []
     ∷ memory 1 (1 ∷ 0 ∷ 0 ∷ []) (48 ∷ [])
     ∷ memory 2 (3 ∷ 0 ∷ 0 ∷ 13 ∷ 1 ∷ 1 ∷ []) []
     ∷ memory 2 (3 ∷ 0 ∷ 0 ∷ 3 ∷ 0 ∷ 0 ∷ []) []

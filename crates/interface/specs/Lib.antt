@@ -3,6 +3,7 @@ pub mod Calls
 pub mod CallsLaws
 pub mod Effects
 pub mod Examples
+pub mod CallExamples
 pub mod Acceptance
 pub mod Outcomes
 pub mod AcceptanceLaws

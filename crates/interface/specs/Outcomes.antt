@@ -16,8 +16,8 @@ use Rattle.model.specs.Model.{refused, opened, edited}
 use Rattle.layout.specs.Memory.{Memory, fits, entryCount, readingCount}
 use Rattle.table.specs.WellFormed.{wellFormed}
 use Rattle.records.specs.Records.{recordsOf}
-use Rattle.scheduler.specs.declared.works.View.{View}
-use Rattle.scheduler.specs.Works.{showOf}
+use Rattle.schedule.specs.declared.View.{View}
+use Rattle.schedule.specs.Works.{showOf}
 use Rattle.interface.specs.declared.answers.Previewed.the-variants.{NotYet, Finished, Refused}
 use Rattle.interface.specs.Answers.{Reply}
 use Rattle.interface.specs.Acceptance.{IsEdited, Ready}

@@ -1,5 +1,5 @@
 // What the calls answer. Refusals have 01's numbers; an edit's has a byte place too.
-use scheduler::works::View;
+use schedule::View;
 
 // Done, or refused.
 pub enum Opened {

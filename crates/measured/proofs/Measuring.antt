@@ -17,7 +17,7 @@ use Rattle.layout.specs.Numbered.{numbered}
 use Rattle.layout.specs.Held.{heldAt}
 use Rattle.binder.specs.Records.{BoundAll}
 use Rattle.table.specs.ChainLaws.{length-numbered}
-use Rattle.scheduler.specs.Works.{workOf, Lent, Works}
+use Rattle.schedule.specs.Works.{workOf, Lent, Works}
 use Rattle.reader.specs.declared.answer.Read.{Read}
 use Rattle.reader.specs.Results.{ReadsInto}
 use Rattle.measured.specs.Measures.{readNumber, ReadInto, canBind, boundAll, boundNumber, bindNumber, packedWork, canWork, workMeasured, Worked}

@@ -12,7 +12,7 @@ use Rattle.table.specs.WellFormed.{distinct}
 use Rattle.layout.specs.Numbered.{numbered}
 use Rattle.table.specs.Bind.{Bound, bindAll}
 use Rattle.binder.specs.Records.{recordAt, bound}
-use Rattle.scheduler.specs.Works.{Work, workOf, worked}
+use Rattle.schedule.specs.Works.{Work, workOf, worked}
 use Rattle.descent.specs.Descent.{readInto}
 use Rattle.reader.specs.Results.{answerOf, noBinders}
 use Rattle.reader.specs.declared.answer.Read.{Read}

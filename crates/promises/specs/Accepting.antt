@@ -24,7 +24,7 @@ use Rattle.table.specs.WellFormed.{wellFormed}
 use Rattle.binder.specs.AppendedLaws.{well-parts, well-from, well-empty}
 use Rattle.formulas.specs.Formulas.{IsReading, formulas}
 use Rattle.records.specs.Records.{recordsOf}
-use Rattle.scheduler.specs.Works.{Work}
+use Rattle.schedule.specs.Works.{Work}
 use Rattle.interface.specs.Acceptance.{IsEdited, Ready}
 use Rattle.interface.specs.AcceptanceLaws as Acceptance
 use Rattle.interface.specs.Calls.{openAnswer, openMemory, openedMemory, boundTo, editAnswer, editMemory, workOn, workedMemory, previewedAs, previewed, previewMemory}

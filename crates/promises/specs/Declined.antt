@@ -15,7 +15,7 @@ use Rattle.layout.specs.Memory.{Memory, fits, entryCount}
 use Rattle.table.specs.WellFormed.{wellFormed}
 use Rattle.records.specs.Records.{recordsOf}
 use Rattle.formulas.specs.Formulas.{formulas}
-use Rattle.scheduler.specs.Works.{Work}
+use Rattle.schedule.specs.Works.{Work}
 use Rattle.interface.specs.declared.answers.Previewed.the-variants.{NotYet, Refused}
 use Rattle.interface.specs.Answers.{Reply}
 use Rattle.interface.specs.Calls.{tooMany, boundTo, readAnswer, readMemory, openAnswer, openMemory, editAnswer, editMemory, editPlaces, workOn, previewedAs, previewed, previewMemory}

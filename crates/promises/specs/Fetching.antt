@@ -20,8 +20,8 @@ use Rattle.layout.specs.Memory.{Memory, fits, entryCount, readingCount, recordi
 use Rattle.table.specs.WellFormed.{doneAt, wellFormed}
 use Rattle.layout.specs.Links.{kindAt, keyAt, nameAt, otherAt}
 use Rattle.evaluator.specs.Frames.{startAt}
-use Rattle.scheduler.specs.declared.works.View.{View}
-use Rattle.scheduler.specs.Works.{view, showOf}
+use Rattle.schedule.specs.declared.View.{View}
+use Rattle.schedule.specs.Works.{view, showOf}
 use Rattle.interface.specs.declared.answers.Previewed.the-variants.{Finished}
 use Rattle.interface.specs.Answers.{shownOf}
 use Rattle.interface.specs.Calls.{workOn, workedMemory, previewed, previewMemory, windowIn, partOf, fetched}

@@ -10,8 +10,8 @@ use Rattle.model.specs.Lists.{All}
 use Rattle.formulas.specs.Formulas.{IsReading}
 use Rattle.layout.specs.Memory.{Memory, fits, entryCount, readingCount, recordingOf}
 use Rattle.table.specs.WellFormed.{wellFormed}
-use Rattle.scheduler.specs.declared.works.View.{View}
-use Rattle.scheduler.specs.Works.{showOf}
+use Rattle.schedule.specs.declared.View.{View}
+use Rattle.schedule.specs.Works.{showOf}
 use Rattle.interface.specs.declared.answers.Previewed.the-variants.{Finished}
 use Rattle.interface.specs.Calls.{workOn, workedMemory, previewed, previewMemory}
 use Rattle.promises.specs.Accepting.{preview-fits, preview-well}

@@ -17,7 +17,7 @@ use Rattle.layout.specs.Links.{tableLinks, tableCells, kindIndex, firstIndex, s
 use Rattle.layout.specs.Memory.{Memory, Node, fits, entryCount}
 use Rattle.table.specs.WellFormed.{wellFormed}
 use Rattle.table.specs.Bind.{Bound, append, appendAll}
-use Rattle.scheduler.specs.Works.{chosen, nameFor, otherFor, kept, workFrom, worked}
+use Rattle.schedule.specs.Works.{chosen, nameFor, otherFor, kept, workFrom, worked}
 use Rattle.records.specs.Records.{recordsOf}
 use Rattle.interface.specs.Calls.{openedMemory, openMemory, boundTo, tooMany, editedMemory, readMemory, editMemory, workOn, workedMemory, previewMemory}
 use Rattle.demand.specs.Appended.{lengths}

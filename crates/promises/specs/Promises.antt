@@ -42,8 +42,8 @@ use Rattle.bridge.specs.FormulaLaws.{parts-placed, formula-laws}
 use Rattle.bridge.specs.LetLaws.{text-lets, text-parts}
 use Rattle.layout.specs.Memory.{Memory, fits, entryCount, readingCount, recordingOf, entriesOf}
 use Rattle.table.specs.WellFormed.{doneAt, wellFormed}
-use Rattle.scheduler.specs.declared.works.View.{View}
-use Rattle.scheduler.specs.Works.{showOf}
+use Rattle.schedule.specs.declared.View.{View}
+use Rattle.schedule.specs.Works.{showOf}
 use Rattle.refine.specs.Views.{viewOf}
 use Rattle.interface.specs.declared.answers.Opened.{Opened}
 use Rattle.interface.specs.declared.answers.Edited.{Edited}

@@ -16,10 +16,10 @@ use Rattle.model.specs.Lists.{All}
 use Rattle.layout.specs.Memory.{Memory, Kept, entryCount, readingCount, recordingOf, keptAt}
 use Rattle.layout.specs.Nodes.{isName}
 use Rattle.table.specs.WellFormed.{nameless, namesRight, wellFormed}
-use Rattle.scheduler.specs.declared.works.View.{View}
+use Rattle.schedule.specs.declared.View.{View}
 use Rattle.layout.specs.Links.{kindAt, keyAt, nameAt, otherAt}
 use Rattle.evaluator.specs.Frames.{leafOf, startAt}
-use Rattle.scheduler.specs.Works.{view, showOf}
+use Rattle.schedule.specs.Works.{view, showOf}
 use Rattle.refine.specs.Views.{viewOf}
 use Rattle.formulas.specs.Formulas.{IsReading}
 use Rattle.interface.specs.declared.answers.Previewed.the-variants.{Finished}

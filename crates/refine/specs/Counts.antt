@@ -9,7 +9,7 @@ use lib.Dec.{ltb}
 use lib.ListN.{set}
 use lib.Seq.{getD-set-other}
 use Rattle.language.specs.Cases.{split}
-use Rattle.scheduler.specs.Works.{chosen, workFrom}
+use Rattle.schedule.specs.Works.{chosen, workFrom}
 
 -- the entries to be worked out, of k from i on
 unfoldable pub chosenIn : List ℕ → List ℕ → List ℕ → ℕ → ℕ → ℕ

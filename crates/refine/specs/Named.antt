@@ -14,7 +14,7 @@ use Rattle.layout.specs.Links.{kindAt, keyAt}
 use Rattle.table.specs.NodeKinds.{less-one}
 use Rattle.table.specs.Waits.{slotA, slotB}
 use Rattle.table.specs.WaitsLaws.{Variable, Holds, none, one, two, positive}
-use Rattle.scheduler.specs.Works.{slotName, nameFor, otherFor}
+use Rattle.schedule.specs.Works.{slotName, nameFor, otherFor}
 
 module _ (links now : List ℕ) (i : ℕ) (names : (j : ℕ) → j ≤ i → kindAt links j ≡ 1 → isName (keyAt now j) ≡ true) where
   variable-name : {a : ℕ} → Variable links i a → isName (slotName now (suc a)) ≡ true

@@ -13,7 +13,7 @@ use lib.ListN.{length, getD, set, replicate, length-set, length-replicate}
 use lib.Seq.{getD-set-same, getD-set-other}
 use Rattle.language.specs.Cases.{split}
 use Rattle.layout.specs.Links.{firstAt, secondAt, isBelow}
-use Rattle.scheduler.specs.Works.{raised, needFrom, needOf}
+use Rattle.schedule.specs.Works.{raised, needFrom, needOf}
 use Rattle.refine.specs.Free.{decEq}
 
 -- entry j is flagged

@@ -20,7 +20,7 @@ use Rattle.meaning.specs.Forms.{Form, nameOf}
 use Rattle.meaning.specs.Evaluation.{awaited, shownAs}
 use Rattle.layout.specs.Links.{keyAt}
 use Rattle.table.specs.Waits.{slotA, slotB}
-use Rattle.scheduler.specs.Works.{slotName, nameFor, otherFor, view}
+use Rattle.schedule.specs.Works.{slotName, nameFor, otherFor, view}
 use Rattle.refine.specs.Views.{viewOf}
 
 abbrev nameAt : List ℕ → ℕ → ℕ

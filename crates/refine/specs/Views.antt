@@ -2,7 +2,7 @@
 use lib.IntN.{pos}
 use lib.ListN.{getD}
 use Rattle.meaning.specs.Evaluation.{Shown, aNumber, aWindow, aFunction, aDelay, aReason}
-use Rattle.scheduler.specs.declared.works.View.{View}
+use Rattle.schedule.specs.declared.View.{View}
 
 -- kind 1 a number, 2 a window, 3 a function, 4 a delay, 5 a reason; a field that has no value is 0
 unfoldable pub viewOf : Shown → View

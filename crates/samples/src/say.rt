@@ -3,7 +3,7 @@ use interface::answers::Edited;
 use interface::answers::Opened;
 use interface::answers::Previewed;
 use libc::STDOUT_FILENO;
-use scheduler::works::View;
+use schedule::View;
 
 // The entry of a text that is declined: a number that no entry has.
 pub const NO_ENTRY: u32 = 4294967295;

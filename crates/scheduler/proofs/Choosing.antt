@@ -22,7 +22,7 @@ use Rattle.layout.specs.Nodes.{variableKind, functionKind}
 use Rattle.table.specs.Waits.{waitsFrom}
 use Rattle.evaluator.specs.Frames.{startAt, startFrom}
 use Rattle.evaluator.specs.Applying.{graph, applyAt, Applies}
-use Rattle.scheduler.specs.Works.{raised, needFrom, needOf, chosen, slotName, nameFor, otherFor, kept, workOf, workFrom, worked, Works, view, showOf}
+use Rattle.schedule.specs.Works.{raised, needFrom, needOf, chosen, slotName, nameFor, otherFor, kept, workOf, workFrom, worked, Works, view, showOf}
 
 module _ (j link : ℕ) (flags : List ℕ) (r : Bool) (e : r ≡ isBelow link j) where
   pub raise-yes : r ≡ true → set flags (link - 1) 1 ≡ raised j link flags

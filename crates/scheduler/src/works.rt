@@ -12,6 +12,7 @@ use layout::cells::other_of;
 use layout::cells::put_kept;
 use layout::cells::second_of;
 use layout::nodes::Shape;
+use schedule::View;
 use table::waits::fill_waits;
 use values::packing::Packed;
 use values::packing::unpack;
@@ -21,7 +22,7 @@ ghost use Prim.Native.Nat.{_<_, _≤_};
 ghost use lib.ListN.{length};
 ghost use Rattle.language.specs.Limits.{tableEntries};
 ghost use Rattle.layout.specs.Links.{tableCells};
-ghost use Rattle.scheduler.specs.Works.{raised, needOf, chosen as chosenOf, slotName, nameFor, otherFor, kept as keptOf, Lent, Works, showOf};
+ghost use Rattle.schedule.specs.Works.{raised, needOf, chosen as chosenOf, slotName, nameFor, otherFor, kept as keptOf, Lent, Works, showOf};
 
 // Flags a dependency of entry j.
 fn raise(j: usize, link: usize, flags: &mut [u8; Table::ENTRIES])
@@ -146,16 +147,6 @@ pub fn work(readings: &[i32], links: &[u16], cells: &mut [u64], n: usize, allowa
         }
     }
     Worked { count, left: false }
-}
-
-// What an entry shows: kind 1 number, 2 window, 3 function, 4 delayed, 5 missing; first is the number, the start or the reason, second the
-// length; then the names of a function or of a delay.
-pub struct View {
-    pub kind: u32,
-    pub first: i32,
-    pub second: u32,
-    pub name: u64,
-    pub other: u64,
 }
 
 // What entry n shows, from its kept cells, or of a leaf from the entry itself; the recording has so many readings.

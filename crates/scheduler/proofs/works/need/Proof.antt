@@ -2,7 +2,7 @@
 use borrow.Author.Needs.{needs}
 use Prim.Native.Nat.{_+_, _≤_}
 use mathlib.Core.Path.{_≡_}
-use Rattle.scheduler.specs.Works.{needFrom, needOf}
+use Rattle.schedule.specs.Works.{needFrom, needOf}
 use Rattle.scheduler.proofs.Choosing.{need-no, need-yes, need-end, need-begin}
 use Rattle.scheduler.proofs.works.need.Statement.{statement}
 use Rattle.scheduler.proofs.works.need.Tie as tie

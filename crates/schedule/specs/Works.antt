@@ -11,7 +11,7 @@ use Rattle.language.specs.Limits.{tableEntries, tableReadings}
 use Rattle.values.specs.Packing.{functionCell, delayedCell, unpackOf}
 use Rattle.values.specs.Shown.{shownNumbers}
 use Rattle.values.specs.declared.shown.Shown.{Shown}
-use Rattle.scheduler.specs.declared.works.View.{View}
+use Rattle.schedule.specs.declared.View.{View}
 use Rattle.layout.specs.Links.{tableCells, kindAt, firstAt, secondAt, keyAt, nameAt, otherAt, keptWith, isBelow}
 use Rattle.layout.specs.Nodes.{variableKind, functionKind, worksKind}
 use Rattle.table.specs.Waits.{slotA, slotB, waitsFrom}
