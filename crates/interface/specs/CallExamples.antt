@@ -87,7 +87,7 @@ outcome m n a =
 abbrev pub expected : Previewed → List ℕ → List ℤ → Outcome
 expected p ks rs = record { answer = p; marked = ks; fetched = rs; opened = (0 ∷ 2 ∷ [], pos 7 ∷ pos 8 ∷ pos 160 ∷ []) }
 
--- of the take with an allowance of 1 and of 9, and of the sum, which is over the recording alone
+-- of the take with an allowance of 1 and of 9; of the sum, which is over the recording alone; of the take with none; of an entry that is not held
 pub outcomes-hold :
     outcome cache 4 1 ∷ outcome cache 4 9 ∷ outcome cache 5 9 ∷ outcome cache 4 0 ∷ outcome cache 6 9 ∷ []
     ≡ expected (NotYet 1) (window 1 4 ∷ 0 ∷ 0 ∷ []) []

@@ -15,7 +15,7 @@ unfoldable pub stretchesFrom : List ℤ → ℕ → ℕ → ℕ → List (List �
 stretchesFrom xs w i zero = []
 stretchesFrom xs w i (suc k) = take w (drop i xs) ∷ stretchesFrom xs w (suc i) k
 
--- all of them: the first begins at 0, the last w before the end
+-- all of them: the first begins at 0, the last w before the end; none where w is above the length
 abbrev pub stretches : List ℤ → ℕ → List (List ℤ)
 stretches xs w = stretchesFrom xs w 0 (suc (length xs) - w)
 
@@ -38,10 +38,10 @@ abbrev pub ofWidth : ℤ → ℕ → (ℕ → Value) → Value
 ofWidth (negsuc n) l f = Missing outsideWindow
 ofWidth (pos w) l f = cond (leb 1 w && leb w l) (f w) (Missing outsideWindow)
 
--- the greatest sum, and it alone, may be beyond signed 32 bits
+-- the greatest sum; it alone is tested for signed 32 bits, whatever the others are
 unfoldable pub bestSum : List ℤ → ℤ → Value
 bestSum xs n = ofWidth n (length xs) (λ w. ofGreatest ranged (sums xs w))
 
--- the index within the readings where the first stretch of the greatest sum begins
+-- the index within the readings where the first stretch of the greatest sum begins; no sum is tested
 unfoldable pub bestAt : List ℤ → ℤ → Value
 bestAt xs n = ofWidth n (length xs) (λ w. ofGreatest (λ z. Number (pos (firstAt z (sums xs w)))) (sums xs w))

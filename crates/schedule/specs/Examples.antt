@@ -90,23 +90,49 @@ window s l = (8589934592 + 65536 * s + l, 0, 0)
 abbrev pub members : ℕ → Bool → List Kept → Done
 members n l ks = record { count = n; left = l; members = ks; functions = none ∷ none ∷ none ∷ [] }
 
--- the take with an allowance of 0, of 1, of 1 once more, and of 9; the sum, and what is added to it; the function, with what it and the parts of
--- its body show
-pub works-done :
-    map done
-    (workOn fresh 4 0 ∷ workOn fresh 4 1 ∷ workOn (workOn fresh 4 1 .cells) 4 1 ∷ workOn fresh 4 9 ∷ workOn fresh 5 9 ∷ workOn fresh 6 9 ∷ workOn fresh 11 9 ∷ [])
-    ≡ members 0 true (none ∷ none ∷ none ∷ none ∷ [])
-    ∷ members 1 true (window 1 4 ∷ none ∷ none ∷ none ∷ [])
-    ∷ members 1 false (window 1 4 ∷ window 1 2 ∷ none ∷ none ∷ [])
-    ∷ members 2 false (window 1 4 ∷ window 1 2 ∷ none ∷ none ∷ [])
-    ∷ members 1 false (none ∷ none ∷ number 755 ∷ none ∷ [])
-    ∷ members 2 false (none ∷ none ∷ number 755 ∷ number 756 ∷ [])
-    ∷ record {
-      count = 3;
-      left = false;
-      members = none ∷ none ∷ none ∷ none ∷ [];
-      functions = (delayedCell, 97, 98) ∷ (delayedCell, 97, 0) ∷ (functionCell, 97, 0) ∷ [];
-    }
-    ∷ []
+-- ---- each work by itself, so that a wrong one is seen in what is computed
+
+-- the take with an allowance of 0
+pub idle : done (workOn fresh 4 0) ≡ members 0 true (none ∷ none ∷ none ∷ none ∷ [])
 unfolding workOn
-works-done = refl
+idle = refl
+
+-- of 1: the lowest is worked out
+pub begun : done (workOn fresh 4 1) ≡ members 1 true (window 1 4 ∷ none ∷ none ∷ none ∷ [])
+unfolding workOn
+begun = refl
+
+-- and of 1 once more: the other
+pub gone-on : done (workOn (workOn fresh 4 1 .cells) 4 1) ≡ members 1 false (window 1 4 ∷ window 1 2 ∷ none ∷ none ∷ [])
+unfolding workOn
+gone-on = refl
+
+-- of 9: both, and nothing that is not below
+pub at-once : done (workOn fresh 4 9) ≡ members 2 false (window 1 4 ∷ window 1 2 ∷ none ∷ none ∷ [])
+unfolding workOn
+at-once = refl
+
+-- the sum: nothing lower that is not below it
+pub summed : done (workOn fresh 5 9) ≡ members 1 false (none ∷ none ∷ number 755 ∷ none ∷ [])
+unfolding workOn
+summed = refl
+
+-- what is added to it: its argument first
+pub added : done (workOn fresh 6 9) ≡ members 2 false (none ∷ none ∷ number 755 ∷ number 756 ∷ [])
+unfolding workOn
+added = refl
+
+-- a part that waits for two variables keeps both names
+pub names-shown : keptOf (workOn fresh 9 9 .cells) 9 ≡ (delayedCell, 97, 98)
+unfolding workOn
+names-shown = refl
+
+-- the function, with the names that it and the parts of its body show
+pub functions-named : done (workOn fresh 11 9) ≡ record {
+  count = 3;
+  left = false;
+  members = none ∷ none ∷ none ∷ none ∷ [];
+  functions = (delayedCell, 97, 98) ∷ (delayedCell, 97, 0) ∷ (functionCell, 97, 0) ∷ [];
+}
+unfolding workOn
+functions-named = refl

@@ -31,7 +31,7 @@ unfoldable pub bestFrom : Best → ℕ → List ℤ → Best
 bestFrom b i [] = b
 bestFrom b i (z ∷ zs) = bestFrom (better b z i) (suc i) zs
 
--- the stretches that begin after i
+-- the sums of the stretches that begin after i
 unfoldable pub sumsAfter : List ℤ → ℕ → ℕ → List ℤ
 sumsAfter xs w i = map total (stretchesFrom xs w (suc i) (length xs - w - i))
 
