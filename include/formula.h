@@ -76,7 +76,10 @@ enum formula_refusal {
     FORMULA_REFUSAL_NO_SUCH_ENTRY = 14      /* preview: the cache has no entry of this number */
 };
 
-/* What an entry shows. */
+/*
+ * What an entry shows. A quotient, which div gives, is the greatest whole number not above it: -7.div(2) is -4,
+ * where -7 / 2 is -3 in C.
+ */
 enum formula_kind {
     FORMULA_KIND_NUMBER = 1,   /* first: the number */
     FORMULA_KIND_WINDOW = 2,   /* first: the start, counted in the recording; second: the length */

@@ -61,7 +61,7 @@ starred =
       worked = 5;
       shown = aNumber (pos 10);
     } ∷ [])
-    ∷ (record { text = bytes "-7.div(2)"; whole = 2; parts = 3; new = 3; places = 0 ∷ 2 ∷ 1 ∷ []; worked = 1; shown = aNumber (negsuc 2) } ∷ [])
+    ∷ (record { text = bytes "-7.div(2)"; whole = 2; parts = 3; new = 3; places = 0 ∷ 2 ∷ 1 ∷ []; worked = 1; shown = aNumber (negsuc 3) } ∷ [])
     ∷ (record { text = bytes "-2147483648.div(-1)"; whole = 2; parts = 3; new = 3; places = 0 ∷ 2 ∷ 1 ∷ []; worked = 1; shown = aReason 4 } ∷ [])
     ∷ (record { text = bytes "let u = 1.div(0) in 6"; whole = 3; parts = 5; new = 4; places = 3 ∷ 0 ∷ 2 ∷ 1 ∷ 3 ∷ []; worked = 0; shown = aNumber (pos 6) } ∷ [])
     ∷ (record { text = bytes "let y = b in \\b -> y"; whole = 1; parts = 4; new = 2; places = 1 ∷ 0 ∷ 1 ∷ 0 ∷ []; worked = 1; shown = aReason 1 } ∷ [])
@@ -84,6 +84,19 @@ hiding =
 pub hiding-holds : map (heard (start formulas recording)) hiding ≡ map expected hiding
 unfolding heard expected run
 hiding-holds = refl
+
+-- 02, T-02: division goes down, whatever the signs
+abbrev pub divisions : List (List Sample)
+divisions =
+    (record { text = bytes "7.div(-2)"; whole = 2; parts = 3; new = 3; places = 0 ∷ 2 ∷ 1 ∷ []; worked = 1; shown = aNumber (negsuc 3) } ∷ [])
+    ∷ (record { text = bytes "-7.div(-2)"; whole = 2; parts = 3; new = 3; places = 0 ∷ 2 ∷ 1 ∷ []; worked = 1; shown = aNumber (pos 3) } ∷ [])
+    ∷ (record { text = bytes "-6.div(3)"; whole = 2; parts = 3; new = 3; places = 0 ∷ 2 ∷ 1 ∷ []; worked = 1; shown = aNumber (negsuc 1) } ∷ [])
+    ∷ (record { text = bytes "7.div(0)"; whole = 2; parts = 3; new = 3; places = 0 ∷ 2 ∷ 1 ∷ []; worked = 1; shown = aReason 3 } ∷ [])
+    ∷ []
+
+pub divisions-hold : map (heard (start formulas recording)) divisions ≡ map expected divisions
+unfolding heard expected run
+divisions-hold = refl
 
 -- 02, T-01: the best stretch of a window, its sum and where it begins
 abbrev pub stretches : List (List Sample)

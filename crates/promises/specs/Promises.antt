@@ -6,7 +6,7 @@
 --      (Accepting).
 --   2. A text is read exactly if a tree of the grammar spells its tokens and keeps the limits, and is refused exactly where 01 says; an edit is
 --      declined for its text exactly if that is too long or is not read. What a finished preview of a part shows is what evaluation gives for
---      its let-free form, and what is delayed shows the names of Figure 5 (Awaiting).
+--      its let-free form, and what is delayed shows the names of Figure 5 (Awaiting). Division goes down (rules' NumbersLaws).
 --   3. Over every list of calls after an opening the engine answers as the reference model does, and ends holding what it holds (model's
 --      Demand), and so over every run of a program in C (Boundary).
 use mathlib.Core.Path.{_≡_, sym, ap}
@@ -14,7 +14,7 @@ use mathlib.Core.Bool.{true, false, _&&_}
 use mathlib.Core.Logic.{_↔_, _⊎_}
 use mathlib.Core.List.{List, [], map}
 use Prim.Native.Nat.{ℕ, _+_, _≤_, _<_}
-use lib.IntN.{ℤ}
+use lib.IntN.{ℤ, pos, _+ℤ_}
 use lib.ListN.{length}
 use Rattle.language.specs.Limits.{textParts, tableReadings}
 use Rattle.grammar.specs.Grammar.{Expression, Spells}
@@ -29,7 +29,12 @@ use Rattle.model.specs.Engine.{Sent, told}
 use Rattle.model.specs.Demand.{Demand}
 use Rattle.model.specs.DemandLaws.{demand}
 use Rattle.formulas.specs.Formulas.{IsReading, formulas}
-use Rattle.rules.specs.declared.Value.the-variants.{Number, Function}
+use Rattle.members.specs.declared.Member.the-variants.{Div}
+use Rattle.rules.specs.declared.Value.the-variants.{Number, Function, Missing}
+use Rattle.rules.specs.Values.{ranged, divisionByZero}
+use Rattle.rules.specs.Numbers.{NotAbove, Above, GreatestNotAbove, quotient}
+use Rattle.rules.specs.NumbersLaws as Division
+use Rattle.rules.specs.Rules.{onNumbers}
 use Rattle.meaning.specs.Forms.{Form, function, same, IsDependency, dependency, AtOrBelow, within}
 use Rattle.meaning.specs.FormsLaws as Forms
 use Rattle.rules.specs.Apply.{isDelayed}
@@ -200,6 +205,22 @@ dependency-exactly = Forms.dependency-exactly
 
 pub within-exactly : (f g : Form) → (within f g ≡ true) ↔ AtOrBelow f g
 within-exactly = Forms.within-exactly
+
+-- 02, T-02: division goes down. By zero it is reason 3. Otherwise it is the greatest whole number not above the quotient, and reason 4 where
+-- that is beyond signed 32 bits.
+pub division-by-zero : (a : ℤ) → onNumbers Div a (pos 0) ≡ Missing divisionByZero
+division-by-zero = Division.by-zero
+
+pub division-goes-down : (a b q : ℤ) → ¬ (b ≡ pos 0) → GreatestNotAbove a b q → onNumbers Div a b ≡ ranged q
+division-goes-down = Division.goes-down
+
+-- There is just one such number, the one that is computed, and a lies from q times b up to, and without, q + 1 times b; the other way round
+-- where b is negative.
+pub quotient-exactly : (a b : ℤ) → ¬ (b ≡ pos 0) → (q : ℤ) → (quotient a b ≡ q) ↔ GreatestNotAbove a b q
+quotient-exactly = Division.quotient-exactly
+
+pub quotient-between : (a b : ℤ) → ¬ (b ≡ pos 0) → (q : ℤ) → (quotient a b ≡ q) ↔ (NotAbove a b q × Above a b (q +ℤ pos 1))
+quotient-between = Division.quotient-between
 
 -- A run of a function on a reading puts the number for its variable in the let-free body.
 pub run-puts : (xs : List ℤ) (ρ : Environment) (x : ℕ) (b : Form) (z : ℤ) → valueOf (evaluate xs ρ (function x b)) ≡ Function

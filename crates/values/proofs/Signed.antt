@@ -12,8 +12,7 @@ use mir.Syntax.{Width, w32, w64}
 use mir.Val.{SFits, toZ, ofZ, hbits}
 use mir.Facts.{sfits-widen, toZ-ofZ}
 use mir.ValLaws.{pow-bits}
-use Rattle.rules.specs.Numbers.{quotient}
-use Rattle.values.specs.Ranges.{sum-range, difference-range, product-range, quotient-range}
+use Rattle.values.specs.Ranges.{sum-range, difference-range, product-range}
 
 -- ---- casts between signed widths
 
@@ -55,9 +54,6 @@ module _ {a b : ℤ} (fa : SFits w32 a) (fb : SFits w32 b) where
 
   pub product-64 : SFits w64 (a *ℤ b)
   product-64 = record { sfits = lt-of-le-of-lt (product-range 31 a b (fa .sfits) (fb .sfits)) (lit< tt) }
-
-  pub quotient-64 : SFits w64 (quotient a b)
-  quotient-64 = record { sfits = lt-of-le-of-lt (quotient-range 31 a b (fa .sfits) (fb .sfits)) (lit< tt) }
 
 -- ---- tests of two signed locals
 

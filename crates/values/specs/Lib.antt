@@ -1,5 +1,6 @@
 pub mod Packing
 pub mod Ranges
+pub mod Rounding
 pub mod Order
 pub mod WindowLaws
 pub mod Sliding

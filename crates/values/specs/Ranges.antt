@@ -1,16 +1,15 @@
--- How large the members' results can be: a sum, a difference, a product and a quotient of two numbers of k bits beside the sign, for
+-- How large the members' results can be: a sum, a difference and a product of two numbers of k bits beside the sign, for
 -- every k; and a total of numbers of any width. `mag z` is n at n and at -(n + 1), so `mag z < 2 ^ k` is the range from -2^k to 2^k - 1.
 -- Each bound holds by cases on the signs and a linear bound on naturals. Assumes nothing.
 use mathlib.Core.Path.{_≡_, refl}
 use mathlib.Core.Bool.{Bool, true, false, cond}
-use Prim.Native.Nat.{ℕ, zero, suc, _+_, _-_, _*_, _/_, _^_, _≤_, _<_}
-use native.Mathlib.Nat.{le-trans, mul-le-mul, div-le-self}
+use Prim.Native.Nat.{ℕ, zero, suc, _+_, _-_, _*_, _^_, _≤_, _<_}
+use native.Mathlib.Nat.{le-trans, mul-le-mul}
 use native.Mathlib.Omega.{arith}
 use lib.Dec.{T, ltb}
 use lib.IntN.{ℤ, pos, negsuc, negℤ, natAbs, _+ℤ_, _-ℤ_, _*ℤ_}
 use lib.Signed.{mag, ltZ, nonNeg}
 use borrow.Author.Tests.{ltb-false, le-ltb}
-use Rattle.rules.specs.Numbers.{quotient}
 
 -- ---- sizes
 
@@ -63,18 +62,6 @@ abs-product (pos a) (negsuc b) = abs-neg (pos (a * suc b))
 abs-product (negsuc a) (pos b) = abs-neg (pos (suc a * b))
 abs-product (negsuc a) (negsuc b) = refl
 
--- ---- the division rule, towards zero: the size is the quotient of the sizes, rounded down
-
-pub quotient-size : (a b : ℤ) → natAbs (quotient a b) ≡ natAbs a / natAbs b
-quotient-size (pos a) (pos b) = refl
-quotient-size (pos a) (negsuc b) = abs-neg (pos (a / suc b))
-quotient-size (negsuc a) (pos b) = abs-neg (pos (suc a / b))
-quotient-size (negsuc a) (negsuc b) = refl
-
--- so it is never larger than what was divided
-pub quotient-small : (a b : ℤ) → natAbs (quotient a b) ≤ natAbs a
-quotient-small a b = omega (arith, quotient-size a b, div-le-self (natAbs a) (natAbs b))
-
 -- ---- ranges
 
 module _ (k : ℕ) (a b : ℤ) (ha : mag a < 2 ^ k) (hb : mag b < 2 ^ k) where
@@ -87,9 +74,6 @@ module _ (k : ℕ) (a b : ℤ) (ha : mag a < 2 ^ k) (hb : mag b < 2 ^ k) where
   pub product-range : mag (a *ℤ b) ≤ 2 ^ k * 2 ^ k
   product-range =
       le-trans (mag-abs (a *ℤ b)) (rw abs-product (mul-le-mul (omega (arith, abs-mag a)) (omega (arith, abs-mag b))))
-
-  pub quotient-range : mag (quotient a b) ≤ 2 ^ k
-  quotient-range = omega (arith, mag-abs (quotient a b), quotient-small a b, abs-mag a)
 
 -- a total of i numbers from -w to w - 1, and one more
 pub total-range : (w i : ℕ) (t z : ℤ) → natAbs t ≤ i * w → mag z < w → natAbs (t +ℤ z) ≤ i * w + w

@@ -2,8 +2,11 @@
 use members::Member;
 use rules::Value;
 ghost use mathlib.Core.Path.{_≡_};
+ghost use lib.IntN.{pos};
+ghost use lib.Signed.{_<ℤ_};
 ghost use Rattle.members.specs.declared.Member.the-variants as Members;
 ghost use Rattle.rules.specs.Values.{ranged};
+ghost use Rattle.rules.specs.Numbers.{quotient};
 ghost use Rattle.rules.specs.Rules.{onNumbers};
 
 // A whole number as a value: reason 4 beyond signed 32 bits.
@@ -40,14 +43,29 @@ pub fn mul(a: i32, b: i32) -> Value
     number(a as i64 * b as i64)
 }
 
-// The quotient, towards zero; reason 3 for a zero divisor.
+// The quotient by a divisor above 0, rounded down. Below 0, where division rounds up, n is -1 - m for an m that is not, and so is the quotient.
+pub fn round_down(n: i64, d: i64) -> i64
+    requires { ⌜ pos 0 <ℤ d ⌝ }
+    ensures { λ r. ⌜ r ≡ quotient n d ⌝ }
+{
+    if n < 0 {
+        -1 - (-1 - n) / d
+    } else {
+        n / d
+    }
+}
+
+// The greatest whole number not above the quotient; reason 3 for a zero divisor. By a negative divisor it is that of the two turned about 0.
 pub fn div(a: i32, b: i32) -> Value
     ensures { λ r. ⌜ r ≡ onNumbers Members.Div a b ⌝ }
 {
     if b == 0 {
         return Value::Missing(3);
     }
-    number(a as i64 / b as i64)
+    if b < 0 {
+        return number(round_down(-(a as i64), -(b as i64)));
+    }
+    number(round_down(a as i64, b as i64))
 }
 
 // 1 where a is greater than b, and otherwise 0.

@@ -77,7 +77,7 @@ function bestSum(w, n)
   return best
 end
 
--- Of numbers of one sign, which the formulas have.
+-- Rounded down, as div is.
 function div(a, b) return math.floor(a / b) end
 
 local formula = assert(load(text))

@@ -247,7 +247,7 @@ fn of_numbers<'a>(member: Member, x: i64, y: i64) -> Value<'a> {
         Sub => ranged(x - y),
         Mul => ranged(x * y),
         Div if y == 0 => Value::Missing(3),
-        Div => ranged(x / y),
+        Div => ranged(x / y - i64::from(x % y != 0 && (x < 0) != (y < 0))),
         Gt => Value::Number(i32::from(x > y)),
         Eq => Value::Number(i32::from(x == y)),
         _ => Value::Missing(2),

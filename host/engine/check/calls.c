@@ -80,6 +80,8 @@ int main(void)
     preview(34, 512);
     edit("data.bestSum(6)");
     preview(36, 512);
+    edit("-7.div(2)");
+    preview(38, 512);
     memset(&cache, 0xff, sizeof cache);
     depth(511);
     depth(512);

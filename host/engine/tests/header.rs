@@ -242,6 +242,8 @@ fn calls_from_c() {
         preview 0 1 1 1 1 0 [] []\n\
         edit 0 0 36 3 2: 1 36 35\n\
         preview 0 1 1 5 5 0 [] []\n\
+        edit 0 0 38 3 2: 37 38 0\n\
+        preview 0 1 1 1 -4 0 [] []\n\
         depth 0\ndepth 0\n";
     assert_eq!(said("calls"), expected);
 }

@@ -14,7 +14,7 @@ use plain::random::single::single;
 use plain::random::{is_affordable, session};
 use plain::refusal::TABLE_FULL;
 use plain::samples::{edit, open, preview};
-use plain::tally::Tally;
+use plain::tally::{ROUNDED_BELOW_0, Tally};
 use std::thread;
 
 const CALLS_OF_SESSION: usize = 80;
@@ -245,6 +245,28 @@ fn best_stretches() {
     tally.check_rules(&[("bestSum", "number"), ("bestAt", "number")], 500);
     tally.check_rules(&[("bestSum", "missing 4")], 200);
     tally.check_rules(&[("bestSum", "missing 5"), ("bestAt", "missing 5")], 500);
+}
+
+/// Quotients of all signs, exact and not, and at the ends of the range.
+#[test]
+fn divisions() {
+    let mut rng = Rng::new(15);
+    let edges = [i32::MIN, i32::MIN + 1, -65_536, -1_000_003, 1_000_003, i32::MAX - 1, i32::MAX];
+    let drawn: Vec<i32> = (0..8).map(|_| rng.draw() as i32 >> rng.below(30)).collect();
+    let numbers: Vec<i32> = (-17..=17).chain(edges).chain(drawn).collect();
+    let mut tally = Tally::default();
+    for a in &numbers {
+        let mut pair = Pair::new(0);
+        pair.call(&open(&[]));
+        for b in &numbers {
+            show(&mut pair, &[], format!("{a}.div({b})").as_bytes(), 1);
+        }
+        pair.check_state();
+        tally.count_rules(&pair.model);
+    }
+    tally.check_rules(&[("div", "number"), ("div", ROUNDED_BELOW_0)], 500);
+    tally.check_rules(&[("div", "missing 3")], numbers.len());
+    tally.check_rules(&[("div", "missing 4")], 1);
 }
 
 #[test]

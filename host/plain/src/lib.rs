@@ -1,7 +1,7 @@
 //! The reference model of the formula engine (01: the plain book).
 //!
-//! It answers the calls open, edit and preview as document 01 says, with request T-01
-//! of 02, by plain recursion and without speed in mind, so that the engine can be
+//! It answers the calls open, edit and preview as document 01 says, with requests T-01
+//! and T-02 of 02, by plain recursion and without speed in mind, so that the engine can be
 //! compared with it call by call. One edit passes through the modules in this order:
 //! `token` cuts the text into tokens, `syntax` reads them or refuses one, `bind` turns
 //! the tree into let-free forms, `form` numbers them. One preview takes `eval`, which

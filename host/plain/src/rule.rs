@@ -39,9 +39,17 @@ pub fn mul(left: i64, right: i64) -> Result<i64, Reason> {
     Ok(left * right)
 }
 
-/// The division rule: towards zero, as Rust's `/` does.
+/// The division rule (02, T-02): the greatest whole number not above the quotient.
 pub fn div(left: i64, right: i64) -> Result<i64, Reason> {
-    if right == 0 { Err(DIVISION_BY_ZERO) } else { Ok(left / right) }
+    if right == 0 {
+        return Err(DIVISION_BY_ZERO);
+    }
+    let is_not_above = |whole: &i64| match right > 0 {
+        true => whole * right <= left,
+        false => whole * right >= left,
+    };
+    let near = left / right;
+    Ok((near - 1..=near + 1).rev().find(is_not_above).expect("one lies within 1 of the quotient"))
 }
 
 pub fn gt(left: i64, right: i64) -> Result<i64, Reason> {

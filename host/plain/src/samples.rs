@@ -99,13 +99,14 @@ fn missing(reason: u8) -> Shown {
     Shown::Missing(reason)
 }
 
-/// All sample previews: those of 01, then those of the members that 02 adds.
+/// All sample previews: those of 01, then those that 02 adds.
 pub fn previews() -> Vec<Sample> {
-    scope_previews().into_iter().chain(stretch_previews()).collect()
+    let added = stretch_previews().into_iter().chain(division_previews());
+    scope_previews().into_iter().chain(added).collect()
 }
 
-/// The sample previews of 01, in its order. Where 01 gives only what is shown, the
-/// other figures follow from 'Binding' and 'Working out'.
+/// The sample previews of 01, in its order, the division as 02, T-02 amends it. Where 01
+/// gives only what is shown, the other figures follow from 'Binding' and 'Working out'.
 pub fn scope_previews() -> Vec<Sample> {
     let first: Figures = (5, 4, &[4, 0, 1, 3, 2, 4, 0]);
     let second: Figures = (2, 6, &[6, 5, 1, 3, 2, 6, 5]);
@@ -123,7 +124,7 @@ pub fn scope_previews() -> Vec<Sample> {
         sample("data.longestRun(\\b -> b.gt(145))", runs, 3, number(4)),
         sample("data.sumBy(\\p -> data.countWhere(\\q -> q.gt(p)))", nested, 5, number(10))
             .starred(),
-        sample("-7.div(2)", one_call, 1, number(-3)).starred(),
+        sample("-7.div(2)", one_call, 1, number(-4)).starred(),
         sample("-2147483648.div(-1)", one_call, 1, missing(4)).starred(),
         sample("7.div(0)", one_call, 1, missing(3)),
         sample("let u = 1.div(0) in 6", unused, 0, number(6)).starred(),
@@ -150,5 +151,15 @@ fn stretch_previews() -> Vec<Sample> {
         sample("data.bestSum(2)", one_call, 1, number(312)),
         sample("data.bestAt(2)", other_member, 1, number(1)).following(),
         sample("data.skip(1).take(3).bestAt(2)", of_part, 3, number(0)).following(),
+    ]
+}
+
+/// Division goes down (02, T-02), whatever the signs.
+fn division_previews() -> Vec<Sample> {
+    let one_call: Figures = (3, 2, &[0, 2, 1]);
+    vec![
+        sample("7.div(-2)", one_call, 1, number(-4)),
+        sample("-7.div(-2)", one_call, 1, number(3)),
+        sample("-6.div(3)", one_call, 1, number(-2)),
     ]
 }

@@ -34,6 +34,9 @@ impl Tally {
         if operands.iter().all(is_there) {
             *self.rules.entry((member.name(), shown_label(shown))).or_default() += 1;
         }
+        if member.name() == "div" && is_rounded_below_0(operands, shown) {
+            *self.rules.entry((member.name(), ROUNDED_BELOW_0.into())).or_default() += 1;
+        }
     }
 
     /// Counts what the marked members show by their rules.
@@ -78,8 +81,8 @@ impl Tally {
     }
 
     /// That each answer to a session's calls came at least `least` times, and each result
-    /// of a member at least `least_rules` times: a number or a window, and the reasons in
-    /// the list.
+    /// of a member at least `least_rules` times: a number or a window, and those in the
+    /// list.
     pub fn check_all(&self, least: usize, least_rules: usize) {
         let refused = (TEXT_TOO_LONG..=NO_SUCH_ENTRY).filter(|number| *number != ILL_FORMED);
         let refused = refused.map(|number| format!("refused {number}"));
@@ -94,16 +97,17 @@ impl Tally {
             let label = if is_window { "window" } else { "number" };
             self.check_rules(&[(member.name(), label)], least_rules);
         }
-        self.check_rules(REASONS, least_rules);
+        self.check_rules(RESULTS, least_rules);
     }
 }
 
-/// Reasons that rules give by themselves, other than 2.
-const REASONS: &[(&str, &str)] = &[
+/// Reasons that rules give by themselves, other than 2, and quotients that are rounded.
+const RESULTS: &[(&str, &str)] = &[
     ("add", "missing 4"),
     ("sub", "missing 4"),
     ("mul", "missing 4"),
     ("div", "missing 3"),
+    ("div", ROUNDED_BELOW_0),
     ("skip", "missing 5"),
     ("take", "missing 5"),
     ("sum", "missing 4"),
@@ -119,6 +123,18 @@ const REASONS: &[(&str, &str)] = &[
 fn add<Key: Ord>(counts: &mut Counts<Key>, others: Counts<Key>) {
     for (key, count) in others {
         *counts.entry(key).or_default() += count;
+    }
+}
+
+/// A quotient below 0 that is not exact: rounded towards 0 it would be another.
+pub const ROUNDED_BELOW_0: &str = "number rounded below 0";
+
+fn is_rounded_below_0(operands: &[Shown], quotient: &Shown) -> bool {
+    match (operands, quotient) {
+        ([Shown::Number(a), Shown::Number(b)], Shown::Number(q)) => {
+            *q < 0 && i64::from(*q) * i64::from(*b) != i64::from(*a)
+        }
+        _ => false,
     }
 }
 

@@ -6,7 +6,9 @@ use crate::member::Kind;
 
 /// Counts, indices and lengths: below, within and beyond a short window.
 const COUNTS: [&str; 10] = ["-1", "0", "1", "2", "2", "3", "3", "4", "7", "31"];
-const NUMBERS: [&str; 8] = ["-2147483648", "-7", "-1", "0", "1", "2", "46341", "2147483647"];
+/// The ends of the range, and numbers whose quotients are exact or not, of all signs.
+const NUMBERS: [&str; 8] = ["-2147483648", "-7", "-1", "0", "1", "6", "46341", "2147483647"];
+const ARGUMENTS: [&str; 8] = ["-2147483648", "-3", "-1", "0", "0", "2", "46341", "2147483647"];
 const FUNCTIONS: [&str; 4] = [r"\a -> a", r"\a -> a.gt(2)", r"\a -> 1.div(a)", r"\a -> data.at(a)"];
 
 /// A formula as its tokens.
@@ -22,7 +24,7 @@ pub fn single(rng: &mut Rng) -> Vec<String> {
         (_, None) => (),
         (_, Some(Kind::Function)) => writer.one_of(&FUNCTIONS),
         (Kind::Window, _) => writer.one_of(&COUNTS),
-        _ => writer.one_of(&NUMBERS),
+        _ => writer.one_of(&ARGUMENTS),
     }
     writer.put(&[")"]);
     writer.tokens
