@@ -22,7 +22,7 @@ use plain::refusal::{NO_SUCH_ENTRY, TABLE_FULL};
 use plain::samples::{ALL, RECORDING, edit, open, preview};
 use plain::shown::Shown;
 use plain::syntax::parse;
-use plain::tally::Tally;
+use plain::tally::{ROUNDED_BELOW_0, Tally};
 
 const ILL_FORMED: Answer = Answer::Refused { number: 4, place: 0 };
 
@@ -181,6 +181,7 @@ fn made_up_caches() {
     tally.check_rules(&[("bestSum", "number"), ("bestAt", "number")], 5);
     tally.check_rules(&[("bestSum", "missing 4"), ("bestSum", "missing 5")], 5);
     tally.check_rules(&[("bestAt", "missing 5")], 5);
+    tally.check_rules(&[("div", "missing 3"), ("div", ROUNDED_BELOW_0)], 5);
 }
 
 #[test]
