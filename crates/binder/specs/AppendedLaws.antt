@@ -11,6 +11,7 @@ use lib.Dec.{eqb, leb}
 use lib.ListN.{length, length-set}
 use lib.Seq.{getD-set-same, getD-set-other}
 use Rattle.language.specs.Cases.{impossible, split}
+use Rattle.language.specs.Limits.{tableEntries, tableReadings}
 use Rattle.layout.specs.Links.{secondIndex, otherIndex, linksWith, cellsWith}
 use Rattle.layout.specs.LinksLaws.{links-length, links-apart, links-here, cells-length, cells-apart, cells-kept, cells-key, cells-nothing}
 use Rattle.layout.specs.Memory.{Memory, Node, Entry, nothingKept, fits, entryCount, readingCount, nodeAt, entryAt, entriesFrom, entriesOf}
@@ -91,7 +92,7 @@ module _ (m : Memory) (n : Node) where
     unfolding append
     append-readings = getD-set-other (m .heads) 0 1 (suc (entryCount m)) 0 (λ e. omega arith)
 
-    pub append-entries : entryCount m < 512 → entriesOf (append m n) ≡ entriesOf m ++ (newEntry n ∷ [])
+    pub append-entries : entryCount m < tableEntries → entriesOf (append m n) ≡ entriesOf m ++ (newEntry n ∷ [])
     append-entries h =
         let w = whole-is m f in
         rw append-count (append-as m n (suc (entryCount m)) ∙ entries-more (m .links) (m .cells) (entryCount m) n (omega arith) (omega arith))
@@ -103,8 +104,8 @@ append-all-fits m (n ∷ ns) = append-all-fits (append m n) ns ∙ append-fits m
 
 -- What well-formedness says, part by part.
 pub record Well (m : Memory) : Type 0 where
-  pub few : entryCount m ≤ 512
-  pub readings : readingCount m ≤ 1024
+  pub few : entryCount m ≤ tableEntries
+  pub readings : readingCount m ≤ tableReadings
   pub right : (i : ℕ) → i < entryCount m → nodeRight i (nodeAt (m .links) (m .cells) i) ≡ true
   pub apart : distinct (numbered (nodeAt (m .links) (m .cells)) 0 (entryCount m)) ≡ true
   pub names : awaitsFew (numbered (nodeAt (m .links) (m .cells)) 0 (entryCount m)) ≡ true
@@ -117,14 +118,14 @@ pub well-parts : (m : Memory) → wellFormed m ≡ true → Well m
 unfolding entriesRight
 well-parts m w =
     let e = sym (well-is (m .readings) (m .heads) (m .links) (m .cells)) ∙ w in
-    let r = and-eq-true-iff (leb (entryCount m) 512) _ .0 e .1 in
-    let a = and-eq-true-iff (leb (readingCount m) 1024) _ .0 r .1 in
+    let r = and-eq-true-iff (leb (entryCount m) tableEntries) _ .0 e .1 in
+    let a = and-eq-true-iff (leb (readingCount m) tableReadings) _ .0 r .1 in
     let b = and-eq-true-iff (allFrom (rightAt (m .links) (m .cells)) (entryCount m) 0) _ .0 a .1 in
     let c = and-eq-true-iff (distinct (numbered (nodeAt (m .links) (m .cells)) 0 (entryCount m))) _ .0 b .1 in
     let d = and-eq-true-iff (awaitsFew (numbered (nodeAt (m .links) (m .cells)) 0 (entryCount m))) _ .0 c .1 in
     record {
-      few = leb-true (entryCount m) 512 (and-eq-true-iff _ _ .0 e .0);
-      readings = leb-true (readingCount m) 1024 (and-eq-true-iff _ _ .0 r .0);
+      few = leb-true (entryCount m) tableEntries (and-eq-true-iff _ _ .0 e .0);
+      readings = leb-true (readingCount m) tableReadings (and-eq-true-iff _ _ .0 r .0);
       right = λ i l. right-at (m .links) (m .cells) (entryCount m) i (and-eq-true-iff _ _ .0 a .0) l;
       apart = and-eq-true-iff _ _ .0 b .0;
       names = and-eq-true-iff _ _ .0 c .0;
@@ -136,8 +137,8 @@ unfolding entriesRight rightAt
 well-from m w =
     well-is (m .readings) (m .heads) (m .links) (m .cells)
     ∙ rw (
-      le-leb (entryCount m) 512 (w .few),
-      le-leb (readingCount m) 1024 (w .readings),
+      le-leb (entryCount m) tableEntries (w .few),
+      le-leb (readingCount m) tableReadings (w .readings),
       all-of (rightAt (m .links) (m .cells)) (entryCount m) 0 (λ j h l. w .right j (omega arith)),
       w .apart,
       w .names,
@@ -145,9 +146,9 @@ well-from m w =
     )
 
 -- a cache with no entries
-pub well-empty : (m : Memory) → entryCount m ≡ 0 → readingCount m ≤ 1024 → wellFormed m ≡ true
+pub well-empty : (m : Memory) → entryCount m ≡ 0 → readingCount m ≤ tableReadings → wellFormed m ≡ true
 unfolding wellFormed entriesFrom every distinct awaitedAfter
-well-empty m e h = rw (e, le-leb (readingCount m) 1024 h)
+well-empty m e h = rw (e, le-leb (readingCount m) tableReadings h)
 
 pub and-true : (a b : Bool) → a ≡ true → b ≡ true → (a && b) ≡ true
 and-true a b p q = rw (p, q)
@@ -179,7 +180,7 @@ unfolding keptRight namesRight
 new-kept readings n es = refl
 
 -- THE LAW: a right entry that is new and awaits two names at most keeps the cache well-formed.
-module _ (m : Memory) (n : Node) (f : fits m ≡ true) (w : Well m) (room : entryCount m < 512) where
+module _ (m : Memory) (n : Node) (f : fits m ≡ true) (w : Well m) (room : entryCount m < tableEntries) where
   abbrev k : ℕ
   k = entryCount m
 

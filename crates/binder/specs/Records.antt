@@ -5,7 +5,7 @@ use mathlib.Core.List.{List, []}
 use Prim.Native.Nat.{ℕ, _+_, _*_, _/_, _%_, _≤_, _<_}
 use lib.Dec.{ltb}
 use lib.ListN.{length, getD, take}
-use Rattle.language.specs.Limits.{tableEntries}
+use Rattle.language.specs.Limits.{textParts, tableEntries}
 use Rattle.layout.specs.Memory.{Node, nodeAt, node}
 use Rattle.table.specs.WellFormed.{distinct}
 use Rattle.table.specs.Bind.{Bound, bindOne, bindAll}
@@ -25,14 +25,14 @@ boundNow links cells count total r numbers fresh = bound (numbered (heldAt links
 
 -- what holds in the frame when r records are bound and there are `total` entries, `count` of them held
 pub record Ready (links cells : List ℕ) (count total r : ℕ) (numbers fresh chain : List ℕ) : Type 0 where
-  pub few : count ≤ 512
+  pub few : count ≤ tableEntries
   pub low : count ≤ total
   pub high : total ≤ count + r
-  pub places : length numbers ≡ 128
+  pub places : length numbers ≡ textParts
   pub room : length fresh ≡ 256
   pub chained : Chained (heldAt links cells count fresh) chain total
   pub apart : distinct (numbered (heldAt links cells count fresh) 0 total) ≡ true
-  pub known : (j : ℕ) → j < r → getD numbers j 0 < 640
+  pub known : (j : ℕ) → j < r → getD numbers j 0 < tableEntries + textParts
 
 -- one record more
 pub record BoundOne (links cells : List ℕ) (count total : ℕ) (records : List ℕ) (r : ℕ) (numbers fresh : List ℕ) (total′ : ℕ) (numbers′ fresh′ chain′ : List ℕ) : Type 0 where
@@ -44,7 +44,7 @@ pub record BoundAll (links cells : List ℕ) (count : ℕ) (records : List ℕ) 
   pub is : boundNow links cells count total n numbers fresh ≡ bindAll (bound (numbered (nodeAt links cells) 0 count) []) (numbered (recordAt records) 0 n)
   pub low : count ≤ total
   pub high : total ≤ count + n
-  pub places : length numbers ≡ 128
+  pub places : length numbers ≡ textParts
   pub room : length fresh ≡ 256
 
 -- 01, refusal 13: entries held plus new forms exceed the table's

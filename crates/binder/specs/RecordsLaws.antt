@@ -11,6 +11,7 @@ use borrow.Author.Tests.{eq-eqb, ne-eqb, lt-ltb, le-ltb}
 use lib.Dec.{eqb, ltb}
 use lib.ListN.{length, getD, set, take, drop, length-set, List·getD-eq-default}
 use lib.Seq.{getD-set-same, getD-set-other, getD-take, take-suc-set, length-take-le, drop-at}
+use Rattle.language.specs.Limits.{textParts, tableEntries}
 use Rattle.layout.specs.Memory.{Node, nodeAt, node}
 use Rattle.table.specs.WellFormed.{distinct}
 use Rattle.table.specs.Bind.{find, relinked, relink, Bound, bindOne, bindAll}
@@ -88,7 +89,7 @@ module _ (numbers : List ℕ) (r link : ℕ) where
       let g = getD-take r numbers (link - 1) 0 (omega arith) in
       sym (relinked-at (link - 1) z ∙ omega arith)
 
-  pub link-late : r < link → r ≤ 128 → length numbers ≡ 128 → 1 ≡ relinked (take r numbers) link
+  pub link-late : r < link → r ≤ textParts → length numbers ≡ textParts → 1 ≡ relinked (take r numbers) link
   link-late h k e =
       let z : link ≡ suc (link - 1) = omega arith in
       let l = length-take-le r numbers (omega arith) in
@@ -106,7 +107,8 @@ unfolding relink
 relink-is numbers r n x first second p q e = rw (← e, p, q)
 
 -- links of bound records are small
-relinked-low : (numbers : List ℕ) (r link : ℕ) → ((j : ℕ) → j < r → getD numbers j 0 < 640) → r ≤ 128 → length numbers ≡ 128 → relinked (take r numbers) link < 1024
+relinked-low : (numbers : List ℕ) (r link : ℕ) → ((j : ℕ) → j < r → getD numbers j 0 < tableEntries + textParts) → r ≤ textParts
+    → length numbers ≡ textParts → relinked (take r numbers) link < 1024
 relinked-low numbers r zero h k e = omega arith
 relinked-low numbers r (suc j) h k e =
     elim (decLt j r) [
@@ -117,7 +119,8 @@ relinked-low numbers r (suc j) h k e =
           omega arith
     ]
 
-known-more : (numbers : List ℕ) (r v : ℕ) → ((j : ℕ) → j < r → getD numbers j 0 < 640) → v < 640 → length numbers ≡ 128 → r < 128 → (j : ℕ) → j < r + 1 → getD (set numbers r v) j 0 < 640
+known-more : (numbers : List ℕ) (r v : ℕ) → ((j : ℕ) → j < r → getD numbers j 0 < tableEntries + textParts) → v < tableEntries + textParts
+    → length numbers ≡ textParts → r < textParts → (j : ℕ) → j < r + 1 → getD (set numbers r v) j 0 < tableEntries + textParts
 known-more numbers r v h l e k j m =
     elim (decLt j r) [
       | yes less ↦ let g = getD-set-other numbers r j v 0 (λ q. omega arith) in let b = h j less in omega arith
@@ -125,7 +128,7 @@ known-more numbers r v h l e k j m =
     ]
 
 module _ (links cells : List ℕ) (count total : ℕ) (records : List ℕ) (r : ℕ) (numbers fresh chain : List ℕ)
-    (ready : Ready links cells count total r numbers fresh chain) (few : r < 128)
+    (ready : Ready links cells count total r numbers fresh chain) (few : r < textParts)
     (m : Node) (qm : m ≡ relink (take r numbers) (recordAt records r))
     (c : ℕ) (qc : c ≡ lastSame (heldAt links cells count fresh) m total) where
   abbrev ν : ℕ → Node
@@ -226,7 +229,8 @@ module _ (links cells : List ℕ) (count : ℕ) (records : List ℕ) (n : ℕ) w
   same-start : (fresh : List ℕ) → numbered (heldAt links cells count fresh) 0 count ≡ numbered (nodeAt links cells) 0 count
   same-start fresh = numbered-agree (heldAt links cells count fresh) (nodeAt links cells) 0 count (λ j l. held-front links cells count fresh j (omega arith))
 
-  pub ready-start : (numbers fresh chain : List ℕ) → count ≤ 512 → length numbers ≡ 128 → length fresh ≡ 256 → Chained (heldAt links cells count fresh) chain count
+  pub ready-start : (numbers fresh chain : List ℕ) → count ≤ tableEntries → length numbers ≡ textParts → length fresh ≡ 256
+      → Chained (heldAt links cells count fresh) chain count
       → distinct (numbered (nodeAt links cells) 0 count) ≡ true → Ready links cells count count 0 numbers fresh chain
   ready-start numbers fresh chain h p q ch d =
       record { few = h; low = omega arith; high = omega arith; places = p; room = q; chained = ch; apart = rw (same-start fresh) d; known = λ j l. absurd (omega arith) }

@@ -9,7 +9,7 @@ use lib.Dec.{leb}
 use lib.IntN.{ℤ}
 use lib.ListN.{length, getD, take, length-map}
 use lib.Seq.{take-at, length-take-le}
-use Rattle.language.specs.Limits.{textBytes, textParts}
+use Rattle.language.specs.Limits.{textBytes, textParts, tableEntries, tableReadings}
 use Rattle.model.specs.Model.{edited, written}
 use Rattle.layout.specs.Memory.{Memory, fits, entryCount, nodeAt, memory}
 use Rattle.table.specs.WellFormed.{distinct, wellFormed}
@@ -30,22 +30,22 @@ use Rattle.calls.specs.Editing.{EditsRead}
 
 -- What a well-formed cache promises to binding.
 module _ (heads links cells : List ℕ) (well : (readings : List ℤ) → wellFormed (memory readings heads links cells) ≡ true) (count : ℕ) (is : count ≡ getD heads 0 0) where
-  tests : (leb count 512 && (leb (getD heads 1 0) 1024 && entriesRight links cells (getD heads 1 0) count)) ≡ true
+  tests : (leb count tableEntries && (leb (getD heads 1 0) tableReadings && entriesRight links cells (getD heads 1 0) count)) ≡ true
   tests = rw is (sym (well-is [] heads links cells) ∙ well [])
 
-  pub well-few : count ≤ 512
-  well-few = leb-true count 512 (and-eq-true-iff _ _ .0 tests .0)
+  pub well-few : count ≤ tableEntries
+  well-few = leb-true count tableEntries (and-eq-true-iff _ _ .0 tests .0)
 
   pub well-distinct : distinct (numbered (nodeAt links cells) 0 count) ≡ true
   unfolding entriesRight
   well-distinct =
-      let entries = and-eq-true-iff (leb (getD heads 1 0) 1024) _ .0 (and-eq-true-iff (leb count 512) _ .0 tests .1) .1 in
+      let entries = and-eq-true-iff (leb (getD heads 1 0) tableReadings) _ .0 (and-eq-true-iff (leb count tableEntries) _ .0 tests .1) .1 in
       and-eq-true-iff _ _ .0 (and-eq-true-iff (allFrom (rightAt links cells) count 0) _ .0 entries .1) .0
 
 -- What an accepted plan promises to the writes.
 pub plan-room : (links cells text : List ℕ) (count : ℕ) (p : Plan) (P N F : List ℕ)
     → ((readings : List ℤ) (heads : List ℕ) → getD heads 0 0 ≡ count → Planned (memory readings heads links cells) text p P N F)
-    → p .number ≡ 0 → (count ≤ p .total) × (p .total ≤ 512) × (p .parts ≤ 128) × (length P ≡ 128)
+    → p .number ≡ 0 → (count ≤ p .total) × (p .total ≤ tableEntries) × (p .parts ≤ textParts) × (length P ≡ textParts)
 plan-room links cells text count p P N F plans z = let a = plans [] (count ∷ []) refl .accepted z in (a .low, a .high, a .few, a .room)
 
 -- The writes of an edit that is accepted, and an edit that is declined by its text.

@@ -10,6 +10,7 @@ use borrow.Author.Tests.{lt-ltb, le-ltb, leb-true}
 use lib.IntN.{ℤ, pos}
 use lib.ListN.{length, getD, set, take, drop}
 use lib.Seq.{take-suc, drop-cons, set-at, length-take-le, take-length}
+use Rattle.language.specs.Limits.{tableReadings}
 use Rattle.layout.specs.Memory.{Memory, fits, memory}
 use Rattle.binder.specs.Written.{Whole}
 use Rattle.binder.specs.WrittenLaws.{whole-is}
@@ -29,7 +30,7 @@ module _ (xs ys zs : List ℤ) (i : ℕ) (all : zs ≡ take i xs ++ drop i ys) w
 
 -- the lengths of a cache that is lent whole
 pub record Room (readings heads links cells : ℕ) : Type 0 where
-  pub in-readings : 1024 ≤ readings
+  pub in-readings : tableReadings ≤ readings
   pub in-heads : 2 ≤ heads
   pub in-links : 1536 ≤ links
   pub in-cells : 2048 ≤ cells
@@ -40,21 +41,27 @@ module _ (rs : List ℤ) (heads links cells : List ℕ) (b : Bool) (q : b ≡ fi
   fits-room t =
       let e : fits (memory rs heads links cells) ≡ true = sym q ∙ t in
       let w : Whole heads links cells = whole-is (memory rs heads links cells) e in
-      record { in-readings = leb-true 1024 (length rs) (and-eq-true-iff _ _ .0 e .0); in-heads = w .in-heads; in-links = w .in-links; in-cells = w .in-cells }
+      record {
+        in-readings = leb-true tableReadings (length rs) (and-eq-true-iff _ _ .0 e .0);
+        in-heads = w .in-heads;
+        in-links = w .in-links;
+        in-cells = w .in-cells;
+      }
 
   -- the answers, and what is left in the memory
   module _ (xs : List ℤ) where
-    pub open-short : length xs ≤ 1024 → b ≡ false → Opens (memory rs heads links cells) xs (memory rs heads links cells) (Refused 3)
+    pub open-short : length xs ≤ tableReadings → b ≡ false → Opens (memory rs heads links cells) xs (memory rs heads links cells) (Refused 3)
     unfolding openAnswer openMemory
-    open-short h t = record { answer = rw (le-ltb 1024 (length xs) h, ← q, t); memory = rw (le-ltb 1024 (length xs) h, ← q, t) }
+    open-short h t = record { answer = rw (le-ltb tableReadings (length xs) h, ← q, t); memory = rw (le-ltb tableReadings (length xs) h, ← q, t) }
 
-    pub open-done : (rs′ : List ℤ) → length xs ≤ 1024 → b ≡ true → rs′ ≡ xs ++ drop (length xs) rs
+    pub open-done : (rs′ : List ℤ) → length xs ≤ tableReadings → b ≡ true → rs′ ≡ xs ++ drop (length xs) rs
         → Opens (memory rs heads links cells) xs (memory rs′ (set (set heads 0 0) 1 (length xs)) links cells) Done
     unfolding openAnswer openMemory
-    open-done rs′ h t e = record { answer = rw (le-ltb 1024 (length xs) h, ← q, t); memory = rw (e, le-ltb 1024 (length xs) h, ← q, t) }
+    open-done rs′ h t e =
+        record { answer = rw (le-ltb tableReadings (length xs) h, ← q, t); memory = rw (e, le-ltb tableReadings (length xs) h, ← q, t) }
 
-pub open-long : (m : Memory) (xs : List ℤ) → 1024 < length xs → Opens m xs m (Refused 2)
+pub open-long : (m : Memory) (xs : List ℤ) → tableReadings < length xs → Opens m xs m (Refused 2)
 unfolding openAnswer openMemory
-open-long m xs h = record { answer = rw (lt-ltb 1024 (length xs) h); memory = rw (lt-ltb 1024 (length xs) h) }
+open-long m xs h = record { answer = rw (lt-ltb tableReadings (length xs) h); memory = rw (lt-ltb tableReadings (length xs) h) }
 
 pub ruleset opening = (open-long, open-short, open-done)

@@ -11,6 +11,7 @@ use lib.IntN.{ℤ}
 use lib.ListN.{length, getD, take, drop}
 use lib.Seq.{length-take-le}
 use Rattle.language.specs.Cases.{split}
+use Rattle.language.specs.Limits.{tableEntries, tableReadings}
 use Rattle.layout.specs.Memory.{Memory, fits, entryCount, readingCount, nodeAt, keptAt, memory}
 use Rattle.table.specs.WellFormed.{namesRight, keptRight, wellFormed}
 use Rattle.table.specs.Checked.{entriesRight}
@@ -22,6 +23,7 @@ use Rattle.values.specs.Packing.{windowCell, delayedCell, missingCell, unpackOf
 use Rattle.values.specs.PackingLaws.{unpack-number, unpack-window, unpack-delayed, unpack-missing, passes-packs}
 use Rattle.values.specs.Keepable.{Inside}
 use Rattle.layout.specs.Links.{kindAt, keyAt, valueAt}
+use Rattle.layout.specs.Nodes.{numberKind, variableKind, unboundKind, functionKind, worksKind}
 use Rattle.evaluator.specs.Frames.{leafOf, startAt}
 use Rattle.schedule.specs.declared.View.{View}
 use Rattle.schedule.specs.Works.{Lent, Works, showOf}
@@ -87,8 +89,8 @@ none-refused m n a = rw (a .whole, a .well, a .held)
 
 -- and the sizes that it may rely on
 pub record Sizes (m : Memory) (n : ℕ) : Type 0 where
-  pub entry : n < 512
-  pub few : readingCount m ≤ 1024
+  pub entry : n < tableEntries
+  pub few : readingCount m ≤ tableReadings
   pub within : readingCount m ≤ length (m .readings)
   pub room : 2048 ≤ length (m .cells)
 
@@ -96,10 +98,11 @@ pub sizes : (m : Memory) (n : ℕ) → Accepted m n → Sizes m n
 unfolding fits
 sizes m n a =
     let w = sym (well-is (m .readings) (m .heads) (m .links) (m .cells)) ∙ a .well in
-    let e : entryCount m ≤ 512 = leb-true (entryCount m) 512 (and-eq-true-iff _ _ .0 w .0) in
-    let k : readingCount m ≤ 1024 = leb-true (readingCount m) 1024 (and-eq-true-iff _ _ .0 (and-eq-true-iff (leb (entryCount m) 512) _ .0 w .1) .0) in
+    let e : entryCount m ≤ tableEntries = leb-true (entryCount m) tableEntries (and-eq-true-iff _ _ .0 w .0) in
+    let k : readingCount m ≤ tableReadings =
+    leb-true (readingCount m) tableReadings (and-eq-true-iff _ _ .0 (and-eq-true-iff (leb (entryCount m) tableEntries) _ .0 w .1) .0) in
     let h : n < entryCount m = ltb-true n (entryCount m) (a .held) in
-    let l : 1024 ≤ length (m .readings) = leb-true 1024 (length (m .readings)) (and-eq-true-iff _ _ .0 (a .whole) .0) in
+    let l : tableReadings ≤ length (m .readings) = leb-true tableReadings (length (m .readings)) (and-eq-true-iff _ _ .0 (a .whole) .0) in
     record { entry = omega arith; few = k; within = omega arith; room = whole-is m (a .whole) .in-cells }
 
 -- ---- preview
@@ -119,11 +122,11 @@ module _ (rs : List ℤ) (heads links cells : List ℕ) (n r : ℕ) (q : r ≡ r
   sure : Accepted (memory rs heads links cells) n
   sure = accepted (memory rs heads links cells) n (sym q ∙ z)
 
-  pub entry-few : n < 512
+  pub entry-few : n < tableEntries
   entry-few = sizes (memory rs heads links cells) n sure .entry
 
   module _ (k : ℕ) (qk : k ≡ getD heads 1 0) where
-    pub readings-few : k ≤ 1024
+    pub readings-few : k ≤ tableReadings
     readings-few = omega (arith, qk, sizes (memory rs heads links cells) n sure .few)
 
     pub readings-taken : k ≡ length (take k rs)
@@ -178,14 +181,14 @@ window-within k Function i = omega arith
 window-within k Delayed i = omega arith
 window-within k (Missing r) i = omega arith
 
-leaf-inside : (k kind key : ℕ) → k ≤ 1024 → Inside k (unpackOf (leafOf k kind key))
+leaf-inside : (k kind key : ℕ) → k ≤ tableReadings → Inside k (unpackOf (leafOf k kind key))
 unfolding leafOf
 leaf-inside k kind key h =
-    split (eqb kind 0)
+    split (eqb kind numberKind)
     (λ a. rw a (rw (unpack-number (key % 4294967296 + 1) (omega arith)) tt))
-    (λ a. split (eqb kind 1)
+    (λ a. split (eqb kind variableKind)
     (λ b. rw (a, b) (rw (unpack-delayed delayedCell (omega arith) (omega arith)) tt))
-    (λ b. split (eqb kind 2)
+    (λ b. split (eqb kind unboundKind)
     (λ d. rw (a, b, d) (rw (unpack-missing (missingCell + 1) (omega arith)) tt))
     (λ d. rw (a, b, d) (rw (unpack-window (windowCell + k) (omega arith) (omega arith)) (omega arith)))))
 
@@ -193,19 +196,21 @@ kept-inside : (links cells : List ℕ) (k count n : ℕ) → entriesRight links 
 unfolding keptRight keptAt
 kept-inside links cells k count n e h =
     let c = valueAt cells n in
-    let kept : (eqb c 0 || (leb 4 (nodeAt links cells n .kind) && isPacked c k)) ≡ true = and-eq-true-iff (namesRight (keptAt cells n)) _ .0 (kept-right links cells k count n e h) .1 in
+    let kept : (eqb c 0 || (worksKind (nodeAt links cells n .kind) && isPacked c k)) ≡ true =
+    and-eq-true-iff (namesRight (keptAt cells n)) _ .0 (kept-right links cells k count n e h) .1 in
     split (eqb c 0)
     (λ t. rw (unpack-number c (omega (arith, eqb-true c 0 t))) tt)
-    (λ t. passes-packs k c (and-eq-true-iff (leb 4 (nodeAt links cells n .kind)) _ .0 (rw t at kept) .1) .kept .inside)
+    (λ t. passes-packs k c (and-eq-true-iff (worksKind (nodeAt links cells n .kind)) _ .0 (rw t at kept) .1) .kept .inside)
 
 shown-inside : (m : Memory) (n : ℕ) → Accepted m n → Inside (readingCount m) (unpackOf (startAt (readingCount m) (m .links) (m .cells) n))
 unfolding startAt
 shown-inside m n a =
     let w = sym (well-is (m .readings) (m .heads) (m .links) (m .cells)) ∙ a .well in
-    split (ltb (kindAt (m .links) n) 4)
+    split (ltb (kindAt (m .links) n) functionKind)
     (λ t. rw t (leaf-inside (readingCount m) (kindAt (m .links) n) (keyAt (m .cells) n) (sizes m n a .few)))
     (λ t. rw t (kept-inside (m .links) (m .cells) (readingCount m) (entryCount m) n
-    (and-eq-true-iff (leb (readingCount m) 1024) _ .0 (and-eq-true-iff (leb (entryCount m) 512) _ .0 w .1) .1) (ltb-true n (entryCount m) (a .held))))
+    (and-eq-true-iff (leb (readingCount m) tableReadings) _ .0 (and-eq-true-iff (leb (entryCount m) tableEntries) _ .0 w .1) .1)
+    (ltb-true n (entryCount m) (a .held))))
 
 pub part-within : (m : Memory) (n : ℕ) → partOf m n .start + partOf m n .length ≤ length (m .readings)
 part-within m n =

@@ -31,7 +31,8 @@ use Rattle.model.specs.Decoding.{decodeFrom}
 use Rattle.model.specs.Graph.{among, formAt, Placed, AllPlaced, Stands, decodes, decode}
 use Rattle.model.specs.Checks as Checks
 use Rattle.layout.specs.Memory.{Memory, Node, Entry, entryCount, readingCount, recordingOf, entriesOf, nodesOf, node}
-use Rattle.layout.specs.Nodes.{memberKind, kindCount, worksKind, arity, memberOfKind, listed, kids, sameNode, build, numberOfKey}
+use Rattle.layout.specs.Nodes.{numberKind, variableKind, unboundKind, functionKind, memberKind, kindCount, worksKind}
+use Rattle.layout.specs.Nodes.{arity, memberOfKind, listed, kids, sameNode, build, numberOfKey}
 use Rattle.table.specs.WellFormed.{every, kindKnown, keyRight, given, arityRight, lower, hasNode, distinct}
 use Rattle.table.specs.WellFormed.{awaitedBy, awaitedAfter, isDone, doneAt, allDone, settled, namesRight, keptRight, wellFormed}
 use Rattle.table.specs.AwaitedForms.{awaited-build}
@@ -80,8 +81,12 @@ key-right _ φ (aVariable x) s = s
 key-right _ φ (anUnbound x) s = s
 key-right _ φ theReadings s = refl
 key-right _ φ (aFunction x b) s = s
-key-right _ φ (anAsk m f e) s = rw (not-member m 0 (omega arith), not-member m 1 (omega arith), not-member m 2 (omega arith), not-member m 4 (omega arith))
-key-right _ φ (aCall m f a e) s = rw (not-member m 0 (omega arith), not-member m 1 (omega arith), not-member m 2 (omega arith), not-member m 4 (omega arith))
+key-right _ φ (anAsk m f e) s =
+    let no = not-member m in
+    rw (no numberKind (omega arith), no variableKind (omega arith), no unboundKind (omega arith), no functionKind (omega arith))
+key-right _ φ (aCall m f a e) s =
+    let no = not-member m in
+    rw (no numberKind (omega arith), no variableKind (omega arith), no unboundKind (omega arith), no functionKind (omega arith))
 
 one-link : (b : ℕ) → given (suc b) ≡ true
 one-link b = le-leb 1 (suc b) (omega arith)
@@ -190,8 +195,8 @@ works-kind _ φ (aVariable x) = refl
 works-kind _ φ (anUnbound x) = refl
 works-kind _ φ theReadings = refl
 works-kind _ φ (aFunction x b) = refl
-works-kind _ φ (anAsk m f e) = rw (build-ask m f φ e) (sym (le-leb 4 (memberKind m) (omega arith)))
-works-kind _ φ (aCall m f a e) = rw (build-call m f a φ e) (sym (le-leb 4 (memberKind m) (omega arith)))
+works-kind _ φ (anAsk m f e) = rw (build-ask m f φ e) (sym (le-leb functionKind (memberKind m) (omega arith)))
+works-kind _ φ (aCall m f a e) = rw (build-call m f a φ e) (sym (le-leb functionKind (memberKind m) (omega arith)))
 
 member-proper : (g : Form) (fs : List Form) → isIn same g fs ≡ true → All Proper fs → Proper g
 unfolding isIn

@@ -13,10 +13,11 @@ use lib.IntN.{ℤ}
 use lib.ListN.{length, getD, set, replicate, length-set, length-take}
 use lib.Seq.{getD-set-same, getD-set-other}
 use Rattle.language.specs.Cases.{impossible, split}
+use Rattle.language.specs.Limits.{tableEntries}
 use Rattle.values.specs.Packing.{isPacked}
 use Rattle.model.specs.Lists.{All, countIf}
 use Rattle.layout.specs.Memory.{Memory, Node, Kept, Entry, fits, entryCount, readingCount, recordingOf, nodeAt, keptAt, entryAt, entriesFrom}
-use Rattle.layout.specs.Nodes.{arity, listed, kids, isName}
+use Rattle.layout.specs.Nodes.{functionKind, worksKind, arity, listed, kids, isName}
 use Rattle.table.specs.WellFormed.{keyRight, doneAt, allDone, settled, namesRight, keptRight}
 use Rattle.table.specs.Right.{nodeRight}
 use Rattle.layout.specs.Numbered.{numbered}
@@ -95,13 +96,13 @@ module _ (m : Memory) (f : fits m ≡ true) (well : Well m) (sound : All IsReadi
   xs = recordingOf m
 
   abbrev waits : List ℕ
-  waits = waitsFrom links (m .cells) (suc n) 0 (replicate 512 0)
+  waits = waitsFrom links (m .cells) (suc n) 0 (replicate tableEntries 0)
 
   abbrev flags : List ℕ
   flags = needOf links n
 
   abbrev value : List ℕ → ℕ → ℕ
-  value = applyAt (graph links waits xs) 512
+  value = applyAt (graph links waits xs) tableEntries
 
   abbrev entries : List ℕ → List Entry
   entries now = entriesFrom links now 0 c
@@ -110,20 +111,20 @@ module _ (m : Memory) (f : fits m ≡ true) (well : Well m) (sound : All IsReadi
   recorded = let l = lengths m f .readings in let k = well .readings in length-take r (m .readings) ∙ omega arith
 
   -- an entry is done
-  done-as : (now : List ℕ) (j : ℕ) → (ltb j c && (not (leb 4 (kindAt links j)) || leb 1 (valueAt now j))) ≡ doneAt (entries now) j
+  done-as : (now : List ℕ) (j : ℕ) → (ltb j c && (not (worksKind (kindAt links j)) || leb 1 (valueAt now j))) ≡ doneAt (entries now) j
   done-as now j = done-is links now c j (kindAt links j) (valueAt now j) refl refl
 
-  done-leaf : (now : List ℕ) (j : ℕ) → j < c → leb 4 (kindAt links j) ≡ false → doneAt (entries now) j ≡ true
+  done-leaf : (now : List ℕ) (j : ℕ) → j < c → worksKind (kindAt links j) ≡ false → doneAt (entries now) j ≡ true
   done-leaf now j l e = sym (done-as now j) ∙ rw (lt-ltb j c l, e)
 
   done-kept : (now : List ℕ) (j : ℕ) → j < c → 1 ≤ valueAt now j → doneAt (entries now) j ≡ true
-  done-kept now j l e = sym (done-as now j) ∙ rw (lt-ltb j c l, le-leb 1 (valueAt now j) e) (or-true (not (leb 4 (kindAt links j))))
+  done-kept now j l e = sym (done-as now j) ∙ rw (lt-ltb j c l, le-leb 1 (valueAt now j) e) (or-true (not (worksKind (kindAt links j))))
 
   done-stays : (now then : List ℕ) → ((j : ℕ) → 1 ≤ valueAt now j → 1 ≤ valueAt then j) → (j : ℕ) → doneAt (entries now) j ≡ true → doneAt (entries then) j ≡ true
   done-stays now then h j d =
       let b = and-eq-true-iff (ltb j c) _ .0 (done-as now j ∙ d) in
       let l = ltb-true j c (b .0) in
-      split (leb 4 (kindAt links j))
+      split (worksKind (kindAt links j))
       (λ e. done-kept then j l (h j (leb-true 1 (valueAt now j) (rw e at (b .1)))))
       (λ e. done-leaf then j l e)
 
@@ -135,16 +136,16 @@ module _ (m : Memory) (f : fits m ≡ true) (well : Well m) (sound : All IsReadi
 
   -- the frame that goes with them, where all that is flagged below i is done
   record Framed (i : ℕ) (now frame : List ℕ) : Type 0 where
-    size : length frame ≡ 512
+    size : length frame ≡ tableEntries
     cells : Cells r frame
-    work : (j : ℕ) → j ≤ n → leb 4 (kindAt links j) ≡ true → getD frame j 0 ≡ valueAt now j
+    work : (j : ℕ) → j ≤ n → worksKind (kindAt links j) ≡ true → getD frame j 0 ≡ valueAt now j
     done : (j : ℕ) → j < i → Flagged flags j → doneAt (entries now) j ≡ true
 
   node-key : (now : List ℕ) → ((j : ℕ) → keyAt now j ≡ keyAt (m .cells) j) → (j : ℕ) → nodeAt links now j ≡ nodeAt links (m .cells) j
   unfolding nodeAt
   node-key now h j = λ t. record { kind = kindAt links j; key = h j t; first = firstAt links j; second = secondAt links j }
 
-  function-named : (i : ℕ) → i < c → kindAt links i ≡ 4 → isName (keyAt (m .cells) i) ≡ true
+  function-named : (i : ℕ) → i < c → kindAt links i ≡ functionKind → isName (keyAt (m .cells) i) ≡ true
   unfolding nodeAt keyRight
   function-named i l e = rw e at (right-key i (nodeAt links (m .cells) i) (well .right i l))
 
@@ -156,7 +157,7 @@ module _ (m : Memory) (f : fits m ≡ true) (well : Well m) (sound : All IsReadi
       where
         here : Flagged flags i → doneAt (entries now) i ≡ true
         here t =
-            split (leb 4 (kindAt links i))
+            split (worksKind (kindAt links i))
             (λ k.
             let w = g .work i most k in
             let z : eqb (getD frame i 0) 0 ≡ false = rw (eq-eqb (getD flags i 0) 1 t, k) at h in
@@ -172,13 +173,15 @@ module _ (m : Memory) (f : fits m ≡ true) (well : Well m) (sound : All IsReadi
       unfolding chosen
       flagged = eqb-true (getD flags i 0) 1 (and-eq-true-iff (eqb (getD flags i 0) 1) _ .0 h .0)
 
-      works : leb 4 (kindAt links i) ≡ true
+      works : worksKind (kindAt links i) ≡ true
       unfolding chosen
-      works = and-eq-true-iff (leb 4 (kindAt links i)) _ .0 (and-eq-true-iff (eqb (getD flags i 0) 1) _ .0 h .1) .0
+      works = and-eq-true-iff (worksKind (kindAt links i)) _ .0 (and-eq-true-iff (eqb (getD flags i 0) 1) _ .0 h .1) .0
 
       empty : valueAt now i ≡ 0
       unfolding chosen
-      empty = sym (g .work i most works) ∙ eqb-true (getD frame i 0) 0 (and-eq-true-iff (leb 4 (kindAt links i)) _ .0 (and-eq-true-iff (eqb (getD flags i 0) 1) _ .0 h .1) .1)
+      empty =
+          sym (g .work i most works)
+          ∙ eqb-true (getD frame i 0) 0 (and-eq-true-iff (worksKind (kindAt links i)) _ .0 (and-eq-true-iff (eqb (getD flags i 0) 1) _ .0 h .1) .1)
 
       abbrev v : ℕ
       v = value frame i
@@ -189,13 +192,14 @@ module _ (m : Memory) (f : fits m ≡ true) (well : Well m) (sound : All IsReadi
       right-value : Right r (kindAt links i) v
       right-value =
           let k = well .readings in
-          apply-packed (graph links waits xs) r (omega arith) (reading-small xs sound) 511 frame i (g .cells) (le-ltb (kindAt links i) 4 (leb-true 4 (kindAt links i) works))
+          apply-packed (graph links waits xs) r (omega arith) (reading-small xs sound) 511 frame i (g .cells)
+          (le-ltb (kindAt links i) functionKind (leb-true functionKind (kindAt links i) works))
 
       above : 1 ≤ v
       unfolding isPacked
       above = split (eqb v 0) (λ e. let q = eqb-true v 0 e in impossible (rw q at (right-value .packed))) (λ e. let q = eqb-false v 0 e in omega arith)
 
-      works-here : leb 4 (nodeAt links (m .cells) i .kind) ≡ true
+      works-here : worksKind (nodeAt links (m .cells) i .kind) ≡ true
       unfolding nodeAt
       works-here = works
 
@@ -319,7 +323,7 @@ module _ (m : Memory) (f : fits m ≡ true) (well : Well m) (sound : All IsReadi
       (λ h. rw h (loop a k (suc i) now frame count (omega arith) s (passed i now frame (omega arith) s g h)))
 
   abbrev first : List ℕ
-  first = startFrom (length xs) links (m .cells) (suc n) 0 (replicate 512 0)
+  first = startFrom (length xs) links (m .cells) (suc n) 0 (replicate tableEntries 0)
 
   kept-cell : (j : ℕ) → j < c → Cell r (valueAt (m .cells) j)
   unfolding keptOk keptRight keptAt
@@ -327,13 +331,15 @@ module _ (m : Memory) (f : fits m ≡ true) (well : Well m) (sound : All IsReadi
       let x = valueAt (m .cells) j in
       let k = and-eq-true-iff (settled (entries (m .cells)) (entryAt links (m .cells) j)) _ .0 (well .kept j l) .1 in
       let b = and-eq-true-iff (namesRight (keptAt (m .cells) j)) _ .0 k .1 in
-      split (eqb x 0) (λ e. inl (eqb-true x 0 e)) (λ e. inr (and-eq-true-iff (leb 4 (nodeAt links (m .cells) j .kind)) _ .0 (rw e at b) .1))
+      split (eqb x 0) (λ e. inl (eqb-true x 0 e)) (λ e. inr (and-eq-true-iff (worksKind (nodeAt links (m .cells) j .kind)) _ .0 (rw e at b) .1))
 
   start-cell : (j : ℕ) → j < c → Cell r (startAt (length xs) links (m .cells) j)
   unfolding startAt
   start-cell j l =
       let k = well .readings in
-      rw recorded (split (ltb (kindAt links j) 4) (λ e. rw e (inr (leaf-packed r (kindAt links j) (keyAt (m .cells) j) k))) (λ e. rw e (kept-cell j l)))
+      rw recorded (split (ltb (kindAt links j) functionKind)
+      (λ e. rw e (inr (leaf-packed r (kindAt links j) (keyAt (m .cells) j) k)))
+      (λ e. rw e (kept-cell j l)))
 
   at-first : Framed 0 (m .cells) first
   unfolding startAt
@@ -341,8 +347,12 @@ module _ (m : Memory) (f : fits m ≡ true) (well : Well m) (sound : All IsReadi
       let few = well .few in
       record {
         size = start-length (length xs) links (m .cells) (suc n);
-        cells = start-cells r (length xs) links (m .cells) (suc n) 0 (replicate 512 0) (zeros r 512) (λ j l. start-cell j (omega arith));
-        work = λ j l k. start-at (length xs) links (m .cells) (suc n) j (omega arith) (omega arith) ∙ rw (le-ltb (kindAt links j) 4 (leb-true 4 (kindAt links j) k));
+        cells =
+            start-cells r (length xs) links (m .cells) (suc n) 0 (replicate tableEntries 0) (zeros r tableEntries)
+            (λ j l. start-cell j (omega arith));
+        work = λ j l k.
+            start-at (length xs) links (m .cells) (suc n) j (omega arith) (omega arith)
+            ∙ rw (le-ltb (kindAt links j) functionKind (leb-true functionKind (kindAt links j) k));
         done = λ j l t. absurd (omega arith);
       }
 

@@ -11,6 +11,7 @@ use lib.IntN.{ℤ, pos}
 use lib.ListN.{length, getD}
 use lib.Signed.{mag}
 use Rattle.language.specs.Cases.{impossible, split, by-cond}
+use Rattle.language.specs.Limits.{tableReadings}
 use Rattle.members.specs.Members.{row}
 use Rattle.members.specs.declared.Member.{Member}
 use Rattle.rules.specs.declared.Value.{Value}
@@ -150,7 +151,8 @@ unfolding namesRight
 keeps-function n x p k = record { names = rw p; packed = kept-passes n Function k; above = packed-above Function; mark = rw (round Function tt) }
 
 -- what a proper form shows
-module _ (xs : List ℤ) (short : length xs ≤ 1024) (small : (i : ℕ) → i < length xs → mag (getD xs i (pos 0)) < 2147483648) (f : Form) (d : Deep f) where
+module _ (xs : List ℤ) (short : length xs ≤ tableReadings) (small : (i : ℕ) → i < length xs → mag (getD xs i (pos 0)) < 2147483648) (f : Form)
+    (d : Deep f) where
   by : (v : Value) → valueOf (evaluate xs nowhere f) ≡ v → Keepable (length xs) v → Keeps (length xs) (shownAs f v)
   by (Number z) e k = keeps-plain (length xs) (Number z) (aNumber z) k (λ q. never (cc)) (λ q. never (cc)) refl refl
   by (Window s l) e k = keeps-plain (length xs) (Window s l) (aWindow s l) k (λ q. never (cc)) (λ q. never (cc)) refl refl

@@ -11,6 +11,7 @@ use lib.IntN.{ℤ, pos, negsuc}
 use lib.ListN.{length, getD}
 use lib.Signed.{mag}
 use Rattle.language.specs.Cases.{impossible, split, either, or-right}
+use Rattle.language.specs.Limits.{tableReadings}
 use Rattle.members.specs.declared.Member.{Member}
 use Rattle.grammar.specs.KeptLimits.{InRange}
 use Rattle.rules.specs.declared.Value.{Value}
@@ -129,7 +130,7 @@ pub name-of : (f : Form) → Deep f → (y : ℕ) → Has y (awaited f) → isNa
 name-of f d y h = d (variable y) (awaited-within y f h) .shape
 
 -- every value in an evaluation may be kept
-module _ (xs : List ℤ) (short : length xs ≤ 1024) (small : (i : ℕ) → i < length xs → mag (getD xs i (pos 0)) < 2147483648) where
+module _ (xs : List ℤ) (short : length xs ≤ tableReadings) (small : (i : ℕ) → i < length xs → mag (getD xs i (pos 0)) < 2147483648) where
   abbrev Fits : Value → Type 0
   Fits = Keepable (length xs)
 

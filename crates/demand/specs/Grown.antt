@@ -66,7 +66,8 @@ module _ (m : Memory) (f : fits m ≡ true) (w : wellFormed m ≡ true) where
   abbrev fs : List Form
   fs = formsOf ns
 
-  module _ (n : Node) (ms : List Node) (room : entryCount m < 512) (placed : AllPlaced formulas nodes 0 (ns ++ (n ∷ ms))) (apart : Distinct sameNode (ns ++ (n ∷ ms)))
+  module _ (n : Node) (ms : List Node) (room : entryCount m < tableEntries) (placed : AllPlaced formulas nodes 0 (ns ++ (n ∷ ms)))
+      (apart : Distinct sameNode (ns ++ (n ∷ ms)))
       (proper : Proper (build n (formAt formulas nodes fs))) where
     here : Placed formulas nodes (length ns) n
     here = decodes formulas nodes graph-laws (ns ++ (n ∷ ms)) placed .placed (length ns) n (nth-seam ns n ms)
@@ -87,12 +88,13 @@ module _ (m : Memory) (f : fits m ≡ true) (w : wellFormed m ≡ true) where
 
 -- ---- all of them
 
-appended : (m : Memory) (new : List Node) → fits m ≡ true → wellFormed m ≡ true → entryCount m + length new ≤ 512 → AllPlaced formulas nodes 0 (nodesOf (entriesOf m) ++ new)
+appended : (m : Memory) (new : List Node) → fits m ≡ true → wellFormed m ≡ true → entryCount m + length new ≤ tableEntries
+    → AllPlaced formulas nodes 0 (nodesOf (entriesOf m) ++ new)
     → Distinct sameNode (nodesOf (entriesOf m) ++ new) → All Proper (Binder.recordForms formulas nodes (formsOf (nodesOf (entriesOf m))) (map Binder.fresh new)) → wellFormed (appendAll m new) ≡ true
 unfolding appendAll Binder.recordForms Binder.recordForm
 appended m [] f w l p d q = w
 appended m (n ∷ ms) f w l p d q =
-    let room : entryCount m < 512 = omega arith in
+    let room : entryCount m < tableEntries = omega arith in
     let c = append-count m n f in
     let e = nodes-more m f w n ms room p d (q .0) in
     let a : nodesOf (entriesOf (append m n)) ++ ms ≡ nodesOf (entriesOf m) ++ (n ∷ ms) = ap (λ (l : List Node). l ++ ms) e ∙ append-assoc (nodesOf (entriesOf m)) (n ∷ []) ms in

@@ -11,6 +11,7 @@ use lib.Dec.{eqb}
 use lib.ListN.{length, getD, getElem?, set, replicate, length-set, length-replicate}
 use lib.Seq.{getD-set-same, getD-set-other}
 use Rattle.language.specs.Cases.{split}
+use Rattle.language.specs.Limits.{tableEntries}
 use Rattle.model.specs.Lists.{member}
 use Rattle.model.specs.ListLaws.{nth-map}
 use Rattle.model.specs.Graph.{among, linksAt, decodes}
@@ -94,10 +95,10 @@ raised-kids i _ k flags h (aCall m f a q) lower =
 
 -- the flags in cells are these
 record Flags (cells : List ℕ) (flag : ℕ → Bool) : Type 0 where
-  long : length cells ≡ 512
+  long : length cells ≡ tableEntries
   same : (j : ℕ) → eqb (getD cells j 0) 1 ≡ flag j
 
-module _ (m : Memory) (o : Ok m) (n : ℕ) (few : entryCount m ≤ 512) (inside : n < entryCount m) where
+module _ (m : Memory) (o : Ok m) (n : ℕ) (few : entryCount m ≤ tableEntries) (inside : n < entryCount m) where
   abbrev ns : List Node
   ns = nodesOf (entriesOf m)
 
@@ -132,18 +133,18 @@ module _ (m : Memory) (o : Ok m) (n : ℕ) (few : entryCount m ≤ 512) (inside 
       (λ t. rw (s .same i ∙ t) (sweeps i cells (spread linked i flag) (omega arith) (stays i cells flag t s) j))
 
   -- at first n alone is flagged
-  first : Flags (set (replicate 512 0) n 1) (λ (j : ℕ). eqb j n)
+  first : Flags (set (replicate tableEntries 0) n 1) (λ (j : ℕ). eqb j n)
   first =
-      let l = length-replicate {A = ℕ} 512 0 in
+      let l = length-replicate {A = ℕ} tableEntries 0 in
       record {
-        long = length-set (replicate 512 0) n 1 ∙ l;
+        long = length-set (replicate tableEntries 0) n 1 ∙ l;
         same = λ j.
-            flag-set (replicate 512 0) n j (omega arith)
-            ∙ rw (flag-zero 512 j)
+            flag-set (replicate tableEntries 0) n j (omega arith)
+            ∙ rw (flag-zero tableEntries j)
             (split (eqb n j) (λ e. rw (e, eq-eqb j n (sym (eqb-true n j e)))) (λ e. rw (e, ne-eqb j n (λ q. eqb-false n j e (sym q)))));
       }
 
   -- the code's flags are the model's
   pub needs : (j : ℕ) → eqb (getD (needOf (m .links) n) j 0) 1 ≡ needed formulas nodes (nodesOf (entriesOf m)) n j
   unfolding needOf
-  needs j = sweeps (suc n) (set (replicate 512 0) n 1) (λ (k : ℕ). eqb k n) (omega arith) first j
+  needs j = sweeps (suc n) (set (replicate tableEntries 0) n 1) (λ (k : ℕ). eqb k n) (omega arith) first j

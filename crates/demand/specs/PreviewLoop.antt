@@ -13,6 +13,7 @@ use lib.IntN.{ℤ}
 use lib.ListN.{length, getD, set, getElem?, length-set}
 use lib.Seq.{getD-set-same, getD-set-other}
 use Rattle.language.specs.Cases.{split}
+use Rattle.language.specs.Limits.{tableEntries}
 use Rattle.values.specs.Packing.{packOf}
 use Rattle.meaning.specs.Forms.{Form, readings, works, nameOf}
 use Rattle.meaning.specs.Evaluation.{valueOf, nowhere, evaluate, awaited, Shown, shows}
@@ -24,6 +25,7 @@ use Rattle.model.specs.Previews.{markAt, upward, chosenFrom}
 use Rattle.layout.specs.Memory.{Kept, keptAt, entriesFrom, nothingKept}
 use Rattle.layout.specs.Links.{entryCells, kindAt, keyAt, valueAt}
 use Rattle.layout.specs.LinksLaws.{kept-length as keep-length, kept-key as keep-key, kept-apart as keep-apart, kept-here as keep-here}
+use Rattle.layout.specs.Nodes.{functionKind, worksKind}
 use Rattle.table.specs.Waits.{slotA, slotB}
 use Rattle.evaluator.specs.Applying.{graph, applyAt}
 use Rattle.schedule.specs.Works.{chosen, nameFor, otherFor, kept, workFrom}
@@ -109,8 +111,8 @@ pub record Ready (links cells waits flags : List ℕ) (xs : List ℤ) (fs : List
   pub good : Good links cells waits xs (suc n) (formAt fs)
   pub names : (i : ℕ) → i ≤ n → slotNames cells (getD waits i 0) ≡ awaited (formAt fs i)
   pub full : (i : ℕ) → i ≤ n → leb 1 (slotA (getD waits i 0)) ≡ false → leb 1 (slotB (getD waits i 0)) ≡ false
-  pub keys : (i : ℕ) → i ≤ n → 4 ≤ kindAt links i → keyAt cells i ≡ nameOf (formAt fs i)
-  pub works : (i : ℕ) → i < c → works (formAt fs i) ≡ leb 4 (kindAt links i)
+  pub keys : (i : ℕ) → i ≤ n → functionKind ≤ kindAt links i → keyAt cells i ≡ nameOf (formAt fs i)
+  pub works : (i : ℕ) → i < c → works (formAt fs i) ≡ worksKind (kindAt links i)
   pub marks : (i : ℕ) → i < c → markOf (keptFor (shownAt xs fs i)) ≡ some (shownAt xs fs i)
   -- what is flagged, and what it depends on
   pub told : (i : ℕ) → eqb (getD flags i 0) 1 ≡ flag i
@@ -124,9 +126,9 @@ pub record Stored (cells : List ℕ) (xs : List ℤ) (fs : List Form) (c : ℕ) 
 
 -- the frame that goes with them, where all that is flagged below i is done
 pub record Framed (links : List ℕ) (xs : List ℤ) (fs : List Form) (n : ℕ) (flag : ℕ → Bool) (i : ℕ) (now frame : List ℕ) : Type 0 where
-  pub size : length frame ≡ 512
-  pub leaf : (j : ℕ) → j ≤ n → kindAt links j < 4 → getD frame j 0 ≡ cellAt xs fs j
-  pub work : (j : ℕ) → j ≤ n → 4 ≤ kindAt links j → getD frame j 0 ≡ valueAt now j
+  pub size : length frame ≡ tableEntries
+  pub leaf : (j : ℕ) → j ≤ n → kindAt links j < functionKind → getD frame j 0 ≡ cellAt xs fs j
+  pub work : (j : ℕ) → j ≤ n → functionKind ≤ kindAt links j → getD frame j 0 ≡ valueAt now j
   pub done : (j : ℕ) → j < i → flag j ≡ true → getD frame j 0 ≡ cellAt xs fs j
 
 -- the loop
@@ -156,13 +158,14 @@ module _ (links cells waits flags : List ℕ) (xs : List ℤ) (fs : List Form) (
   neither false true = refl
   neither false false = refl
 
-  chosen-same : (i : ℕ) (now frame : List ℕ) → i ≤ n → ((4 ≤ kindAt links i) → getD frame i 0 ≡ valueAt now i) → chosen links flags frame i ≡ picks now i
+  chosen-same : (i : ℕ) (now frame : List ℕ) → i ≤ n → ((functionKind ≤ kindAt links i) → getD frame i 0 ≡ valueAt now i)
+      → chosen links flags frame i ≡ picks now i
   unfolding chosen keptAt
   chosen-same i now frame h e =
       let l = ready .inside in
       rw (held-nth links fs c now i (ready .size) (omega arith), ready .told i, ready .works i (omega arith))
-      (split (leb 4 (kindAt links i))
-      (λ p. rw (p, e (leb-true 4 (kindAt links i) p)) (swap (flag i) (eqb (valueAt now i) 0) _))
+      (split (worksKind (kindAt links i))
+      (λ p. rw (p, e (leb-true functionKind (kindAt links i) p)) (swap (flag i) (eqb (valueAt now i) 0) _))
       (λ p. rw p (neither (flag i) (not (isSome (markOf (keptAt now i)))))))
 
   -- what a flagged entry sees is flagged
@@ -190,9 +193,10 @@ module _ (links cells waits flags : List ℕ) (xs : List ℤ) (fs : List Form) (
             let q = eqb-true j i e in
             let t : eqb (getD flags i 0) 1 ≡ true = ready .told i ∙ rw q at f in
             rw q
-            (split (leb 4 (kindAt links i))
-            (λ k. let w = g .work i most (leb-true 4 (kindAt links i) k) in w ∙ kept-value i now (rw (t, k, w) at h) (s .kept i (omega arith)))
-            (λ k. g .leaf i most (leb-false 4 (kindAt links i) k))))
+            (split (worksKind (kindAt links i))
+            (λ k. let w = g .work i most (leb-true functionKind (kindAt links i) k) in
+            w ∙ kept-value i now (rw (t, k, w) at h) (s .kept i (omega arith)))
+            (λ k. g .leaf i most (leb-false functionKind (kindAt links i) k))))
             (λ e. let q = eqb-false j i e in g .done j (omega arith) f)
 
     -- an entry that is chosen, worked out
@@ -201,17 +205,20 @@ module _ (links cells waits flags : List ℕ) (xs : List ℤ) (fs : List Form) (
       unfolding chosen
       flagged = sym (ready .told i) ∙ and-eq-true-iff (eqb (getD flags i 0) 1) _ .0 h .0
 
-      kind : 4 ≤ kindAt links i
+      kind : functionKind ≤ kindAt links i
       unfolding chosen
-      kind = leb-true 4 (kindAt links i) (and-eq-true-iff (leb 4 (kindAt links i)) _ .0 (and-eq-true-iff (eqb (getD flags i 0) 1) _ .0 h .1) .0)
+      kind =
+          leb-true functionKind (kindAt links i)
+          (and-eq-true-iff (worksKind (kindAt links i)) _ .0 (and-eq-true-iff (eqb (getD flags i 0) 1) _ .0 h .1) .0)
 
       abbrev v : ℕ
       v = cellAt xs fs i
 
-      value-right : applyAt (graph links waits xs) 512 frame i ≡ v
+      value-right : applyAt (graph links waits xs) tableEntries frame i ≡ v
       value-right =
           let most′ = ready .good .most in
-          apply-right links cells waits xs (suc n) φ (ready .good) 512 nowhere tt frame i (omega arith) (omega arith) kind (g .size) (λ m l t. g .done m l (seen i m most t flagged))
+          apply-right links cells waits xs (suc n) φ (ready .good) tableEntries nowhere tt frame i (omega arith) (omega arith) kind (g .size)
+          (λ m l t. g .done m l (seen i m most t flagged))
 
       abbrev then : List ℕ
       then = kept now i v (getD waits i 0)
@@ -276,7 +283,8 @@ module _ (links cells waits flags : List ℕ) (xs : List ℤ) (fs : List Form) (
   value es p = shownAt xs fs p
 
   pub loop : (a k i : ℕ) (now frame : List ℕ) (count : ℕ) → i + k ≡ suc n → count ≤ a → Keeping now → Going i now frame
-      → Left (workFrom (applyAt (graph links waits xs) 512) links waits flags a k i now frame count .cells) (upward formulas flag value k i (a - count) (held links fs c now))
+      → Left (workFrom (applyAt (graph links waits xs) tableEntries) links waits flags a k i now frame count .cells)
+      (upward formulas flag value k i (a - count) (held links fs c now))
   unfolding workFrom upward
   loop a zero i now frame count e h s g = record { stored = s; entries = refl }
   loop a (suc k) i now frame count e h s g =
@@ -301,7 +309,7 @@ module _ (links cells waits flags : List ℕ) (xs : List ℤ) (fs : List Form) (
       (loop a k (suc i) now frame count (omega arith) h s (passed i now frame (omega arith) s g p)))
 
   -- how many entries are chosen
-  pub counts : (k i : ℕ) (now frame : List ℕ) → i + k ≡ suc n → ((j : ℕ) → j ≤ n → 4 ≤ kindAt links j → getD frame j 0 ≡ valueAt now j)
+  pub counts : (k i : ℕ) (now frame : List ℕ) → i + k ≡ suc n → ((j : ℕ) → j ≤ n → functionKind ≤ kindAt links j → getD frame j 0 ≡ valueAt now j)
       → chosenIn links flags frame k i ≡ chosenFrom formulas flag k i (held links fs c now)
   unfolding chosenIn chosenFrom
   counts zero i now frame e w = refl

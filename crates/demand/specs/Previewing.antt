@@ -8,11 +8,12 @@ use Prim.Native.Nat.{ℕ, zero, suc, _+_, _-_, _<_, _≤_, min}
 use native.Mathlib.Nat.{sub-zero}
 use native.Mathlib.Omega.{arith}
 use borrow.Author.Tests.{eq-eqb, ne-eqb, le-leb, lt-leb, lt-ltb, le-ltb, leb-true, leb-false, ltb-true, ltb-false}
-use lib.Dec.{eqb, leb, ltb}
+use lib.Dec.{eqb, ltb}
 use lib.IntN.{ℤ, pos}
 use lib.ListN.{length, getD, getElem?, replicate, length-take, length-map}
 use lib.Signed.{mag}
 use Rattle.language.specs.Cases.{impossible, split}
+use Rattle.language.specs.Limits.{tableEntries}
 use Rattle.meaning.specs.Forms.{Form, readings, works, nameOf, same, dependency, within}
 use Rattle.meaning.specs.Evaluation.{awaited, shows}
 use Rattle.model.specs.Lists.{All, countIf, index}
@@ -25,7 +26,7 @@ use Rattle.model.specs.Graph.{among, Stands, linksAt, decodes}
 use Rattle.model.specs.Sweep.{needed, swept, linked}
 use Rattle.model.specs.Previews.{Values, counts-as-model, works-as-model}
 use Rattle.layout.specs.Memory.{Memory, Node, Entry, entryCount, readingCount, recordingOf, nodeAt, keptAt, entryAt, entriesFrom, entriesOf, nodesOf, nothingKept}
-use Rattle.layout.specs.Nodes.{memberKind, kids, build}
+use Rattle.layout.specs.Nodes.{functionKind, memberKind, worksKind, kids, build}
 use Rattle.table.specs.Right.{nodeRight}
 use Rattle.layout.specs.Numbered.{numbered}
 use Rattle.table.specs.WellFormed.{wellFormed}
@@ -60,14 +61,19 @@ use Rattle.demand.specs.PreviewLoop.{formAt, shownAt, held-nth, Ready, S
 
 -- what a node says of its form: whether it is worked out, the name that a function shows, and its links
 record Says (n : Node) (φ : ℕ → Form) : Type 0 where
-  works : works (build n φ) ≡ leb 4 (n .kind)
-  key : 4 ≤ n .kind → n .key ≡ nameOf (build n φ)
+  works : works (build n φ) ≡ worksKind (n .kind)
+  key : functionKind ≤ n .kind → n .key ≡ nameOf (build n φ)
   first : (d : ℕ) → n .first ≡ suc d → among d (kids n) ≡ true
   second : (d : ℕ) → n .second ≡ suc d → among d (kids n) ≡ true
 
-says-leaf : (n : Node) (φ : ℕ → Form) → n .kind < 4 → n .first ≡ 0 → n .second ≡ 0 → works (build n φ) ≡ false → Says n φ
+says-leaf : (n : Node) (φ : ℕ → Form) → n .kind < functionKind → n .first ≡ 0 → n .second ≡ 0 → works (build n φ) ≡ false → Says n φ
 says-leaf n φ k p q e =
-    record { works = e ∙ sym (lt-leb 4 (n .kind) k); key = λ h. absurd (omega arith); first = λ d g. absurd (omega arith); second = λ d g. absurd (omega arith) }
+    record {
+      works = e ∙ sym (lt-leb functionKind (n .kind) k);
+      key = λ h. absurd (omega arith);
+      first = λ d g. absurd (omega arith);
+      second = λ d g. absurd (omega arith);
+    }
 
 says : (n : Node) (φ : ℕ → Form) → Fine n → Says n φ
 unfolding build works nameOf
@@ -84,14 +90,14 @@ says _ φ (aFunction x b) =
     }
 says _ φ (anAsk m f e) =
     record {
-      works = rw (build-ask m f φ e) (sym (le-leb 4 (memberKind m) (omega arith)));
+      works = rw (build-ask m f φ e) (sym (le-leb functionKind (memberKind m) (omega arith)));
       key = λ h. rw (build-ask m f φ e);
       first = λ d g. let q : d ≡ f = omega arith in among-by d _ _ (kids-ask m f e) (rw q (among-first f []));
       second = λ d g. absurd (omega arith);
     }
 says _ φ (aCall m f a e) =
     record {
-      works = rw (build-call m f a φ e) (sym (le-leb 4 (memberKind m) (omega arith)));
+      works = rw (build-call m f a φ e) (sym (le-leb functionKind (memberKind m) (omega arith)));
       key = λ h. rw (build-call m f a φ e);
       first = λ d g. let q : d ≡ f = omega arith in among-by d _ _ (kids-call m f a e) (rw q (among-first f (a ∷ [])));
       second = λ d g. let q : d ≡ a = omega arith in among-by d _ _ (kids-call m f a e) (rw q (among-second f a));
@@ -117,9 +123,10 @@ count-zero p (y ∷ xs) zero x h e = let q : y ≡ x = cc in split (p x) (λ t. 
 count-zero p (y ∷ xs) (suc i) x h e = split (p y) (λ t. absurd (let g = rw t at h in omega arith)) (λ t. count-zero p xs i x (rw t at h) e)
 
 -- a leaf shows the same over cells with the same keys
-leaf-stays : (size : ℕ) (links cells now : List ℕ) (n : ℕ) → kindAt links n < 4 → keyAt now n ≡ keyAt cells n → showOf size links now n ≡ showOf size links cells n
+leaf-stays : (size : ℕ) (links cells now : List ℕ) (n : ℕ) → kindAt links n < functionKind → keyAt now n ≡ keyAt cells n
+    → showOf size links now n ≡ showOf size links cells n
 unfolding showOf startAt
-leaf-stays size links cells now n k e = rw (lt-ltb (kindAt links n) 4 k, e)
+leaf-stays size links cells now n k e = rw (lt-ltb (kindAt links n) functionKind k, e)
 
 -- a form for each entry
 entries-held : (m : Memory) → length (Model.forms formulas (holds m .entries)) ≡ entryCount m
@@ -154,7 +161,7 @@ module _ (m : Memory) (o : Ok m) (i : Invariant formulas formula-laws (holds m))
   stands : Stands formulas nodes ns fs
   stands = decodes formulas nodes graph-laws ns (o .placed)
 
-  few : entryCount m ≤ 512
+  few : entryCount m ≤ tableEntries
   few = well-parts m well .few
 
   recorded : length xs ≡ readingCount m
@@ -209,7 +216,7 @@ module _ (m : Memory) (o : Ok m) (i : Invariant formulas formula-laws (holds m))
       reached d (omega arith) ∙ reach-down formulas (formula-laws .tests) (φ d) (φ j) (φ n) c (sym (reached j (omega arith)) ∙ f)
 
   abbrev awaits : List ℕ
-  awaits = waitsFrom (m .links) (m .cells) (suc n) 0 (replicate 512 0)
+  awaits = waitsFrom (m .links) (m .cells) (suc n) 0 (replicate tableEntries 0)
 
   abbrev flags : List ℕ
   flags = needOf (m .links) n
@@ -257,7 +264,7 @@ module _ (m : Memory) (o : Ok m) (i : Invariant formulas formula-laws (holds m))
           inr (w .1 ∙ ap keptFor v)
 
   abbrev frame : List ℕ
-  frame = startFrom (length xs) (m .links) (m .cells) (suc n) 0 (replicate 512 0)
+  frame = startFrom (length xs) (m .links) (m .cells) (suc n) 0 (replicate tableEntries 0)
 
   framed : Framed (m .links) xs fs n flag 0 (m .cells) frame
   unfolding startAt
@@ -266,7 +273,8 @@ module _ (m : Memory) (o : Ok m) (i : Invariant formulas formula-laws (holds m))
       record {
         size = start-length (length xs) (m .links) (m .cells) (suc n);
         leaf = λ j h k. start-at (length xs) (m .links) (m .cells) (suc n) j (omega arith) (omega arith) ∙ rw recorded (leaf-value m o i j (omega arith) k);
-        work = λ j h k. start-at (length xs) (m .links) (m .cells) (suc n) j (omega arith) (omega arith) ∙ rw (le-ltb (kindAt (m .links) j) 4 k);
+        work = λ j h k.
+            start-at (length xs) (m .links) (m .cells) (suc n) j (omega arith) (omega arith) ∙ rw (le-ltb (kindAt (m .links) j) functionKind k);
         done = λ j h f. absurd (omega arith);
       }
 
@@ -316,13 +324,13 @@ module _ (m : Memory) (o : Ok m) (i : Invariant formulas formula-laws (holds m))
     count-is : w .count ≡ min a (Model.left formulas f es)
     unfolding worked
     count-is =
-        work-count (applyAt (graph (m .links) awaits xs) 512) (m .links) awaits flags a (suc n) 0 (m .cells) frame 0 (omega arith)
+        work-count (applyAt (graph (m .links) awaits xs) tableEntries) (m .links) awaits flags a (suc n) 0 (m .cells) frame 0 (omega arith)
         ∙ rw pending (omega arith)
 
     left-is : w .left ≡ ltb a (Model.left formulas f es)
     unfolding worked
     left-is =
-        work-left (applyAt (graph (m .links) awaits xs) 512) (m .links) awaits flags a (suc n) 0 (m .cells) frame 0 (omega arith)
+        work-left (applyAt (graph (m .links) awaits xs) tableEntries) (m .links) awaits flags a (suc n) 0 (m .cells) frame 0 (omega arith)
         ∙ rw (pending, sub-zero a)
 
     left-after : Model.left formulas f after ≡ Model.left formulas f es - a
@@ -350,7 +358,7 @@ module _ (m : Memory) (o : Ok m) (i : Invariant formulas formula-laws (holds m))
         }
 
     -- where all is worked out, entry n keeps what it shows
-    unkept : {A : Type 0} → keptAt (w .cells) n ≡ nothingKept → leb 4 (kindAt (m .links) n) ≡ true → Model.left formulas f after ≡ 0 → A
+    unkept : {A : Type 0} → keptAt (w .cells) n ≡ nothingKept → worksKind (kindAt (m .links) n) ≡ true → Model.left formulas f after ≡ 0 → A
     unfolding Model.pending
     unkept q k z =
         let x = ap (λ (l : List (Model.Entry formulas)). getElem? l n) (sym (left .entries)) ∙ held-nth (m .links) fs (entryCount m) (w .cells) n size inside in
@@ -359,13 +367,14 @@ module _ (m : Memory) (o : Ok m) (i : Invariant formulas formula-laws (holds m))
 
     shown : Model.left formulas f after ≡ 0 → shownOf (showOf (readingCount m) (m .links) (w .cells) n) ≡ shows xs f
     shown z =
-        split (leb 4 (kindAt (m .links) n))
+        split (worksKind (kindAt (m .links) n))
         (λ k.
         ⊎-elim (λ q. unkept q k z)
-        (λ q. kept-view (readingCount m) (m .links) (w .cells) n (shows xs f) (leb-true 4 (kindAt (m .links) n) k) q (ready .marks n inside))
+        (λ q. kept-view (readingCount m) (m .links) (w .cells) n (shows xs f) (leb-true functionKind (kindAt (m .links) n) k) q
+        (ready .marks n inside))
         (left .stored .kept n inside))
         (λ k.
-        let low = leb-false 4 (kindAt (m .links) n) k in
+        let low = leb-false functionKind (kindAt (m .links) n) k in
         ap shownOf (leaf-stays (readingCount m) (m .links) (m .cells) (w .cells) n low (left .stored .keys n)) ∙ leaf-view m o i n inside low)
 
     answered : previewReply (previewedAs m n w) ≡ Model.previewed formulas (holds m) a f .answer

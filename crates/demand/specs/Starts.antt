@@ -13,6 +13,7 @@ use lib.IntN.{ℤ}
 use lib.ListN.{length, getD, set, replicate, length-set, length-replicate, length-take}
 use lib.Seq.{getD-set-same, getD-set-other}
 use Rattle.language.specs.Cases.{impossible, split}
+use Rattle.language.specs.Limits.{tableEntries, tableReadings}
 use Rattle.rules.specs.declared.Value.{Value}
 use Rattle.rules.specs.declared.Value.the-variants.{Number, Window, Function, Delayed, Missing}
 use Rattle.values.specs.Shown.{shownNumbers}
@@ -26,7 +27,7 @@ use Rattle.model.specs.ListLaws.{getD-nth}
 use Rattle.model.specs.Invariant.{Invariant}
 use Rattle.model.specs.Graph.{formAt, decodes}
 use Rattle.layout.specs.Memory.{Memory, Node, Kept, entryCount, readingCount, recordingOf, nodeAt, keptAt, entriesOf, nodesOf}
-use Rattle.layout.specs.Nodes.{build}
+use Rattle.layout.specs.Nodes.{variableKind, functionKind, build}
 use Rattle.table.specs.WellFormed.{keyRight}
 use Rattle.table.specs.Checked.{entriesRight}
 use Rattle.table.specs.CheckedLaws.{well-is}
@@ -75,11 +76,14 @@ module _ (size : ℕ) (links cells : List ℕ) where
             rw q (from-before k (suc i) (set frame i (startAt size links cells i)) i (omega arith) ∙ getD-set-same frame i (startAt size links cells i) 0 (omega arith))
       ]
 
-  pub start-length : (k : ℕ) → length (startFrom size links cells k 0 (replicate 512 0)) ≡ 512
-  start-length k = from-length k 0 (replicate 512 0) ∙ length-replicate {A = ℕ} 512 0
+  pub start-length : (k : ℕ) → length (startFrom size links cells k 0 (replicate tableEntries 0)) ≡ tableEntries
+  start-length k = from-length k 0 (replicate tableEntries 0) ∙ length-replicate {A = ℕ} tableEntries 0
 
-  pub start-at : (k j : ℕ) → j < k → k ≤ 512 → getD (startFrom size links cells k 0 (replicate 512 0)) j 0 ≡ startAt size links cells j
-  start-at k j h l = let n = length-replicate {A = ℕ} 512 0 in from-at k 0 (replicate 512 0) j (omega arith) (omega arith) (omega arith)
+  pub start-at : (k j : ℕ) → j < k → k ≤ tableEntries
+      → getD (startFrom size links cells k 0 (replicate tableEntries 0)) j 0 ≡ startAt size links cells j
+  start-at k j h l =
+      let n = length-replicate {A = ℕ} tableEntries 0 in
+      from-at k 0 (replicate tableEntries 0) j (omega arith) (omega arith) (omega arith)
 
 -- the value kept is that of the form
 value-kept : (f : Form) (v : Value) → keptFor (shownAs f v) .value ≡ packOf v
@@ -104,7 +108,8 @@ names-kept (aReason r) = (refl, refl)
 
 -- where w holds the names that the form awaits, the cells kept with its value are those of what it shows
 pub kept-cells : (cells : List ℕ) (i w : ℕ) (xs : List ℤ) (f : Form) → (leb 1 (slotA w) ≡ false → leb 1 (slotB w) ≡ false) → slotNames cells w ≡ awaited f
-    → Values.Keepable (length xs) (valueOf (evaluate xs nowhere f)) → length xs ≤ 1024 → (valueOf (evaluate xs nowhere f) ≡ Function → keyAt cells i ≡ nameOf f)
+    → Values.Keepable (length xs) (valueOf (evaluate xs nowhere f)) → length xs ≤ tableReadings
+    → (valueOf (evaluate xs nowhere f) ≡ Function → keyAt cells i ≡ nameOf f)
     → keptFor (shows xs f)
     ≡ record {
       value = packOf (valueOf (evaluate xs nowhere f));
@@ -137,21 +142,24 @@ shown-mark : (k : Kept) (v : Shown) → markOf k ≡ some v → shownIn k ≡ v
 shown-mark k v h = split (eqb (k .value) 0) (λ e. impossible (let z : none ≡ some v = rw e at h in cc)) (λ e. let z : some (shownIn k) ≡ some v = rw e at h in cc)
 
 -- what a member or a function shows, from its kept cells
-pub kept-view : (size : ℕ) (links cells : List ℕ) (n : ℕ) (v : Shown) → 4 ≤ kindAt links n → keptAt cells n ≡ keptFor v → markOf (keptFor v) ≡ some v
+pub kept-view : (size : ℕ) (links cells : List ℕ) (n : ℕ) (v : Shown) → functionKind ≤ kindAt links n → keptAt cells n ≡ keptFor v
+    → markOf (keptFor v) ≡ some v
     → shownOf (showOf size links cells n) ≡ v
 unfolding showOf startAt keptAt
 kept-view size links cells n v h e m =
-    let a : eqb (kindAt links n) 1 ≡ false = ne-eqb (kindAt links n) 1 (λ q. omega arith) in
-    rw (a, le-ltb (kindAt links n) 4 h) (shown-by (keptAt cells n) (unpackOf (keptAt cells n .value)) ∙ ap shownIn e ∙ shown-mark (keptFor v) v m)
+    let a : eqb (kindAt links n) variableKind ≡ false = ne-eqb (kindAt links n) variableKind (λ q. omega arith) in
+    rw (a, le-ltb (kindAt links n) functionKind h)
+    (shown-by (keptAt cells n) (unpackOf (keptAt cells n .value)) ∙ ap shownIn e ∙ shown-mark (keptFor v) v m)
 
 -- a leaf by its node: its value, which can be held, and what it shows
 record Leaf (xs : List ℤ) (n : Node) (f : Form) : Type 0 where
   value : leafOf (length xs) (n .kind) (n .key) ≡ packOf (valueOf (evaluate xs nowhere f))
   held : Values.Storable (valueOf (evaluate xs nowhere f))
   shown : (u : View) → (let s = shownNumbers (valueOf (evaluate xs nowhere f)) in
-      shownOf (cond (eqb (n .kind) 1) (view s (n .key) 0) (cond (ltb (n .kind) 4) (view s 0 0) u)) ≡ shows xs f)
+      shownOf (cond (eqb (n .kind) variableKind) (view s (n .key) 0) (cond (ltb (n .kind) functionKind) (view s 0 0) u)) ≡ shows xs f)
 
-leaf : (xs : List ℤ) (n : Node) (φ : ℕ → Form) → length xs ≤ 1024 → Fine n → keyRight n ≡ true → n .kind < 4 → Leaf xs n (build n φ)
+leaf : (xs : List ℤ) (n : Node) (φ : ℕ → Form) → length xs ≤ tableReadings → Fine n → keyRight n ≡ true → n .kind < functionKind
+    → Leaf xs n (build n φ)
 unfolding leafOf build evaluate valueOf lookup awaited shows shownOf keyRight
 leaf xs _ φ s (aNumber key) h k =
     let l = ltb-true key 4294967296 h in
@@ -165,7 +173,8 @@ leaf xs _ φ s (anAsk m f e) h k = absurd (omega arith)
 leaf xs _ φ s (aCall m f a e) h k = absurd (omega arith)
 
 -- entry j of a kept cache, where it is a leaf
-module _ (m : Memory) (o : Ok m) (i : Invariant formulas formula-laws (holds m)) (j : ℕ) (inside : j < entryCount m) (low : kindAt (m .links) j < 4) where
+module _ (m : Memory) (o : Ok m) (i : Invariant formulas formula-laws (holds m)) (j : ℕ) (inside : j < entryCount m)
+    (low : kindAt (m .links) j < functionKind) where
   abbrev fs : List Form
   fs = formsOf (nodesOf (entriesOf m))
 
@@ -176,7 +185,7 @@ module _ (m : Memory) (o : Ok m) (i : Invariant formulas formula-laws (holds m))
   unfolding entriesRight
   key-right =
       let w = sym (well-is (m .readings) (m .heads) (m .links) (m .cells)) ∙ accepted m o i in
-      let r = and-eq-true-iff (leb (readingCount m) 1024) _ .0 (and-eq-true-iff (leb (entryCount m) 512) _ .0 w .1) .1 in
+      let r = and-eq-true-iff (leb (readingCount m) tableReadings) _ .0 (and-eq-true-iff (leb (entryCount m) tableEntries) _ .0 w .1) .1 in
       right-key j node (right-at (m .links) (m .cells) (entryCount m) j (and-eq-true-iff _ _ .0 r .0) inside)
 
   leaf-at : Leaf (recordingOf m) node (getD fs j readings)
@@ -194,7 +203,8 @@ module _ (m : Memory) (o : Ok m) (i : Invariant formulas formula-laws (holds m))
       let l = lengths m (o .whole) .readings in
       let r = o .readings in
       let c : length (recordingOf m) ≡ readingCount m = length-take (readingCount m) (m .readings) ∙ omega arith in
-      rw (lt-ltb (kindAt (m .links) j) 4 low) (ap (λ (x : ℕ). leafOf x (kindAt (m .links) j) (keyAt (m .cells) j)) (sym c) ∙ leaf-at .value)
+      rw (lt-ltb (kindAt (m .links) j) functionKind low)
+      (ap (λ (x : ℕ). leafOf x (kindAt (m .links) j) (keyAt (m .cells) j)) (sym c) ∙ leaf-at .value)
 
   -- what it shows, as the answer's numbers
   pub leaf-view : shownOf (showOf (readingCount m) (m .links) (m .cells) j) ≡ shows (recordingOf m) (getD (formsOf (nodesOf (entriesOf m))) j readings)

@@ -4,6 +4,7 @@ use mathlib.Core.List.{List, [], _∷_, _++_}
 use Prim.Native.Nat.{ℕ, zero, suc, _+_, _*_, _/_, _%_, _≤_, _<_}
 use native.Mathlib.Omega.{arith}
 use lib.ListN.{length, getD}
+use Rattle.language.specs.Limits.{textParts}
 use Rattle.layout.specs.Memory.{Node, node}
 use Rattle.descent.specs.Descent.{linkWord}
 use Rattle.descent.specs.Cells.{words}
@@ -46,7 +47,8 @@ unfolding recordsFrom
 records-behind a b cells r zero = refl
 records-behind a b cells r (suc n) = rw (record-behind a b cells r, records-behind a b cells (suc r) n) refl
 
-pub records-back : (ns : List Node) (cells : List ℕ) (i : ℕ) → Earlier i ns → i + length ns ≤ 128 → recordsFrom (words ns ++ cells) 0 (length ns) ≡ ns
+pub records-back : (ns : List Node) (cells : List ℕ) (i : ℕ) → Earlier i ns → i + length ns ≤ textParts
+    → recordsFrom (words ns ++ cells) 0 (length ns) ≡ ns
 unfolding words recordsFrom recordAt
 records-back [] cells i h l = refl
 records-back (n ∷ ns) cells i h l =

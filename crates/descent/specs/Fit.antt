@@ -10,6 +10,7 @@ use lib.Dec.{leb, eqb, lit<}
 use lib.ListN.{getD, set}
 use lib.Seq.{getD-set-other}
 use borrow.Author.Tests.{leb-false, eqb-true, eqb-false}
+use Rattle.language.specs.Limits.{textParts}
 use Rattle.members.specs.MembersLaws.{number-below}
 use Rattle.grammar.specs.TokensLaws.{by-test}
 use Rattle.meaning.specs.Binding.{member}
@@ -47,7 +48,7 @@ besides (inArguments k marks depth) = 1
 besides (inMore k marks depth) = 1
 
 pub record Fit (m : Mode) (s : State) : Type 0 where
-  pub parts : s .cursor .parts ≤ 128
+  pub parts : s .cursor .parts ≤ textParts
   -- with the record that is owed for a call's part
   pub count : s .cursor .count + owed m ≤ s .cursor .parts
   pub marks : marksOf m + besides m ≤ 16

@@ -7,6 +7,7 @@ use native.Mathlib.Omega.{arith}
 use lib.Dec.{eqb, lit<}
 use lib.ListN.{getD}
 use borrow.Author.Tests.{eqb-true, eqb-false}
+use Rattle.language.specs.Limits.{textParts}
 use Rattle.language.specs.Names.{dataWord}
 use Rattle.grammar.specs.Tokens.{when}
 use Rattle.grammar.specs.TokensLaws.{by-test}
@@ -239,8 +240,8 @@ run-fits end f m s h z = fit-behind end (run end f) (run-keeps end f) (run-roots
 
 -- there is room for a record and for the place of its part
 pub record Room (p : ℕ) (s : State) : Type 0 where
-  pub count : s .cursor .count < 128
-  pub place : p < 128
+  pub count : s .cursor .count < textParts
+  pub place : p < textParts
 
 -- behind the token of a part: a name, a number, or the head of a let
 pub room-part : (w : Bool) (marks depth p : ℕ) (s : State) (c : Cursor) → Fit (inExpression w marks depth) s → Moved p 1 (s .cursor) c → c .number ≡ 0

@@ -9,6 +9,7 @@ use lib.Dec.{leb, eqb, lit<}
 use lib.IntN.{ℤ}
 use lib.ListN.{length}
 use borrow.Author.Tests.{leb-false, eqb-true, eqb-false}
+use Rattle.language.specs.Limits.{textParts}
 use Rattle.language.specs.Names.{isLong}
 use Rattle.grammar.specs.Tokens.{Located}
 use Rattle.grammar.specs.TokensLaws.{by-test}
@@ -25,9 +26,9 @@ pub was-due : (b : Bool) (n k : ℕ) → cond b n (suc k) ≡ 0 → (b ≡ true)
 was-due true n k e = (refl, e)
 was-due false n k e = absurd (omega arith)
 
-pub part-fits : (parts : ℕ) → atPart parts ≡ 0 → parts < 128
+pub part-fits : (parts : ℕ) → atPart parts ≡ 0 → parts < textParts
 unfolding atPart
-part-fits parts e = leb-false 128 parts (not-refused (leb 128 parts) 11 0 e .0)
+part-fits parts e = leb-false textParts parts (not-refused (leb textParts parts) 11 0 e .0)
 
 pub behind-some : (k : ℕ) (rest : List Located) → 0 < k → isAt k rest ≡ true → length (behindHead rest) + 1 ≤ length rest
 unfolding headKind behindHead
@@ -39,7 +40,7 @@ pub record Moved (p g : ℕ) (c c' : Cursor) : Type 0 where
   pub count : c' .count ≡ c .count
   pub root : c' .root ≡ c .root
   pub parts : c .parts ≤ c' .parts
-  pub most : c' .parts ≤ max (c .parts) 128
+  pub most : c' .parts ≤ max (c .parts) textParts
   pub rest : length (c' .rest) ≤ length (c .rest)
   pub went : c' .number ≡ 0 → (length (c' .rest) + p ≤ length (c .rest)) × (c' .parts ≡ c .parts + g)
 
@@ -77,7 +78,7 @@ module _ (end : ℕ) where
   unfolding passMember
   moved-member c l = record { count = refl; root = refl; parts = omega arith; most = omega arith; rest = omega arith; went = λ z. (l, omega arith) }
 
-  moved-part : (c : Cursor) → c .parts < 128 → length (behindHead (c .rest)) + 1 ≤ length (c .rest) → Moved 1 1 c (passPart c)
+  moved-part : (c : Cursor) → c .parts < textParts → length (behindHead (c .rest)) + 1 ≤ length (c .rest) → Moved 1 1 c (passPart c)
   unfolding passPart
   moved-part c m l = record { count = refl; root = refl; parts = omega arith; most = omega arith; rest = omega arith; went = λ z. (l, omega arith) }
 

@@ -9,6 +9,7 @@ use lib.Dec.{eqb, lit<}
 use lib.ListN.{length, getD, set, length-set}
 use lib.Seq.{getD-set-other}
 use borrow.Author.Tests.{eqb-true, eqb-false}
+use Rattle.language.specs.Limits.{textParts}
 use Rattle.language.specs.Names.{dataWord}
 use Rattle.grammar.specs.Tokens.{Located}
 use Rattle.grammar.specs.TokensLaws.{by-test}
@@ -28,7 +29,7 @@ pub record Preserved (d p g o : ℕ) (s s' : State) : Type 0 where
   pub scope : length (s' .scope) ≡ length (s .scope)
   pub below : (i : ℕ) → i < 2 * d → getD (s' .scope) i 0 ≡ getD (s .scope) i 0
   pub parts : s .cursor .parts ≤ s' .cursor .parts
-  pub most : s' .cursor .parts ≤ max (s .cursor .parts) 128
+  pub most : s' .cursor .parts ≤ max (s .cursor .parts) textParts
   pub count : s .cursor .count ≤ s' .cursor .count
   pub rest : length (s' .cursor .rest) ≤ length (s .cursor .rest)
   pub went : s' .cursor .number ≡ 0 →

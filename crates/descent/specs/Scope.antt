@@ -9,6 +9,7 @@ use lib.Dec.{leb, eqb, eqb·suc-zero}
 use lib.IntN.{ℤ}
 use lib.ListN.{length, getD, set, length-set}
 use lib.Seq.{getD-set-other, getD-set-same}
+use Rattle.language.specs.Limits.{textParts}
 use Rattle.language.specs.Names.{packed, isLong, isData}
 use Rattle.grammar.specs.Tokens.{when}
 use Rattle.grammar.specs.Faults.{fine, badCall, tooMany, manyLambdas, longName, dataBound, reusedName, outOfRange, faultNumber, orMany}
@@ -103,9 +104,9 @@ lambda-is x (e ∷ Σ) (suc b) scope h = let n = h .0 in let l = h .1 in rw (l, 
     by (suc j) = rw (eqb·suc-zero j)
 
 -- the refusals at a token are the numbers of Faults
-part-number : (c : ℕ) → atPart c ≡ orMany 0 (leb 128 c)
+part-number : (c : ℕ) → atPart c ≡ orMany 0 (leb textParts c)
 unfolding atPart
-part-number c = by (leb 128 c)
+part-number c = by (leb textParts c)
   where
     by : (b : Bool) → cond b 12 0 ≡ orMany 0 b
     by true = refl
@@ -120,7 +121,8 @@ module _ (c marks : ℕ) (Σ : List Named) where
   unfolding atLet fault markFault faultNumber
   let-number w = rw part-number (by w (leb 16 marks))
     where
-      by : (w a : Bool) → cond w 9 (cond a 12 (orMany 0 (leb 128 c))) ≡ orMany (faultNumber (cond w badCall (cond a tooMany fine))) (leb 128 c)
+      by : (w a : Bool)
+          → cond w 9 (cond a 12 (orMany 0 (leb textParts c))) ≡ orMany (faultNumber (cond w badCall (cond a tooMany fine))) (leb textParts c)
       by true a = refl
       by false true = refl
       by false false = refl
@@ -131,7 +133,8 @@ module _ (c marks : ℕ) (Σ : List Named) where
   lambda-number w depth scope h = rw (part-number, lambdas-are Σ depth scope h) (by w (leb 2 (lambdasOf (bindersOf Σ))) (leb 16 marks))
     where
       by : (w l a : Bool)
-          → cond w 9 (cond l 10 (cond a 12 (orMany 0 (leb 128 c)))) ≡ orMany (faultNumber (cond w badCall (cond l manyLambdas (cond a tooMany fine)))) (leb 128 c)
+          → cond w 9 (cond l 10 (cond a 12 (orMany 0 (leb textParts c))))
+          ≡ orMany (faultNumber (cond w badCall (cond l manyLambdas (cond a tooMany fine)))) (leb textParts c)
       by true l a = refl
       by false true a = refl
       by false false true = refl
@@ -158,7 +161,8 @@ module _ (c marks : ℕ) (Σ : List Named) where
   unfolding atName fault nameFault faultNumber
   name-number w x = rw part-number (by (isLong x) w)
     where
-      by : (l w : Bool) → cond l 7 (cond w 9 (orMany 0 (leb 128 c))) ≡ orMany (faultNumber (cond l longName (cond w badCall fine))) (leb 128 c)
+      by : (l w : Bool)
+          → cond l 7 (cond w 9 (orMany 0 (leb textParts c))) ≡ orMany (faultNumber (cond l longName (cond w badCall fine))) (leb textParts c)
       by true w = refl
       by false true = refl
       by false false = refl
@@ -167,7 +171,8 @@ module _ (c marks : ℕ) (Σ : List Named) where
   unfolding atNumber fault literalFault faultNumber
   literal-number w z = rw part-number (by (isOutside z) w)
     where
-      by : (l w : Bool) → cond l 6 (cond w 9 (orMany 0 (leb 128 c))) ≡ orMany (faultNumber (cond l outOfRange (cond w badCall fine))) (leb 128 c)
+      by : (l w : Bool)
+          → cond l 6 (cond w 9 (orMany 0 (leb textParts c))) ≡ orMany (faultNumber (cond l outOfRange (cond w badCall fine))) (leb textParts c)
       by true w = refl
       by false true = refl
       by false false = refl

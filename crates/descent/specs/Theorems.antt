@@ -8,6 +8,7 @@ use native.Mathlib.Omega.{arith}
 use lib.Dec.{eqb}
 use lib.ListN.{length, drop}
 use borrow.Author.Tests.{eqb-true, eqb-false}
+use Rattle.language.specs.Limits.{textParts}
 use Rattle.grammar.specs.Tokens.{Token, kLet, kIn, kEquals, kLambda, kArrow, kDot, kOpen, kShut, kComma, word, number, other, when, Located, tokens}
 use Rattle.grammar.specs.Grammar.{Expression}
 use Rattle.grammar.specs.KeptLimits.{partsE}
@@ -85,7 +86,7 @@ pub record Held (R P : List ℕ) (e : Expression) (s : State) : Type 0 where
   pub root : s .cursor .root ≡ recordsOf e .root
   pub records : s .records ≡ words (recordsOf e .records) ++ drop (2 * s .cursor .count) R
   pub places : s .places ≡ recordsOf e .places ++ drop (s .cursor .parts) P
-  pub fewParts : s .cursor .parts ≤ 128
+  pub fewParts : s .cursor .parts ≤ textParts
   pub fewRecords : s .cursor .count ≤ s .cursor .parts
   -- the records read back, which lead to earlier ones
   pub decoded : recordsFrom (s .records) 0 (s .cursor .count) ≡ recordsOf e .records
@@ -149,7 +150,8 @@ module _ (text R P S : List ℕ) (f : ℕ) (room : length S ≡ 32) (enough : 2 
   unfolding readWith
   after-keeps = ended-keeps end 0 (start (tokens text) R P S) before (run-keeps end f (inExpression false 0 0) (start (tokens text) R P S))
 
-  held : length R ≡ 256 → length P ≡ 128 → Ended R P (readText text) after → after .cursor .number ≡ 0 → (e : Expression) → readText text ≡ tree e → Held R P e after
+  held : length R ≡ 256 → length P ≡ textParts → Ended R P (readText text) after → after .cursor .number ≡ 0 → (e : Expression)
+      → readText text ≡ tree e → Held R P e after
   held lr lp y z e h =
       let g : y .e ≡ e = same-tree (y .is) h in
       let w : Wrote R P 0 (recordsOf e) after = subst (λ (e : Expression). Wrote R P 0 (recordsOf e) after) g (y .wrote) in
@@ -157,7 +159,7 @@ module _ (text R P S : List ℕ) (f : ℕ) (room : length S ≡ 32) (enough : 2 
       let K = after-keeps in
       let G = K .went z in
       let parts : after .cursor .parts ≡ length (Z .places) = omega (arith, w .parts) in
-      let few : after .cursor .parts ≤ 128 = omega (arith, K .most) in
+      let few : after .cursor .parts ≤ textParts = omega (arith, K .most) in
       let words2 : length (words (Z .records)) ≡ 2 * after .cursor .count = omega (arith, length-words (Z .records), w .count) in
       let filled : after .records ≡ words (Z .records) ++ drop (2 * after .cursor .count) R =
       w .records ∙ sets-all (words (Z .records)) R (omega arith) ∙ ap (λ i. words (Z .records) ++ drop i R) words2 in
@@ -178,7 +180,7 @@ module _ (text R P S : List ℕ) (f : ℕ) (room : length S ≡ 32) (enough : 2 
         keys = small-keys text e h;
       }
 
-  pub reads : length R ≡ 256 → length P ≡ 128 → Result text R P after
+  pub reads : length R ≡ 256 → length P ≡ textParts → Result text R P after
   reads lr lp = by (eqb (after .cursor .number) 0) refl
     where
       by : (b : Bool) → eqb (after .cursor .number) 0 ≡ b → Result text R P after
@@ -191,5 +193,5 @@ module _ (text R P S : List ℕ) (f : ℕ) (room : length S ≡ 32) (enough : 2 
           record { reads = λ e g. absurd (not-tree (sym g ∙ h)); refuses = λ n p g. same-refusal h g; accepts = λ z. absurd (eqb-false (after .cursor .number) 0 q z); declines = all-fits .stops }
 
 -- the reading that the code's contract cites
-pub into : (text R P S : List ℕ) → length R ≡ 256 → length P ≡ 128 → length S ≡ 32 → Result text R P (readInto text R P S)
+pub into : (text R P S : List ℕ) → length R ≡ 256 → length P ≡ textParts → length S ≡ 32 → Result text R P (readInto text R P S)
 into text R P S lr lp ls = reads text R P S (suc (2 * length (tokens text))) ls (omega arith) lr lp

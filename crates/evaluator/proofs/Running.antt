@@ -17,7 +17,7 @@ use Rattle.values.specs.Packing.{packOf, delayedCell}
 use Rattle.values.specs.Tallies.{begun, Within}
 use Rattle.values.specs.TallyLaws.{within-none, within-more}
 use Rattle.rules.specs.Windows.{readingsIn}
-use Rattle.layout.specs.Nodes.{memberOfKind}
+use Rattle.layout.specs.Nodes.{functionKind, memberOfKind}
 use Rattle.evaluator.specs.declared.working.Task.{Task}
 use Rattle.evaluator.specs.Reach.{Gathers}
 use Rattle.evaluator.specs.Frames.{bound, functionOf}
@@ -43,13 +43,14 @@ module _ (g : Graph) (frame : List ℕ) (i : ℕ) (p : Task) (e : p ≡ planOf g
   value-applies v d o = rw o (done-applies d)
 
   module _ (d : p .done ≡ false) (q : Planned i p) (list : List ℕ) (at : ℕ) (s : Gathers (g .links) (g .waits) (p .variable) (p .body) list at) where
-    pub judge-applies : (after : List ℕ) (base r : ℕ) → p .kind ≡ 4 → Fills g (p .body) (drop at list) (p .variable) delayedCell frame after base
-        → r ≡ functionOf frame (getD (g .waits) i 0) base → Applies g frame i r
+    pub judge-applies : (after : List ℕ) (base r : ℕ) → p .kind ≡ functionKind
+        → Fills g (p .body) (drop at list) (p .variable) delayedCell frame after base → r ≡ functionOf frame (getD (g .waits) i 0) base
+        → Applies g frame i r
     unfolding finishOf
     judge-applies after base r k w o =
         applied (λ f l. rw (d, eq-eqb _ _ k, ← s .same, w .same f (omega (arith, q .below)), ← w .value) (sym o))
 
-    pub run-applies : (t : Tally) (r : ℕ) → (p .kind ≡ 4 → ⊥)
+    pub run-applies : (t : Tally) (r : ℕ) → (p .kind ≡ functionKind → ⊥)
         → ((f : ℕ) → p .body < f → overOf (applyAt g f) (p .body) (drop at list) (p .variable) frame begun (readingsIn (g .xs) (p .start) (p .length)) ≡ t)
         → r ≡ concludeOf (memberOfKind (p .kind)) t → Applies g frame i r
     unfolding finishOf

@@ -7,6 +7,7 @@ use native.Mathlib.Omega.{arith}
 use borrow.Author.Tests.{le-leb, lt-leb, leb-false, ltb-true, ltb-false}
 use lib.Dec.{ltb, leb}
 use Rattle.language.specs.Cases.{impossible, split}
+use Rattle.language.specs.Limits.{tableEntries, tableReadings}
 use Rattle.layout.specs.Memory.{Memory, fits, entryCount, readingCount, keptAt, entryAt, entriesFrom, entriesOf}
 use Rattle.table.specs.WellFormed.{distinct, awaitsFew, doneAt, settled, namesRight, keptRight, wellFormed}
 use Rattle.layout.specs.Numbered.{allFrom}
@@ -16,6 +17,7 @@ use Rattle.table.specs.CheckedLaws.{done-is, well-is}
 use Rattle.values.specs.Packing.{unpackOf}
 use Rattle.values.specs.PackingLaws.{unpack-number}
 use Rattle.layout.specs.Links.{kindAt, valueAt}
+use Rattle.layout.specs.Nodes.{functionKind}
 use Rattle.evaluator.specs.Frames.{startAt}
 use Rattle.interface.specs.Calls.{Part, windowIn, partOf}
 
@@ -31,10 +33,10 @@ module _ (m : Memory) (n : ℕ) where
   unfolding startAt
   unworked d h =
       let e = done-is (m .links) (m .cells) (entryCount m) n (kindAt (m .links) n) (valueAt (m .cells) n) refl refl ∙ d in
-      split (ltb (kindAt (m .links) n) 4)
-      (λ t. impossible (sym e ∙ rw (h, lt-leb 4 (kindAt (m .links) n) (ltb-true (kindAt (m .links) n) 4 t))))
+      split (ltb (kindAt (m .links) n) functionKind)
+      (λ t. impossible (sym e ∙ rw (h, lt-leb functionKind (kindAt (m .links) n) (ltb-true (kindAt (m .links) n) functionKind t))))
       (λ t. split (leb 1 (valueAt (m .cells) n))
-      (λ v. impossible (sym e ∙ rw (h, le-leb 4 (kindAt (m .links) n) (ltb-false (kindAt (m .links) n) 4 t), v)))
+      (λ v. impossible (sym e ∙ rw (h, le-leb functionKind (kindAt (m .links) n) (ltb-false (kindAt (m .links) n) functionKind t), v)))
       (λ v. let z = leb-false 1 (valueAt (m .cells) n) v in rw t (rw (unpack-number (valueAt (m .cells) n) (omega arith)))))
 
   pub part-held : partOf m n ≡ cond (fits m && (wellFormed m && ltb n (entryCount m))) shownPart noPart
@@ -66,5 +68,5 @@ pub kept-names : (m : Memory) (n : ℕ) → wellFormed m ≡ true → n < entryC
 unfolding keptRight
 kept-names m n w h =
     let e = sym (well-is (m .readings) (m .heads) (m .links) (m .cells)) ∙ w in
-    let entries = and-eq-true-iff (leb (readingCount m) 1024) _ .0 (and-eq-true-iff (leb (entryCount m) 512) _ .0 e .1) .1 in
+    let entries = and-eq-true-iff (leb (readingCount m) tableReadings) _ .0 (and-eq-true-iff (leb (entryCount m) tableEntries) _ .0 e .1) .1 in
     and-eq-true-iff _ _ .0 (kept-right (m .links) (m .cells) (readingCount m) (entryCount m) n entries h) .0

@@ -9,7 +9,7 @@ use lib.Dec.{eqb, ltb}
 use lib.IntN.{ℤ}
 use lib.ListN.{length, getD, take, drop, length-append, length-drop}
 use lib.Seq.{take-at, getD-take}
-use Rattle.language.specs.Limits.{tableEntries}
+use Rattle.language.specs.Limits.{textParts, tableEntries}
 use Rattle.language.specs.Cases.{split}
 use Rattle.grammar.specs.Tokens.{when}
 use Rattle.grammar.specs.Grammar.{Expression}
@@ -43,7 +43,8 @@ record-same : (cells : List ℕ) (r : ℕ) → D.recordAt cells r .second < 256 
 unfolding recordAt D.recordAt
 record-same cells r h = let z : getD cells (2 * r) 0 / 8192 % 256 ≡ getD cells (2 * r) 0 / 8192 = omega arith in rw z
 
-records-same : (cells : List ℕ) (r : ℕ) (ns : List Node) → Earlier r ns → r + length ns ≤ 128 → D.recordsFrom cells r (length ns) ≡ ns → numbered (recordAt cells) r (length ns) ≡ ns
+records-same : (cells : List ℕ) (r : ℕ) (ns : List Node) → Earlier r ns → r + length ns ≤ textParts → D.recordsFrom cells r (length ns) ≡ ns
+    → numbered (recordAt cells) r (length ns) ≡ ns
 unfolding numbered D.recordsFrom
 records-same cells r [] h l e = refl
 records-same cells r (n ∷ ns) h l e =
@@ -54,7 +55,8 @@ records-same cells r (n ∷ ns) h l e =
     rw (record-same cells r v, q, records-same cells (suc r) ns (h .1) (omega arith) u)
 
 -- What the reader answers, by the text.
-held-read : (text R P : List ℕ) (x : Expression) (s : State) (n size root : ℕ) (R′ P′ : List ℕ) → readText text ≡ tree x → Held R P x s → length P ≡ 128
+held-read : (text R P : List ℕ) (x : Expression) (s : State) (n size root : ℕ) (R′ P′ : List ℕ) → readText text ≡ tree x → Held R P x s
+    → length P ≡ textParts
     → s .cursor .parts ≡ n → s .cursor .count ≡ size → s .cursor .root ≡ root → R′ ≡ s .records → P′ ≡ s .places → ReadTo text n size root R′ P′
 held-read text R P x s n size root R′ P′ q h lp qn qs qr qR qP =
     let u = unfolds x (text-read-plainly text x .0 q .1) in
@@ -76,7 +78,8 @@ held-read text R P x s n size root R′ P′ q h lp qn qs qr qR qP =
       room = rw (qP, h .places) (simp (length-append, length-drop) (omega (arith, h .parts, h .fewParts)));
     }
 
-module _ (text R P : List ℕ) (r : Read) (R′ P′ : List ℕ) (reading : ReadsInto text R P r R′ P′) (lr : length R ≡ 256) (lp : length P ≡ 128) where
+module _ (text R P : List ℕ) (r : Read) (R′ P′ : List ℕ) (reading : ReadsInto text R P r R′ P′) (lr : length R ≡ 256)
+    (lp : length P ≡ textParts) where
   abbrev after : State
   after = readInto text R P noBinders
 
@@ -118,7 +121,8 @@ declined-only : (m : Memory) (text : List ℕ) (number place : ℕ) (P N F : Lis
     → Planned m text (plan number place 0 0 0) P N F
 declined-only m text number place P N F u a b = record { declined = λ _. record { answer = a; memory = b }; accepted = λ z. absurd (u z) }
 
-pub planned-refused : (m : Memory) (text R P : List ℕ) (r : Read) (R′ P′ : List ℕ) (number place : ℕ) (N F : List ℕ) → ReadsInto text R P r R′ P′ → length R ≡ 256 → length P ≡ 128
+pub planned-refused : (m : Memory) (text R P : List ℕ) (r : Read) (R′ P′ : List ℕ) (number place : ℕ) (N F : List ℕ) → ReadsInto text R P r R′ P′
+    → length R ≡ 256 → length P ≡ textParts
     → r ≡ Refused number place → Planned m text (plan number place 0 0 0) P′ N F
 unfolding readAnswer readMemory
 planned-refused m text R P r R′ P′ number place N F reading lr lp e =

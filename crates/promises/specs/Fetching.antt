@@ -19,6 +19,7 @@ use Rattle.formulas.specs.Formulas.{IsReading}
 use Rattle.layout.specs.Memory.{Memory, fits, entryCount, readingCount, recordingOf, entriesOf}
 use Rattle.table.specs.WellFormed.{doneAt, wellFormed}
 use Rattle.layout.specs.Links.{kindAt, keyAt, nameAt, otherAt}
+use Rattle.layout.specs.Nodes.{variableKind, functionKind}
 use Rattle.evaluator.specs.Frames.{startAt}
 use Rattle.schedule.specs.declared.View.{View}
 use Rattle.schedule.specs.Works.{view, showOf}
@@ -46,9 +47,9 @@ unfolding showOf
 fetch-shown m n f w l =
     let v : Value = unpackOf (startAt (readingCount m) (m .links) (m .cells) n) in
     rw (part-held m n) (rw (f, w, lt-ltb n (entryCount m) l)
-    (split (eqb (kindAt (m .links) n) 1)
+    (split (eqb (kindAt (m .links) n) variableKind)
     (λ p. rw p (sym (value-shown (m .readings) v (keyAt (m .cells) n) 0)))
-    (λ p. rw p (split (ltb (kindAt (m .links) n) 4)
+    (λ p. rw p (split (ltb (kindAt (m .links) n) functionKind)
     (λ q. rw q (sym (value-shown (m .readings) v 0 0)))
     (λ q. rw q (sym (value-shown (m .readings) v (nameAt (m .cells) n) (otherAt (m .cells) n))))))))
 
@@ -78,9 +79,9 @@ fetch-windowless m n h =
 
     none : windowIn v ≡ record { start = 0; length = 0 }
     none =
-        split (eqb (kindAt (m .links) n) 1)
+        split (eqb (kindAt (m .links) n) variableKind)
         (λ p. no-window v (keyAt (m .cells) n) 0 (λ s l e. h s l (rw p e)))
-        (λ p. split (ltb (kindAt (m .links) n) 4)
+        (λ p. split (ltb (kindAt (m .links) n) functionKind)
         (λ q. no-window v 0 0 (λ s l e. h s l (rw (p, q) e)))
         (λ q. no-window v (nameAt (m .cells) n) (otherAt (m .cells) n) (λ s l e. h s l (rw (p, q) e))))
 

@@ -14,7 +14,7 @@ use Rattle.values.specs.PackingLaws.{unpack-function, unpack-delayed}
 use Rattle.values.specs.Shown.{shownNumbers}
 use Rattle.model.specs.Lists.{All}
 use Rattle.layout.specs.Memory.{Memory, Kept, entryCount, readingCount, recordingOf, keptAt}
-use Rattle.layout.specs.Nodes.{isName}
+use Rattle.layout.specs.Nodes.{variableKind, functionKind, isName}
 use Rattle.table.specs.WellFormed.{nameless, namesRight, wellFormed}
 use Rattle.schedule.specs.declared.View.{View}
 use Rattle.layout.specs.Links.{kindAt, keyAt, nameAt, otherAt}
@@ -78,11 +78,11 @@ module _ (m : Memory) (n : ℕ) where
   abbrev value : Value
   value = unpackOf (startAt (readingCount m) (m .links) (m .cells) n)
 
-  variable-named : kindAt (m .links) n ≡ 1 → Named value (keyAt (m .cells) n) 0
+  variable-named : kindAt (m .links) n ≡ variableKind → Named value (keyAt (m .cells) n) 0
   unfolding startAt leafOf
   variable-named e = rw e (rw (unpack-delayed delayedCell (omega arith) (omega arith)) (λ _. refl))
 
-  names-kept : ltb (kindAt (m .links) n) 4 ≡ false → namesRight (keptAt (m .cells) n) ≡ true
+  names-kept : ltb (kindAt (m .links) n) functionKind ≡ false → namesRight (keptAt (m .cells) n) ≡ true
       → Named value (nameAt (m .cells) n) (otherAt (m .cells) n)
   unfolding startAt keptAt
   names-kept q h = rw q (kept-named (keptAt (m .cells) n) h)
@@ -91,9 +91,9 @@ module _ (m : Memory) (n : ℕ) where
       → showOf (readingCount m) (m .links) (m .cells) n ≡ viewOf (shownOf (showOf (readingCount m) (m .links) (m .cells) n))
   unfolding showOf
   show-plain w l =
-      split (eqb (kindAt (m .links) n) 1)
-      (λ p. rw p (view-plain value (keyAt (m .cells) n) 0 (variable-named (eqb-true (kindAt (m .links) n) 1 p))))
-      (λ p. split (ltb (kindAt (m .links) n) 4)
+      split (eqb (kindAt (m .links) n) variableKind)
+      (λ p. rw p (view-plain value (keyAt (m .cells) n) 0 (variable-named (eqb-true (kindAt (m .links) n) variableKind p))))
+      (λ p. split (ltb (kindAt (m .links) n) functionKind)
       (λ q. rw (p, q) (view-plain value 0 0 (none-named value)))
       (λ q. rw (p, q) (view-plain value (nameAt (m .cells) n) (otherAt (m .cells) n) (names-kept q (kept-names m n w l)))))
 

@@ -11,6 +11,7 @@ use lib.ListN.{length, set}
 use borrow.Author.Tests.{eq-eqb, ne-eqb}
 use Rattle.grammar.specs.Tokens.{when}
 use Rattle.layout.specs.Memory.{node}
+use Rattle.layout.specs.Nodes.{functionKind}
 use Rattle.descent.specs.Cursor as C
 use Rattle.descent.specs.Descent as D
 use Rattle.descent.specs.Descent.{State, moved, Mode, inExpression, inCalls, inArguments, inMore, firstGiven, nextGiven}
@@ -441,11 +442,13 @@ module _ (text : List ℕ) where
                   let k = lambda-root in
                   record { count = m .count; place = m .place; kind = omega arith; first = omega arith; second = omega arith }
 
-              pub lambda-read : {q : Cursor} {R″ P″ : List ℕ} → Wrote (D.put (c .parts) (node 4 (h .name) (r .root + 1) 0)) r R′ P′ q R″ P″ → Parses E text c R P S q R″ P″ S′
+              pub lambda-read : {q : Cursor} {R″ P″ : List ℕ} → Wrote (D.put (c .parts) (node functionKind (h .name) (r .root + 1) 0)) r R′ P′ q R″ P″
+                  → Parses E text c R P S q R″ P″ S′
               lambda-read d =
                   record {
                     reads = subst (Reads end E at-it)
-                        (ap (λ (j : ℕ). D.put (c .parts) (node 4 (h .name) j 0) (stateOf text r R′ P′ S′)) (sym (add-one (r .root))) ∙ sym (d .same text S′))
+                        (ap (λ (j : ℕ). D.put (c .parts) (node functionKind (h .name) j 0) (stateOf text r R′ P′ S′)) (sym (add-one (r .root)))
+                        ∙ sym (d .same text S′))
                         (Paths.lambda-read end w marks depth at-it (cursorOf text h) (f .ahead) p (eq-eqb (h .number) 0 z) body-reads (eq-eqb (r .number) 0 t));
                   }
 

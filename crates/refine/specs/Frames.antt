@@ -14,6 +14,7 @@ use lib.ListN.{length, getD, set, length-set}
 use lib.Seq.{getD-set-same, getD-set-other}
 use lib.Signed.{mag}
 use Rattle.language.specs.Cases.{split}
+use Rattle.language.specs.Limits.{tableEntries}
 use Rattle.rules.specs.declared.Value.{Value}
 use Rattle.rules.specs.declared.Value.the-variants.{Number}
 use Rattle.values.specs.declared.runs.Tally.{Tally}
@@ -24,6 +25,7 @@ use Rattle.values.specs.TallyLaws.{stopped-stays}
 use Rattle.meaning.specs.Forms.{Form, variable}
 use Rattle.meaning.specs.Evaluation.{valueOf, Environment, bind, lookup, evaluate, awaited, hasName}
 use Rattle.layout.specs.Links.{kindAt, firstAt, secondAt, keyAt}
+use Rattle.layout.specs.Nodes.{variableKind, functionKind}
 use Rattle.table.specs.Waits.{awaits}
 use Rattle.evaluator.specs.Reach.{moves, gathered}
 use Rattle.evaluator.specs.Frames.{bound}
@@ -52,11 +54,11 @@ module _ (links cells waits : List ℕ) (xs : List ℤ) (n : ℕ) (φ : ℕ → 
 
   -- `go` is right at each member and function below n and f whose frame is right at what it sees
   abbrev pub GoRight : Go → ℕ → Type 0
-  GoRight go f = (ρ : Environment) → Plain ρ → (frame : List ℕ) (i : ℕ) → i < n → i < f → 4 ≤ kindAt links i → length frame ≡ 512
+  GoRight go f = (ρ : Environment) → Plain ρ → (frame : List ℕ) (i : ℕ) → i < n → i < f → functionKind ≤ kindAt links i → length frame ≡ tableEntries
       → ((m : ℕ) → m < i → Sees links φ i m → Right ρ frame m) → go frame i ≡ packOf (valueAt ρ i)
 
   module _ (good : Good links cells waits xs n φ) where
-    vars : (j : ℕ) → j < n → kindAt links j ≡ 1 → (φ j ≡ variable (keyAt cells j)) × ((firstAt links j ≡ 0) × (secondAt links j ≡ 0))
+    vars : (j : ℕ) → j < n → kindAt links j ≡ variableKind → (φ j ≡ variable (keyAt cells j)) × ((firstAt links j ≡ 0) × (secondAt links j ≡ 0))
     vars j h k = by (good .entries j h)
       where
         by : EntryAt links cells φ j → (φ j ≡ variable (keyAt cells j)) × ((firstAt links j ≡ 0) × (secondAt links j ≡ 0))
@@ -69,7 +71,8 @@ module _ (links cells waits : List ℕ) (xs : List ℤ) (n : ℕ) (φ : ℕ → 
         by (is-call m _ _ q _ _ _ _ _) = absurd (omega (arith, q))
 
     -- a variable x, the entry of it, and a value for it
-    module _ (j₀ : ℕ) (var-n : j₀ < n) (var-k : kindAt links j₀ ≡ 1) (go : Go) (f : ℕ) (right : GoRight go f) (ρ : Environment) (plain : Plain ρ) (body : ℕ)
+    module _ (j₀ : ℕ) (var-n : j₀ < n) (var-k : kindAt links j₀ ≡ variableKind) (go : Go) (f : ℕ) (right : GoRight go f) (ρ : Environment)
+        (plain : Plain ρ) (body : ℕ)
         (body-n : body < n) (body-f : body < f) where
       abbrev x : ℕ
       x = keyAt cells j₀
@@ -91,11 +94,11 @@ module _ (links cells waits : List ℕ) (xs : List ℤ) (n : ℕ) (φ : ℕ → 
       stays : (m : ℕ) → m < n → moves waits v m ≡ false → (m ≡ j₀ → ⊥) → free x (φ m) ≡ false
       stays m h e q = split (free x (φ m)) (λ p. never (free-moves m h p q) e) (λ p. p)
 
-      works : (m : ℕ) → m < n → moves waits v m ≡ true → 4 ≤ kindAt links m
+      works : (m : ℕ) → m < n → moves waits v m ≡ true → functionKind ≤ kindAt links m
       unfolding awaited hasName
       works m h e = by (good .entries m h) (moves-free m h e)
         where
-          by : EntryAt links cells φ m → (free x (φ m) ≡ true) × (m ≡ j₀ → ⊥) → 4 ≤ kindAt links m
+          by : EntryAt links cells φ m → (free x (φ m) ≡ true) × (m ≡ j₀ → ⊥) → functionKind ≤ kindAt links m
           by (is-number q _ w) p = never (rw w at (p .0)) refl
           by (is-variable q _ _ w) p =
               let z : x ≡ keyAt cells m = eqb-true x (keyAt cells m) (sym (free-variable x (keyAt cells m)) ∙ (rw w at (p .0))) in
@@ -139,9 +142,10 @@ module _ (links cells waits : List ℕ) (xs : List ℤ) (n : ℕ) (φ : ℕ → 
         Held k frame = (m : ℕ) → Sees links φ body m → ((m < k) ⊎ (moves waits v m ≡ false)) → Right ρ′ frame m
 
         abbrev Filled : List ℕ → Type 0
-        Filled frame = (length frame ≡ 512) × ((m : ℕ) → Sees links φ body m → Right ρ′ frame m)
+        Filled frame = (length frame ≡ tableEntries) × ((m : ℕ) → Sees links φ body m → Right ρ′ frame m)
 
-        fill-right : (js : List ℕ) (k : ℕ) (frame : List ℕ) → Rising k js → ((m : ℕ) → In m js → (moves waits v m ≡ true) × (m < suc body)) → length frame ≡ 512 → Held k frame
+        fill-right : (js : List ℕ) (k : ℕ) (frame : List ℕ) → Rising k js → ((m : ℕ) → In m js → (moves waits v m ≡ true) × (m < suc body))
+            → length frame ≡ tableEntries → Held k frame
             → ((m : ℕ) → Sees links φ body m → moves waits v m ≡ true → k ≤ m → In m js) → Filled (fillOf go (body + 1) js frame)
         unfolding fillOf
         fill-right [] k frame r all l held full = (
@@ -182,7 +186,7 @@ module _ (links cells waits : List ℕ) (xs : List ℤ) (n : ℕ) (φ : ℕ → 
         unfolding bound
         bound-var frame = let q : suc j₀ - 1 ≡ j₀ = omega arith in rw (le-leb 1 (suc j₀) (omega arith), q)
 
-        set-filled : (frame : List ℕ) → length frame ≡ 512 → Rest frame → Filled (after frame)
+        set-filled : (frame : List ℕ) → length frame ≡ tableEntries → Rest frame → Filled (after frame)
         unfolding lookup evaluate valueOf
         set-filled frame l rest =
             subst (λ (b : List ℕ). Filled (fillOf go (body + 1) list b)) (sym (bound-var frame))
@@ -200,20 +204,21 @@ module _ (links cells waits : List ℕ) (xs : List ℤ) (n : ℕ) (φ : ℕ → 
             ])
             (λ m t p h. complete m t p))
 
-        pub set-value : (frame : List ℕ) → length frame ≡ 512 → Rest frame → Right ρ′ (after frame) body
+        pub set-value : (frame : List ℕ) → length frame ≡ tableEntries → Rest frame → Right ρ′ (after frame) body
         set-value frame l rest = set-filled frame l rest .1 body (here body)
 
-        pub set-size : (frame : List ℕ) → length frame ≡ 512 → Rest frame → length (after frame) ≡ 512
+        pub set-size : (frame : List ℕ) → length frame ≡ tableEntries → Rest frame → length (after frame) ≡ tableEntries
         set-size frame l rest = set-filled frame l rest .0
 
-        pub set-rest : (frame : List ℕ) → length frame ≡ 512 → Rest frame → Rest (after frame)
+        pub set-rest : (frame : List ℕ) → length frame ≡ tableEntries → Rest frame → Rest (after frame)
         set-rest frame l rest m t nf = set-filled frame l rest .1 m t ∙ ap (λ r. packOf (valueOf r)) (unbound-same xs ρ x s (φ m) nf)
 
       abbrev pub runAt : ℤ → Value
       runAt z = valueOf (evaluate xs (bind x (Number z) ρ) (φ body))
 
       -- the runs over readings come to the tally of what the body comes to
-      pub over-right : (zs : List ℤ) → Small zs → (frame : List ℕ) → length frame ≡ 512 → Rest frame → (t : Tally) → overOf go body list v frame t zs ≡ Tallies.gathered t (map runAt zs)
+      pub over-right : (zs : List ℤ) → Small zs → (frame : List ℕ) → length frame ≡ tableEntries → Rest frame → (t : Tally)
+          → overOf go body list v frame t zs ≡ Tallies.gathered t (map runAt zs)
       unfolding overOf Tallies.gathered
       over-right [] a frame l rest t = refl
       over-right (z ∷ zs) a frame l rest t =

@@ -15,6 +15,7 @@ use lib.ListN.{length, getD, take, drop}
 use lib.Signed.{mag}
 use Rattle.table.specs.NodeKinds.{member-found}
 use Rattle.language.specs.Cases.{split, either, or-right, by-cond}
+use Rattle.language.specs.Limits.{tableEntries, tableReadings}
 use Rattle.members.specs.Members.{row}
 use Rattle.members.specs.declared.Member.{Member}
 use Rattle.rules.specs.declared.Value.{Value}
@@ -36,7 +37,7 @@ use Rattle.values.specs.TallyLaws.{finished-is}
 use Rattle.rules.specs.Windows.{readingsIn}
 use Rattle.meaning.specs.Forms.{Form, variable, ask, call, function}
 use Rattle.meaning.specs.Evaluation.{Result, plain, runs, valueOf, runOf, Environment, bind, lookup, settled, functionOf, evaluate, awaited, hasName}
-use Rattle.layout.specs.Nodes.{memberKind, memberOfKind}
+use Rattle.layout.specs.Nodes.{variableKind, functionKind, memberKind, memberOfKind}
 use Rattle.layout.specs.Links.{kindAt, firstAt, secondAt, keyAt}
 use Rattle.table.specs.Waits.{slotA, slotB, hasSlot, awaits, ownOf}
 use Rattle.evaluator.specs.Reach.{gathered}
@@ -49,7 +50,7 @@ use Rattle.refine.specs.Kinds.{isFunction, ask-none, call-none}
 use Rattle.refine.specs.Frames.{Right, GoRight, Small, turn, set-value, over-right}
 
 -- ---- cells of values that can be kept
-module _ (n : ℕ) (few : n ≤ 1024) where
+module _ (n : ℕ) (few : n ≤ tableReadings) where
   missing-cell : (v : Value) → Keepable n v → leb missingCell (packOf v) ≡ isMissing v
   missing-cell (Number z) k = lt-leb missingCell (packOf (Number z)) (omega (arith, up-size 2147483648 z (k .held)))
   missing-cell (Window s l) k = lt-leb missingCell (packOf (Window s l)) (omega (arith, k .held .0, k .held .1))
@@ -147,7 +148,17 @@ module _ (links waits : List ℕ) (xs : List ℤ) (frame : List ℕ) (i : ℕ) w
       → planOf (graph links waits xs) frame i ≡ doneOf (packOf (apply0 m xs (unpackOf (getD frame d 0))))
   unfolding planOf askOf
   plan-ask m d k f s l =
-      rw (k, f, s, le-ltb (memberKind m) 4 (omega arith), le-leb 1 (suc d) (omega arith), le-leb (suc d) i l, ne-eqb (memberKind m) 4 (λ e. omega arith), member-found m, back d)
+      rw (
+        k,
+        f,
+        s,
+        le-ltb (memberKind m) functionKind (omega arith),
+        le-leb 1 (suc d) (omega arith),
+        le-leb (suc d) i l,
+        ne-eqb (memberKind m) functionKind (λ e. omega arith),
+        member-found m,
+        back d,
+      )
 
   plan-call : (m : Member) (d a : ℕ) → kindAt links i ≡ memberKind m → firstAt links i ≡ suc d → secondAt links i ≡ suc a → d < i → a < i
       → planOf (graph links waits xs) frame i ≡ followOf links waits a (memberKind m) (applied1 m xs (boundedOf (unpackOf (getD frame d 0))) (unpackOf (getD frame a 0)))
@@ -157,10 +168,10 @@ module _ (links waits : List ℕ) (xs : List ℤ) (frame : List ℕ) (i : ℕ) w
         k,
         f,
         s,
-        le-ltb (memberKind m) 4 (omega arith),
+        le-ltb (memberKind m) functionKind (omega arith),
         le-leb 1 (suc d) (omega arith),
         le-leb (suc d) i l,
-        ne-eqb (memberKind m) 4 (λ e. omega arith),
+        ne-eqb (memberKind m) functionKind (λ e. omega arith),
         le-leb 1 (suc a) (omega arith),
         le-leb (suc a) i l′,
         member-found m,
@@ -168,7 +179,8 @@ module _ (links waits : List ℕ) (xs : List ℤ) (frame : List ℕ) (i : ℕ) w
         back a,
       )
 
-  plan-function : (b : ℕ) → kindAt links i ≡ 4 → firstAt links i ≡ suc b → b < i → planOf (graph links waits xs) frame i ≡ judgeOf waits frame i b (getD frame b 0)
+  plan-function : (b : ℕ) → kindAt links i ≡ functionKind → firstAt links i ≡ suc b → b < i
+      → planOf (graph links waits xs) frame i ≡ judgeOf waits frame i b (getD frame b 0)
   unfolding planOf
   plan-function b k f l = rw (k, f, le-leb 1 (suc b) (omega arith), le-leb (suc b) i l, back b)
 
@@ -176,13 +188,15 @@ module _ (links waits : List ℕ) (xs : List ℤ) (frame : List ℕ) (i : ℕ) w
   unfolding judgeOf
   judge-kept b e = rw e
 
-  judge-again : (b j : ℕ) → ownOf (getD waits b 0) (getD waits i 0) ≡ suc j → j < 512 → judgeOf waits frame i b (getD frame b 0) ≡ taskOf 4 0 0 b (suc j)
+  judge-again : (b j : ℕ) → ownOf (getD waits b 0) (getD waits i 0) ≡ suc j → j < tableEntries
+      → judgeOf waits frame i b (getD frame b 0) ≡ taskOf functionKind 0 0 b (suc j)
   unfolding judgeOf
-  judge-again b j e h = rw (e, le-leb 1 (suc j) (omega arith), le-leb (suc j) 512 h)
+  judge-again b j e h = rw (e, le-leb 1 (suc j) (omega arith), le-leb (suc j) tableEntries h)
 
-  run-task : (kind a b s l v : ℕ) → kindAt links a ≡ 4 → firstAt links a ≡ suc b → b < a → ownOf (getD waits b 0) (getD waits a 0) ≡ v → v ≤ 512 → taskRun links waits a kind s l ≡ taskOf kind s l b v
+  run-task : (kind a b s l v : ℕ) → kindAt links a ≡ functionKind → firstAt links a ≡ suc b → b < a → ownOf (getD waits b 0) (getD waits a 0) ≡ v
+      → v ≤ tableEntries → taskRun links waits a kind s l ≡ taskOf kind s l b v
   unfolding taskRun
-  run-task kind a b s l v k f h o m = rw (k, f, le-leb 1 (suc b) (omega arith), le-leb (suc b) a h, back b, o, le-leb v 512 m)
+  run-task kind a b s l v k f h o m = rw (k, f, le-leb 1 (suc b) (omega arith), le-leb (suc b) a h, back b, o, le-leb v tableEntries m)
 
 -- the readings of a window are within signed 32 bits
 module _ (xs : List ℤ) (small : (k : ℕ) → k < length xs → mag (getD xs k (pos 0)) < 2147483648) where
@@ -203,7 +217,7 @@ module _ (links cells waits : List ℕ) (xs : List ℤ) (n : ℕ) (φ : ℕ → 
   -- a free name has a variable, and the entry sees it
   record Seen (i y : ℕ) : Type 0 where
     at : ℕ
-    kind : kindAt links at ≡ 1
+    kind : kindAt links at ≡ variableKind
     key : keyAt cells at ≡ y
     form : φ at ≡ variable y
     sees : Sees links φ i at
@@ -242,7 +256,7 @@ module _ (links cells waits : List ℕ) (xs : List ℤ) (n : ℕ) (φ : ℕ → 
   record Own (x b v : ℕ) : Type 0 where
     at : ℕ
     is : v ≡ suc at
-    kind : kindAt links at ≡ 1
+    kind : kindAt links at ≡ variableKind
     key : keyAt cells at ≡ x
     low : at ≤ b
 
@@ -263,7 +277,8 @@ module _ (links cells waits : List ℕ) (xs : List ℤ) (n : ℕ) (φ : ℕ → 
     free-outer y = ap (free y) form ∙ free-function y x (φ b)
 
     -- a variable that the body awaits and that has another name is awaited by the function
-    held : (v : ℕ) → 1 ≤ v → hasSlot wb v ≡ true → ((j : ℕ) → v ≡ suc j → j < n → kindAt links j ≡ 1 → keyAt cells j ≡ x → ⊥) → hasSlot wi v ≡ true
+    held : (v : ℕ) → 1 ≤ v → hasSlot wb v ≡ true → ((j : ℕ) → v ≡ suc j → j < n → kindAt links j ≡ variableKind → keyAt cells j ≡ x → ⊥)
+        → hasSlot wi v ≡ true
     held v p q other =
         let s = good .slots b v b-n p q in
         let j : ℕ = s .at in
@@ -296,7 +311,7 @@ module _ (links cells waits : List ℕ) (xs : List ℤ) (n : ℕ) (φ : ℕ → 
               split (hasSlot wi (slotA wb)) (λ r. rw r (split (hasSlot wi (slotB wb)) (λ s. rw s) (λ s. rw s u))) (λ r. rw r z)
         ]
       where
-        clash : (v : ℕ) → hasSlot wb v ≡ true → (j : ℕ) → v ≡ suc j → j < n → kindAt links j ≡ 1 → keyAt cells j ≡ x → ⊥
+        clash : (v : ℕ) → hasSlot wb v ≡ true → (j : ℕ) → v ≡ suc j → j < n → kindAt links j ≡ variableKind → keyAt cells j ≡ x → ⊥
         clash v q j z jn k y =
             let a : free (keyAt cells j) (φ b) ≡ true = sym (good .awaited b j b-n jn k) ∙ rw (le-leb 1 (suc j) (omega arith), subst (λ (m : ℕ). hasSlot wb m ≡ true) z q) in
             never (subst (λ (m : ℕ). free m (φ b) ≡ true) y a) e
@@ -333,7 +348,8 @@ module _ (links cells waits : List ℕ) (xs : List ℤ) (n : ℕ) (φ : ℕ → 
   -- the frame at what entry i sees
   module _ (ρ : Environment) (plain : Plain ρ) (frame : List ℕ) (i : ℕ) (i-n : i < n) (below : (m : ℕ) → m < i → Sees links φ i m → Right links cells waits xs n φ ρ frame m) where
     -- a variable that entry i awaits has no value in the frame where it has none in the environment
-    unset-is : (j : ℕ) → j < i → kindAt links j ≡ 1 → free (keyAt cells j) (φ i) ≡ true → Code.isUnset frame (suc j) ≡ isDelayed (lookup ρ (keyAt cells j))
+    unset-is : (j : ℕ) → j < i → kindAt links j ≡ variableKind → free (keyAt cells j) (φ i) ≡ true
+        → Code.isUnset frame (suc j) ≡ isDelayed (lookup ρ (keyAt cells j))
     unfolding Code.isUnset evaluate valueOf
     unset-is j h k e =
         let s = seen (suc i) i (keyAt cells j) (omega arith) i-n e in
@@ -343,14 +359,14 @@ module _ (links cells waits : List ℕ) (xs : List ℤ) (n : ℕ) (φ : ℕ → 
         let w : φ j ≡ variable (keyAt cells j) = subst (λ (m : ℕ). φ m ≡ variable (keyAt cells j)) z (s .form) in
         let r : getD frame j 0 ≡ packOf (lookup ρ (keyAt cells j)) = below j h t ∙ ap (λ (f : Form). packOf (valueOf (evaluate xs ρ f))) w in
         let q : suc j - 1 ≡ j = omega arith in
-        rw (le-leb 1 (suc j) (omega arith), le-leb (suc j) 512 (omega (arith, good .most)), q, r)
+        rw (le-leb 1 (suc j) (omega arith), le-leb (suc j) tableEntries (omega (arith, good .most)), q, r)
         (delayed-cell (length xs) (good .few) (lookup ρ (keyAt cells j)) (plain-lookup ρ plain (keyAt cells j)))
 
     unset-none : (v : ℕ) → v < 1 → Code.isUnset frame v ≡ false
     unfolding Code.isUnset
     unset-none v h = rw (lt-leb 1 v h)
 
-    open-right : kindAt links i ≡ 4 → Code.isOpen frame (getD waits i 0) ≡ not (settled ρ (φ i))
+    open-right : kindAt links i ≡ functionKind → Code.isOpen frame (getD waits i 0) ≡ not (settled ρ (φ i))
     open-right k = split (settled ρ (φ i)) (λ e. rw (e, shut e (slotA w) a, shut e (slotB w) b)) (λ e. rw e (opens e))
       where
         w : ℕ
@@ -371,7 +387,9 @@ module _ (links cells waits : List ℕ) (xs : List ℤ) (n : ℕ) (φ : ℕ → 
               let jn : j < n = omega (arith, s .below) in
               let ji : j < i = elim (decLt j i) [
                 | yes r ↦ r
-                | no r ↦ let z : j ≡ i = omega (arith, s .below) in absurd (omega (arith, k, subst (λ (m : ℕ). kindAt links m ≡ 1) z (s .kind)))
+                | no r ↦
+                    let z : j ≡ i = omega (arith, s .below) in
+                    absurd (omega (arith, k, subst (λ (m : ℕ). kindAt links m ≡ variableKind) z (s .kind)))
               ] in
               let fr : free (keyAt cells j) (φ i) ≡ true =
               sym (good .awaited i j i-n jn (s .kind))
@@ -387,7 +405,7 @@ module _ (links cells waits : List ℕ) (xs : List ℤ) (n : ℕ) (φ : ℕ → 
             let low = sees-below links φ i j (s .sees) in
             let ji : j < i = elim (decLt j i) [
               | yes r ↦ r
-              | no r ↦ let z : j ≡ i = omega arith in absurd (omega (arith, k, subst (λ (m : ℕ). kindAt links m ≡ 1) z (s .kind)))
+              | no r ↦ let z : j ≡ i = omega arith in absurd (omega (arith, k, subst (λ (m : ℕ). kindAt links m ≡ variableKind) z (s .kind)))
             ] in
             let fr : free (keyAt cells j) (φ i) ≡ true = subst (λ (m : ℕ). free m (φ i) ≡ true) (sym (s .key)) (u .isFree) in
             let h : hasSlot (getD waits i 0) (suc j) ≡ true =
@@ -397,7 +415,7 @@ module _ (links cells waits : List ℕ) (xs : List ℤ) (n : ℕ) (φ : ℕ → 
             (λ r. or-inl _ _ (ap (Code.isUnset frame) (eqb-true _ _ r) ∙ d))
             (λ r. or-right (Code.isUnset frame (slotA (getD waits i 0))) _ (ap (Code.isUnset frame) (eqb-true _ _ r) ∙ d))
 
-    module _ (go : Go) (f : ℕ) (right : GoRight links cells waits xs n φ go f) (i-f : i ≤ f) (len : length frame ≡ 512) where
+    module _ (go : Go) (f : ℕ) (right : GoRight links cells waits xs n φ go f) (i-f : i ≤ f) (len : length frame ≡ tableEntries) where
       abbrev value : ℕ → Value
       value m = valueOf (evaluate xs ρ (φ m))
 
@@ -422,7 +440,8 @@ module _ (links cells waits : List ℕ) (xs : List ℤ) (n : ℕ) (φ : ℕ → 
           ∙ ap (λ (g : Form). packOf (valueOf (evaluate xs ρ g))) (sym e)
 
       -- the runs of the function that entry a is
-      module _ (m : Member) (a b s l : ℕ) (a-i : a < i) (ka : kindAt links a ≡ 4) (fa : firstAt links a ≡ suc b) (b-a : b < a) (ea : φ a ≡ function (keyAt cells a) (φ b))
+      module _ (m : Member) (a b s l : ℕ) (a-i : a < i) (ka : kindAt links a ≡ functionKind) (fa : firstAt links a ≡ suc b) (b-a : b < a)
+          (ea : φ a ≡ function (keyAt cells a) (φ b))
           (link : Link links i a) (up : (y : ℕ) → free y (φ a) ≡ true → free y (φ i) ≡ true) where
         abbrev run : ℤ → Value
         run z = valueOf (evaluate xs (bind (keyAt cells a) (Number z) ρ) (φ b))
@@ -451,7 +470,7 @@ module _ (links cells waits : List ℕ) (xs : List ℤ) (n : ℕ) (φ : ℕ → 
             → finishOf (graph links waits xs) go frame i (taskOf (memberKind m) s l b v)
             ≡ concludeOf (memberOfKind (memberKind m)) (overOf go b (gathered links waits v b) v frame begun (readingsIn xs s l))
         unfolding finishOf
-        finish-run v = rw (ne-eqb (memberKind m) 4 (λ e. omega arith))
+        finish-run v = rw (ne-eqb (memberKind m) functionKind (λ e. omega arith))
 
         -- a body that does not await the variable comes to the same for every reading
         still : free (keyAt cells a) (φ b) ≡ false → (zs : List ℤ) (t : Tally) → overOf go b (gathered links waits 0 b) 0 frame t zs ≡ Tallies.gathered t (map run zs)
@@ -531,7 +550,7 @@ module _ (links cells waits : List ℕ) (xs : List ℤ) (n : ℕ) (φ : ℕ → 
           ∙ ap (λ (g : Form). packOf (valueOf (evaluate xs ρ g))) (sym e)
 
       -- a function
-      module _ (b : ℕ) (k : kindAt links i ≡ 4) (fs : firstAt links i ≡ suc b) (l : b < i) (e : φ i ≡ function (keyAt cells i) (φ b)) where
+      module _ (b : ℕ) (k : kindAt links i ≡ functionKind) (fs : firstAt links i ≡ suc b) (l : b < i) (e : φ i ≡ function (keyAt cells i) (φ b)) where
         abbrev base : Value
         base = valueOf (evaluate xs (bind (keyAt cells i) Delayed ρ) (φ b))
 
@@ -565,7 +584,7 @@ module _ (links cells waits : List ℕ) (xs : List ℤ) (n : ℕ) (φ : ℕ → 
             (kept b (omega arith) (bind (keyAt cells i) Delayed ρ) (tt, plain)) (open-right k ∙ ap (λ (g : Form). not (settled ρ g)) e)
             ∙ ap (λ (g : Form). packOf (valueOf (evaluate xs ρ g))) (sym e)
 
-      step : 4 ≤ kindAt links i → EntryAt links cells φ i → done ≡ packOf (value i)
+      step : functionKind ≤ kindAt links i → EntryAt links cells φ i → done ≡ packOf (value i)
       step h (is-number k _ _) = absurd (omega arith)
       step h (is-variable k _ _ _) = absurd (omega arith)
       step h (is-unbound k _) = absurd (omega arith)

@@ -8,7 +8,7 @@ use borrow.Author.Tests.{eqb-true}
 use lib.Dec.{eqb}
 use Rattle.language.specs.Cases.{split}
 use Rattle.values.specs.Packing.{functionCell, delayedCell}
-use Rattle.layout.specs.Nodes.{isName}
+use Rattle.layout.specs.Nodes.{variableKind, functionKind, isName}
 use Rattle.table.specs.WellFormed.{namesRight}
 use Rattle.layout.specs.Links.{kindAt, keyAt}
 use Rattle.table.specs.NodeKinds.{less-one}
@@ -16,7 +16,7 @@ use Rattle.table.specs.Waits.{slotA, slotB}
 use Rattle.table.specs.WaitsLaws.{Variable, Holds, none, one, two, positive}
 use Rattle.schedule.specs.Works.{slotName, nameFor, otherFor}
 
-module _ (links now : List ℕ) (i : ℕ) (names : (j : ℕ) → j ≤ i → kindAt links j ≡ 1 → isName (keyAt now j) ≡ true) where
+module _ (links now : List ℕ) (i : ℕ) (names : (j : ℕ) → j ≤ i → kindAt links j ≡ variableKind → isName (keyAt now j) ≡ true) where
   variable-name : {a : ℕ} → Variable links i a → isName (slotName now (suc a)) ≡ true
   variable-name {a} v = rw (positive a, less-one a) (names a (v .below) (v .kind))
 
@@ -29,7 +29,8 @@ module _ (links now : List ℕ) (i : ℕ) (names : (j : ℕ) → j ≤ i → kin
       rw (p, q, variable-name va, variable-name vb, or-true (eqb (slotName now (suc b)) 0))
       (or-true (eqb (slotName now (suc a)) 0 && eqb (slotName now (suc b)) 0))
 
-  pub names-right : {cells xs : List ℕ} {w : ℕ} (c : ℕ) → (kindAt links i ≡ 4 → isName (keyAt now i) ≡ true) → (c ≡ functionCell → kindAt links i ≡ 4)
+  pub names-right : {cells xs : List ℕ} {w : ℕ} (c : ℕ) → (kindAt links i ≡ functionKind → isName (keyAt now i) ≡ true)
+      → (c ≡ functionCell → kindAt links i ≡ functionKind)
       → Holds links cells i w xs → namesRight (record { value = c; name = nameFor now i c w; other = otherFor now c w }) ≡ true
   unfolding namesRight nameFor otherFor
   names-right c own function o =

@@ -12,6 +12,7 @@ use lib.Dec.{leb, eqb}
 use lib.ListN.{length, getD, set, replicate, length-set, length-replicate}
 use lib.Seq.{getD-set-same, getD-set-other}
 use Rattle.language.specs.Cases.{split}
+use Rattle.language.specs.Limits.{tableEntries}
 use Rattle.layout.specs.Links.{firstAt, secondAt, isBelow}
 use Rattle.schedule.specs.Works.{raised, needFrom, needOf}
 use Rattle.refine.specs.Free.{decEq}
@@ -109,8 +110,9 @@ module _ (links : List ℕ) where
             absurd (eqb-false (getD flags j 0) 1 e (sym (need-above j j flags (omega arith)) ∙ rw z at f))
       ]))
 
-  pub needed-link : (n i link : ℕ) → n < 512 → i ≤ n → (firstAt links i ≡ link) ⊎ (secondAt links i ≡ link) → isBelow link i ≡ true → Flagged (needOf links n) i → Flagged (needOf links n) (link - 1)
+  pub needed-link : (n i link : ℕ) → n < tableEntries → i ≤ n → (firstAt links i ≡ link) ⊎ (secondAt links i ≡ link) → isBelow link i ≡ true
+      → Flagged (needOf links n) i → Flagged (needOf links n) (link - 1)
   unfolding needOf
   needed-link n i link h l q b f =
-      let z = length-set {A = ℕ} (replicate 512 0) n 1 ∙ length-replicate {A = ℕ} 512 0 in
-      need-link (suc n) i link (set (replicate 512 0) n 1) (omega arith) (omega arith) q b f
+      let z = length-set {A = ℕ} (replicate tableEntries 0) n 1 ∙ length-replicate {A = ℕ} tableEntries 0 in
+      need-link (suc n) i link (set (replicate tableEntries 0) n 1) (omega arith) (omega arith) q b f

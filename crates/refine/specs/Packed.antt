@@ -12,6 +12,7 @@ use lib.IntN.{ℤ, pos}
 use lib.ListN.{length, getD, set, replicate}
 use lib.Signed.{mag}
 use Rattle.language.specs.Cases.{split, by-cond}
+use Rattle.language.specs.Limits.{tableEntries, tableReadings}
 use Rattle.members.specs.declared.Member.{Member}
 use Rattle.members.specs.declared.Found.{Found}
 use Rattle.members.specs.declared.Found.the-variants.{Is, Unknown}
@@ -35,7 +36,7 @@ use Rattle.values.specs.KeepableApply.{Settled, kept-closed, kept-apply0, kept-
 use Rattle.values.specs.Packing.{packOf, unpackOf, isPacked, windowCell, functionCell, delayedCell, missingCell, wrongCell}
 use Rattle.values.specs.PackingLaws.{unpack-number, round, test-number, kept-passes, passes-packs}
 use Rattle.values.specs.Ranges.{down-range}
-use Rattle.layout.specs.Nodes.{memberOfKind}
+use Rattle.layout.specs.Nodes.{numberKind, variableKind, unboundKind, functionKind, memberOfKind}
 use Rattle.evaluator.specs.declared.working.Task.{Task}
 use Rattle.layout.specs.Links.{kindAt, firstAt, secondAt, isBelow}
 use Rattle.table.specs.Waits.{ownOf}
@@ -61,7 +62,7 @@ set-cells n (x ∷ frame) (suc i) c s p (suc j) = set-cells n frame i c (λ k. s
 -- what an entry of a kind is worked out to
 pub record Right (n kind c : ℕ) : Type 0 where
   pub packed : isPacked c n ≡ true
-  pub function : c ≡ functionCell → kind ≡ 4
+  pub function : c ≡ functionCell → kind ≡ functionKind
 
 never : {A : Type 0} → true ≡ false → A
 never e = absurd (subst (λ (b : Bool). cond b (Unit {0}) ⊥) e tt)
@@ -153,37 +154,38 @@ module _ (g : Graph) (n : ℕ) (short : n ≤ 65535) (small : (k : ℕ) → k < 
   planned-wrong kind = planned-done kind wrongCell (right-wrong kind)
 
   module _ (frame : List ℕ) (cells : Cells n frame) where
-    planned-judge : (i body a : ℕ) → Cell n a → Planned 4 (judgeOf (g .waits) frame i body a)
+    planned-judge : (i body a : ℕ) → Cell n a → Planned functionKind (judgeOf (g .waits) frame i body a)
     unfolding judgeOf
     planned-judge i body a c =
-        by-cond (Planned 4) (leb 1 (ownOf (getD (g .waits) body 0) (getD (g .waits) i 0))) _ _
-        (λ e. by-cond (Planned 4) (leb (ownOf (getD (g .waits) body 0) (getD (g .waits) i 0)) 512) _ _
-        (λ h. planned-task 4 0 0 body _ no-window)
-        (λ h. planned-wrong 4))
-        (λ e. planned-done 4 _ (record { packed = function-packed n frame (getD (g .waits) i 0) a c; function = λ h. refl }))
+        by-cond (Planned functionKind) (leb 1 (ownOf (getD (g .waits) body 0) (getD (g .waits) i 0))) _ _
+        (λ e. by-cond (Planned functionKind) (leb (ownOf (getD (g .waits) body 0) (getD (g .waits) i 0)) tableEntries) _ _
+        (λ h. planned-task functionKind 0 0 body _ no-window)
+        (λ h. planned-wrong functionKind))
+        (λ e. planned-done functionKind _ (record { packed = function-packed n frame (getD (g .waits) i 0) a c; function = λ h. refl }))
 
     planned-follow : (f kind : ℕ) (a : Applied) → Follows a → Planned kind (followOf (g .links) (g .waits) f kind a)
     unfolding followOf runOf
     planned-follow f kind (Done v) k = planned-done kind (packOf v) (right-value n kind v (k .0) (k .1))
     planned-follow f kind (Run s l) k =
-        by-cond (Planned kind) (eqb (kindAt (g .links) f) 4) _ _
+        by-cond (Planned kind) (eqb (kindAt (g .links) f) functionKind) _ _
         (λ e. by-cond (Planned kind) (isBelow (firstAt (g .links) f) f) _ _
-        (λ e. by-cond (Planned kind) (leb (ownOf (getD (g .waits) (firstAt (g .links) f - 1) 0) (getD (g .waits) f 0)) 512) _ _
+        (λ e. by-cond (Planned kind) (leb (ownOf (getD (g .waits) (firstAt (g .links) f - 1) 0) (getD (g .waits) f 0)) tableEntries) _ _
         (λ e. planned-task kind s l _ _ k)
         (λ e. planned-wrong kind))
         (λ e. planned-wrong kind))
         (λ e. planned-wrong kind)
 
-    planned : (i : ℕ) → ltb (kindAt (g .links) i) 4 ≡ false → Planned (kindAt (g .links) i) (planOf g frame i)
+    planned : (i : ℕ) → ltb (kindAt (g .links) i) functionKind ≡ false → Planned (kindAt (g .links) i) (planOf g frame i)
     unfolding planOf
     planned i high =
         let kind : ℕ = kindAt (g .links) i in
         let first : ℕ = firstAt (g .links) i in
         let second : ℕ = secondAt (g .links) i in
-        by-cond (Planned kind) (ltb kind 4) _ _ (λ e. never (sym e ∙ high))
+        by-cond (Planned kind) (ltb kind functionKind) _ _ (λ e. never (sym e ∙ high))
         (λ e. by-cond (Planned kind) (isBelow first i) _ _
-        (λ e. by-cond (Planned kind) (eqb kind 4) _ _
-        (λ e. subst (λ (k : ℕ). Planned k (judgeOf (g .waits) frame i (first - 1) (getD frame (first - 1) 0))) (sym (eqb-true kind 4 e)) (planned-judge i (first - 1) _ (cells (first - 1))))
+        (λ e. by-cond (Planned kind) (eqb kind functionKind) _ _
+        (λ e. subst (λ (k : ℕ). Planned k (judgeOf (g .waits) frame i (first - 1) (getD frame (first - 1) 0)))
+        (sym (eqb-true kind functionKind e)) (planned-judge i (first - 1) _ (cells (first - 1))))
         (λ e. by-cond (Planned kind) (isBelow second i) _ _
         (λ e. planned-follow (second - 1) kind _ (follows-call (memberOfKind kind) _ _ (cells (first - 1)) (cells (second - 1))))
         (λ e. planned-done kind _ (right-ask kind (memberOfKind kind) _ (cells (first - 1))))))
@@ -242,13 +244,13 @@ module _ (g : Graph) (n : ℕ) (short : n ≤ 65535) (small : (k : ℕ) → k < 
         let js = list (g .links) (g .waits) (p .variable) (p .body) in
         let zs = readingsIn (g .xs) (p .start) (p .length) in
         split (p .done) (λ e. rw e (h .value e))
-        (λ e. rw e (split (eqb (p .kind) 4)
+        (λ e. rw e (split (eqb (p .kind) functionKind)
         (λ q. rw q
         (record {
           packed =
               function-packed n frame (getD (g .waits) i 0) _
               (begins (p .body + 1) js (p .variable) delayedCell frame c (kept-passes n Delayed (record { held = tt; inside = tt; reasoned = tt })) (p .body));
-          function = λ z. sym (h .kind e) ∙ eqb-true (p .kind) 4 q;
+          function = λ z. sym (h .kind e) ∙ eqb-true (p .kind) functionKind q;
         }))
         (λ q. rw q
         (let r = readings-small (Keepable n) (kept-closed n short) (g .xs) small in
@@ -258,7 +260,8 @@ module _ (g : Graph) (n : ℕ) (short : n ≤ 65535) (small : (k : ℕ) → k < 
 
   -- ---- the entries
 
-  leaf-stays : (go : Go) (frame : List ℕ) (i : ℕ) → ltb (kindAt (g .links) i) 4 ≡ true → finishOf g go frame i (planOf g frame i) ≡ getD frame i 0
+  leaf-stays : (go : Go) (frame : List ℕ) (i : ℕ) → ltb (kindAt (g .links) i) functionKind ≡ true
+      → finishOf g go frame i (planOf g frame i) ≡ getD frame i 0
   unfolding finishOf planOf
   leaf-stays go frame i e = rw e
 
@@ -266,24 +269,26 @@ module _ (g : Graph) (n : ℕ) (short : n ≤ 65535) (small : (k : ℕ) → k < 
   unfolding applyAt
   applied zero frame c i = inl refl
   applied (suc f) frame c i =
-      split (ltb (kindAt (g .links) i) 4) (λ e. rw (leaf-stays (applyAt g f) frame i e) (c i))
+      split (ltb (kindAt (g .links) i) functionKind) (λ e. rw (leaf-stays (applyAt g f) frame i e) (c i))
       (λ e. inr (right-finish (applyAt g f) (applied f) frame i (kindAt (g .links) i) (planOf g frame i) c (planned frame c i e) .packed))
 
-  pub apply-packed : (f : ℕ) (frame : List ℕ) (i : ℕ) → Cells n frame → ltb (kindAt (g .links) i) 4 ≡ false → Right n (kindAt (g .links) i) (applyAt g (suc f) frame i)
+  pub apply-packed : (f : ℕ) (frame : List ℕ) (i : ℕ) → Cells n frame → ltb (kindAt (g .links) i) functionKind ≡ false
+      → Right n (kindAt (g .links) i) (applyAt g (suc f) frame i)
   unfolding applyAt
   apply-packed f frame i c e = right-finish (applyAt g f) (applied f) frame i (kindAt (g .links) i) (planOf g frame i) c (planned frame c i e)
 
 -- ---- the frame at first: the leaves' values, and what is kept
 
-pub leaf-packed : (size kind key : ℕ) → size ≤ 1024 → isPacked (leafOf size kind key) size ≡ true
+pub leaf-packed : (size kind key : ℕ) → size ≤ tableReadings → isPacked (leafOf size kind key) size ≡ true
 unfolding leafOf
 leaf-packed size kind key h =
-    split (eqb kind 0)
+    split (eqb kind numberKind)
     (λ a.
     let k : ℕ = key % 4294967296 + 1 in
     rw a (sym (test-number k size (omega arith)) ∙ rw (le-leb 1 k (omega arith), le-leb k 4294967296 (omega arith))))
-    (λ a. split (eqb kind 1) (λ b. rw (a, b) (kept-passes size Delayed (record { held = tt; inside = tt; reasoned = tt })))
-    (λ b. split (eqb kind 2) (λ d. rw (a, b, d) (kept-passes size (Missing 1) (record { held = omega arith; inside = tt; reasoned = (omega arith, omega arith) })))
+    (λ a. split (eqb kind variableKind) (λ b. rw (a, b) (kept-passes size Delayed (record { held = tt; inside = tt; reasoned = tt })))
+    (λ b. split (eqb kind unboundKind)
+    (λ d. rw (a, b, d) (kept-passes size (Missing 1) (record { held = omega arith; inside = tt; reasoned = (omega arith, omega arith) })))
     (λ d.
     let e : windowCell + size ≡ packOf (Window 0 size) = omega arith in
     rw (a, b, d) (rw e (kept-passes size (Window 0 size) (record { held = (omega arith, omega arith); inside = omega arith; reasoned = tt }))))))

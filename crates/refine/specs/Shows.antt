@@ -9,6 +9,7 @@ use borrow.Author.Tests.{ne-eqb}
 use lib.Dec.{leb, eqb}
 use lib.IntN.{pos, natAbs, _+ℤ_}
 use lib.ListN.{getD}
+use Rattle.language.specs.Limits.{tableReadings}
 use Rattle.rules.specs.declared.Value.{Value}
 use Rattle.rules.specs.declared.Value.the-variants.{Number, Window, Function, Delayed, Missing}
 use Rattle.values.specs.Shown.{shownNumbers}
@@ -40,7 +41,7 @@ second-name true false x y h = refl
 second-name false b x y h = rw (h refl)
 
 module _ (n : ℕ) (cells : List ℕ) (i w : ℕ) (f : Form) (full : leb 1 (slotA w) ≡ false → leb 1 (slotB w) ≡ false) (names : slotNames cells w ≡ awaited f) where
-  pub kept-shows : (v : Value) → Keepable n v → n ≤ 1024 → (v ≡ Function → keyAt cells i ≡ nameOf f)
+  pub kept-shows : (v : Value) → Keepable n v → n ≤ tableReadings → (v ≡ Function → keyAt cells i ≡ nameOf f)
       → view (shownNumbers (unpackOf (packOf v))) (nameFor cells i (packOf v) w) (otherFor cells (packOf v) w) ≡ viewOf (shownAs f v)
   unfolding viewOf nameFor otherFor
   kept-shows (Number z) k h g =

@@ -11,6 +11,7 @@ use lib.Dec.{eqb}
 use lib.ListN.{length, getD, set, replicate, length-set, length-replicate}
 use lib.Seq.{getD-set-same, getD-set-other}
 use Rattle.language.specs.Cases.{split}
+use Rattle.language.specs.Limits.{tableEntries}
 use Rattle.layout.specs.Links.{firstAt, secondAt, isBelow}
 use Rattle.evaluator.specs.Reach.{moves, flagged, spread, gatherFrom, gathered}
 use Rattle.refine.specs.Free.{decEq}
@@ -33,11 +34,12 @@ rising-above k m [] r i = absurd i
 rising-above k m (j ∷ js) r i = ⊎-elim (λ e. omega (arith, r .0)) (λ t. omega (arith, r .0, rising-above (suc j) m js (r .1) t)) i
 
 module _ (links waits : List ℕ) (v : ℕ) where
-  flagged-size : (j link : ℕ) (flags : List ℕ) → length flags ≡ 512 → length (flagged waits v j link flags) ≡ 512
+  flagged-size : (j link : ℕ) (flags : List ℕ) → length flags ≡ tableEntries → length (flagged waits v j link flags) ≡ tableEntries
   unfolding flagged
   flagged-size j link flags l = split (isBelow link j && moves waits v (link - 1)) (λ p. rw p (length-set flags (link - 1) 1 ∙ l)) (λ p. rw p l)
 
-  flagged-keeps : (j link : ℕ) (flags : List ℕ) (m : ℕ) → length flags ≡ 512 → getD flags m 0 ≡ 1 → getD (flagged waits v j link flags) m 0 ≡ 1
+  flagged-keeps : (j link : ℕ) (flags : List ℕ) (m : ℕ) → length flags ≡ tableEntries → getD flags m 0 ≡ 1
+      → getD (flagged waits v j link flags) m 0 ≡ 1
   unfolding flagged
   flagged-keeps j link flags m l e =
       split (isBelow link j && moves waits v (link - 1))
@@ -58,7 +60,8 @@ module _ (links waits : List ℕ) (v : ℕ) where
           past (x ∷ xs) zero h = absurd (omega arith)
           past (x ∷ xs) (suc k) h = past xs k (omega arith)
 
-  flagged-sets : (j d : ℕ) (flags : List ℕ) → length flags ≡ 512 → j ≤ 512 → d < j → moves waits v d ≡ true → getD (flagged waits v j (suc d) flags) d 0 ≡ 1
+  flagged-sets : (j d : ℕ) (flags : List ℕ) → length flags ≡ tableEntries → j ≤ tableEntries → d < j → moves waits v d ≡ true
+      → getD (flagged waits v j (suc d) flags) d 0 ≡ 1
   unfolding flagged
   flagged-sets j d flags l h k m =
       let q : suc d - 1 ≡ d = omega arith in
@@ -74,15 +77,16 @@ module _ (links waits : List ℕ) (v : ℕ) where
       ])
       (λ p. all m (rw p at e))
 
-  spread-size : (j : ℕ) (flags : List ℕ) → length flags ≡ 512 → length (spread links waits v j flags) ≡ 512
+  spread-size : (j : ℕ) (flags : List ℕ) → length flags ≡ tableEntries → length (spread links waits v j flags) ≡ tableEntries
   unfolding spread
   spread-size j flags l = flagged-size j (secondAt links j) _ (flagged-size j (firstAt links j) flags l)
 
-  spread-keeps : (j : ℕ) (flags : List ℕ) (m : ℕ) → length flags ≡ 512 → getD flags m 0 ≡ 1 → getD (spread links waits v j flags) m 0 ≡ 1
+  spread-keeps : (j : ℕ) (flags : List ℕ) (m : ℕ) → length flags ≡ tableEntries → getD flags m 0 ≡ 1 → getD (spread links waits v j flags) m 0 ≡ 1
   unfolding spread
   spread-keeps j flags m l e = flagged-keeps j (secondAt links j) _ m (flagged-size j (firstAt links j) flags l) (flagged-keeps j (firstAt links j) flags m l e)
 
-  spread-sets : (j d : ℕ) (flags : List ℕ) → length flags ≡ 512 → j ≤ 512 → Link links j d → moves waits v d ≡ true → getD (spread links waits v j flags) d 0 ≡ 1
+  spread-sets : (j d : ℕ) (flags : List ℕ) → length flags ≡ tableEntries → j ≤ tableEntries → Link links j d → moves waits v d ≡ true
+      → getD (spread links waits v j flags) d 0 ≡ 1
   unfolding spread
   spread-sets j d flags l h k m =
       ⊎-elim
@@ -103,7 +107,7 @@ module _ (links waits : List ℕ) (v : ℕ) where
   keeps zero flags acc m i = i
   keeps (suc j) flags acc m i = split (eqb (getD flags j 0) 1) (λ p. rw p (keeps j _ (j ∷ acc) m (inr i))) (λ p. rw p (keeps j flags acc m i))
 
-  flag-in : (j : ℕ) (flags acc : List ℕ) (m : ℕ) → length flags ≡ 512 → m < j → getD flags m 0 ≡ 1 → In m (out j flags acc)
+  flag-in : (j : ℕ) (flags acc : List ℕ) (m : ℕ) → length flags ≡ tableEntries → m < j → getD flags m 0 ≡ 1 → In m (out j flags acc)
   unfolding gatherFrom
   flag-in zero flags acc m l h e = absurd (omega arith)
   flag-in (suc j) flags acc m l h e = elim (decLt m j) [
@@ -115,7 +119,8 @@ module _ (links waits : List ℕ) (v : ℕ) where
   abbrev Closed : ℕ → List ℕ → List ℕ → Type 0
   Closed j flags acc = (p d : ℕ) → In p acc → Link links p d → moves waits v d ≡ true → In d acc ⊎ ((d < j) × (getD flags d 0 ≡ 1))
 
-  closes : (j : ℕ) (flags acc : List ℕ) → length flags ≡ 512 → j ≤ 512 → Closed j flags acc → (p d : ℕ) → In p (out j flags acc) → Link links p d → moves waits v d ≡ true → In d (out j flags acc)
+  closes : (j : ℕ) (flags acc : List ℕ) → length flags ≡ tableEntries → j ≤ tableEntries → Closed j flags acc → (p d : ℕ) → In p (out j flags acc)
+      → Link links p d → moves waits v d ≡ true → In d (out j flags acc)
   unfolding gatherFrom
   closes zero flags acc l h c p d = λ i k m. ⊎-elim (λ t. t) (λ t. absurd (omega (arith, t .0))) (c p d i k m)
   closes (suc j) flags acc l h c p d =
@@ -156,19 +161,19 @@ module _ (links waits : List ℕ) (v : ℕ) where
       (λ p. rw p (lies j top flags acc (omega arith) a m))
 
   -- of the whole list
-  module _ (body : ℕ) (few : body < 512) where
+  module _ (body : ℕ) (few : body < tableEntries) where
     start : List ℕ
-    start = set (replicate 512 0) body 1
+    start = set (replicate tableEntries 0) body 1
 
-    start-size : length start ≡ 512
+    start-size : length start ≡ tableEntries
     unfolding start
-    start-size = length-set (replicate 512 0) body 1 ∙ length-replicate {A = ℕ} 512 0
+    start-size = length-set (replicate tableEntries 0) body 1 ∙ length-replicate {A = ℕ} tableEntries 0
 
     start-only : (m : ℕ) → getD start m 0 ≡ 1 → m ≡ body
     unfolding start
     start-only m e = elim (decEq m body) [
       | yes q ↦ q
-      | no q ↦ absurd (omega (arith, sym (getD-set-other (replicate 512 0) body m 1 0 q ∙ zeros 512 m) ∙ e))
+      | no q ↦ absurd (omega (arith, sym (getD-set-other (replicate tableEntries 0) body m 1 0 q ∙ zeros tableEntries m) ∙ e))
     ]
       where
         zeros : (k m : ℕ) → _≡_ {A = ℕ} (getD (replicate k 0) m 0) 0
@@ -192,7 +197,9 @@ module _ (links waits : List ℕ) (v : ℕ) where
 
     pub list-top : moves waits v body ≡ true → In body (gathered links waits v body)
     unfolding gathered start
-    list-top p = rw p (flag-in (suc body) start [] body start-size (omega arith) (getD-set-same (replicate 512 0) body 1 0 (rw (length-replicate {A = ℕ} 512 0) few)))
+    list-top p =
+        rw p (flag-in (suc body) start [] body start-size (omega arith)
+        (getD-set-same (replicate tableEntries 0) body 1 0 (rw (length-replicate {A = ℕ} tableEntries 0) few)))
 
     pub list-down : (p d : ℕ) → In p (gathered links waits v body) → Link links p d → moves waits v d ≡ true → In d (gathered links waits v body)
     unfolding gathered start

@@ -11,6 +11,7 @@ use lib.IntN.{ℤ, pos}
 use lib.ListN.{length, getD}
 use lib.Signed.{mag}
 use Rattle.language.specs.Cases.{split}
+use Rattle.language.specs.Limits.{tableEntries, tableReadings}
 use Rattle.members.specs.declared.Member.{Member}
 use Rattle.rules.specs.declared.Value.{Value}
 use Rattle.rules.specs.declared.Value.the-variants.{Number, Window, Function, Delayed, Missing}
@@ -19,18 +20,19 @@ use Rattle.values.specs.Ranges.{down-range}
 use Rattle.values.specs.KeepableApply.{kept-apply0, kept-apply1}
 use Rattle.meaning.specs.Forms.{Form, number, variable, unbound, readings, ask, call, function}
 use Rattle.meaning.specs.Evaluation.{Result, plain, runs, valueOf, runOf, Environment, nowhere, bind, lookup, settled, functionOf, evaluate}
-use Rattle.layout.specs.Nodes.{memberKind, numberOfKey}
+use Rattle.layout.specs.Nodes.{numberKind, variableKind, unboundKind, readingsKind, functionKind, memberKind, numberOfKey}
 use Rattle.layout.specs.Links.{kindAt, firstAt, secondAt, keyAt}
 use Rattle.table.specs.Waits.{slotA, slotB, hasSlot, awaits}
 use Rattle.refine.specs.Free.{free}
 
 -- what entry i is, with the form that it stands for
 pub data EntryAt (links cells : List ℕ) (φ : ℕ → Form) (i : ℕ) : Type 0 where
-  is-number : kindAt links i ≡ 0 → keyAt cells i < 4294967296 → φ i ≡ number (numberOfKey (keyAt cells i)) → EntryAt links cells φ i
-  is-variable : kindAt links i ≡ 1 → firstAt links i ≡ 0 → secondAt links i ≡ 0 → φ i ≡ variable (keyAt cells i) → EntryAt links cells φ i
-  is-unbound : kindAt links i ≡ 2 → φ i ≡ unbound (keyAt cells i) → EntryAt links cells φ i
-  is-readings : kindAt links i ≡ 3 → φ i ≡ readings → EntryAt links cells φ i
-  is-function : (b : ℕ) → kindAt links i ≡ 4 → firstAt links i ≡ suc b → b < i → φ i ≡ function (keyAt cells i) (φ b) → EntryAt links cells φ i
+  is-number : kindAt links i ≡ numberKind → keyAt cells i < 4294967296 → φ i ≡ number (numberOfKey (keyAt cells i)) → EntryAt links cells φ i
+  is-variable : kindAt links i ≡ variableKind → firstAt links i ≡ 0 → secondAt links i ≡ 0 → φ i ≡ variable (keyAt cells i) → EntryAt links cells φ i
+  is-unbound : kindAt links i ≡ unboundKind → φ i ≡ unbound (keyAt cells i) → EntryAt links cells φ i
+  is-readings : kindAt links i ≡ readingsKind → φ i ≡ readings → EntryAt links cells φ i
+  is-function : (b : ℕ) → kindAt links i ≡ functionKind → firstAt links i ≡ suc b → b < i → φ i ≡ function (keyAt cells i) (φ b)
+      → EntryAt links cells φ i
   is-ask : (m : Member) (d : ℕ) → kindAt links i ≡ memberKind m → firstAt links i ≡ suc d → secondAt links i ≡ 0 → d < i → φ i ≡ ask m (φ d) → EntryAt links cells φ i
   is-call : (m : Member) (d a : ℕ) → kindAt links i ≡ memberKind m → firstAt links i ≡ suc d → secondAt links i ≡ suc a → d < i → a < i → φ i ≡ call m (φ d) (φ a) → EntryAt links cells φ i
 
@@ -39,18 +41,18 @@ pub record Slot (links : List ℕ) (i v : ℕ) : Type 0 where
   pub at : ℕ
   pub is : v ≡ suc at
   pub below : at ≤ i
-  pub kind : kindAt links at ≡ 1
+  pub kind : kindAt links at ≡ variableKind
 
 pub record Good (links cells waits : List ℕ) (xs : List ℤ) (n : ℕ) (φ : ℕ → Form) : Type 0 where
-  pub most : n ≤ 512
-  pub few : length xs ≤ 1024
+  pub most : n ≤ tableEntries
+  pub few : length xs ≤ tableReadings
   pub small : (k : ℕ) → k < length xs → mag (getD xs k (pos 0)) < 2147483648
   pub entries : (i : ℕ) → i < n → EntryAt links cells φ i
   -- what is awaited is what is free
-  pub awaited : (i j : ℕ) → i < n → j < n → kindAt links j ≡ 1 → awaits (getD waits i 0) (suc j) ≡ free (keyAt cells j) (φ i)
+  pub awaited : (i j : ℕ) → i < n → j < n → kindAt links j ≡ variableKind → awaits (getD waits i 0) (suc j) ≡ free (keyAt cells j) (φ i)
   pub slots : (i v : ℕ) → i < n → 1 ≤ v → hasSlot (getD waits i 0) v ≡ true → Slot links i v
   -- a name has one variable
-  pub one : (i j : ℕ) → i < n → j < n → kindAt links i ≡ 1 → kindAt links j ≡ 1 → keyAt cells i ≡ keyAt cells j → i ≡ j
+  pub one : (i j : ℕ) → i < n → j < n → kindAt links i ≡ variableKind → kindAt links j ≡ variableKind → keyAt cells i ≡ keyAt cells j → i ≡ j
   pub filled : (i : ℕ) → i < n → slotA (getD waits i 0) ≡ 0 → slotB (getD waits i 0) ≡ 0
 
 -- the values that variables have: numbers within signed 32 bits, or none yet

@@ -11,10 +11,11 @@ use lib.IntN.{ℤ, pos}
 use lib.ListN.{length, getD, replicate}
 use lib.Signed.{mag}
 use Rattle.language.specs.Cases.{either}
+use Rattle.language.specs.Limits.{tableEntries, tableReadings}
 use Rattle.meaning.specs.Forms.{Form}
 use Rattle.meaning.specs.Evaluation.{awaited}
 use Rattle.layout.specs.Memory.{Node, nodeAt}
-use Rattle.layout.specs.Nodes.{build}
+use Rattle.layout.specs.Nodes.{numberKind, variableKind, unboundKind, readingsKind, functionKind, build}
 use Rattle.table.specs.WellFormed.{keyRight}
 use Rattle.table.specs.Right.{nodeRight}
 use Rattle.table.specs.RightLaws.{right-key, first-low, second-low}
@@ -51,13 +52,13 @@ module _ (links cells : List ℕ) (φ : ℕ → Form) (i : ℕ) (right : nodeRig
 
       by : (n : Node) → nodeAt links cells i ≡ n → Fine n → EntryAt links cells φ i
       by _ e (aNumber x) =
-          let k : kindAt links i ≡ 0 = kind e in
+          let k : kindAt links i ≡ numberKind = kind e in
           is-number k (ltb-true (keyAt cells i) 4294967296 (rw k at (right-key i (nodeAt links cells i) right))) (form ∙ rw k)
-      by _ e (aVariable x) = let k : kindAt links i ≡ 1 = kind e in is-variable k (first e) (second e) (form ∙ rw k)
-      by _ e (anUnbound x) = let k : kindAt links i ≡ 2 = kind e in is-unbound k (form ∙ rw k)
-      by _ e theReadings = let k : kindAt links i ≡ 3 = kind e in is-readings k (form ∙ rw k)
+      by _ e (aVariable x) = let k : kindAt links i ≡ variableKind = kind e in is-variable k (first e) (second e) (form ∙ rw k)
+      by _ e (anUnbound x) = let k : kindAt links i ≡ unboundKind = kind e in is-unbound k (form ∙ rw k)
+      by _ e theReadings = let k : kindAt links i ≡ readingsKind = kind e in is-readings k (form ∙ rw k)
       by _ e (aFunction x b) =
-          let k : kindAt links i ≡ 4 = kind e in
+          let k : kindAt links i ≡ functionKind = kind e in
           let f : firstAt links i ≡ suc b = first e in
           is-function b k f (low f) (form ∙ rw (k, f, less-one b))
       by _ e (anAsk m d a) =
@@ -94,13 +95,13 @@ module _ {links cells : List ℕ} {i w : ℕ} {xs : List ℕ} where
       second (two a b va vb d p q e) z = slot b vb (sym z ∙ q)
 
 module _ (links cells : List ℕ) (xs : List ℤ) (n : ℕ) (φ : ℕ → Form)
-    (most : n ≤ 512) (few : length xs ≤ 1024) (small : (k : ℕ) → k < length xs → mag (getD xs k (pos 0)) < 2147483648)
+    (most : n ≤ tableEntries) (few : length xs ≤ tableReadings) (small : (k : ℕ) → k < length xs → mag (getD xs k (pos 0)) < 2147483648)
     (right : (i : ℕ) → i < n → nodeRight i (nodeAt links cells i) ≡ true)
     (forms : (i : ℕ) → i < n → φ i ≡ build (nodeAt links cells i) φ)
     (alone : (i j : ℕ) → i < n → j < n → nodeAt links cells i ≡ nodeAt links cells j → i ≡ j)
     (names : (i : ℕ) → i < n → length (awaited (φ i)) ≤ 2) where
   abbrev pub waits : List ℕ
-  waits = waitsFrom links cells n 0 (replicate 512 0)
+  waits = waitsFrom links cells n 0 (replicate tableEntries 0)
 
   entries : (i : ℕ) → i < n → EntryAt links cells φ i
   entries i h = entry links cells φ i (right i h) (forms i h)

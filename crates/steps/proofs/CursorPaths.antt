@@ -8,6 +8,7 @@ use native.Mathlib.Omega.{arith}
 use lib.Dec.{leb, eqb}
 use lib.ListN.{length, getD}
 use borrow.Author.Tests.{eq-eqb, ne-eqb, eqb-true}
+use Rattle.language.specs.Limits.{textParts}
 use Rattle.language.specs.Names.{isLong, isData, packed}
 use Rattle.members.specs.Members.{memberOf, memberNumber, isUnknown, takes, row}
 use Rattle.members.specs.declared.Member.{Member}
@@ -15,7 +16,7 @@ use Rattle.members.specs.declared.Found.{Found}
 use Rattle.members.specs.declared.Found.the-variants.{Is, Unknown}
 use Rattle.grammar.specs.Tokens.{when, Located}
 use Rattle.meaning.specs.Binding.{member}
-use Rattle.layout.specs.Nodes.{memberKind}
+use Rattle.layout.specs.Nodes.{firstMember, memberKind}
 use Rattle.descent.specs.Cursor as D
 use Rattle.descent.specs.Moves.{not-refused, was-due}
 use Rattle.steps.specs.declared.cursor.Cursor.{Cursor}
@@ -27,7 +28,7 @@ use Rattle.steps.specs.Cursors.{nameFault, numberFault, letNameFault, la
 use Rattle.steps.specs.CursorsLaws.{head-place, behind-head, head-word, is-at}
 
 -- ---- the faults, from the picks that they are made of
-pub part-fault : (parts r : ℕ) → r ≡ cond (leb 128 parts) 12 0 → r ≡ D.atPart parts
+pub part-fault : (parts r : ℕ) → r ≡ cond (leb textParts parts) 12 0 → r ≡ D.atPart parts
 unfolding D.atPart
 part-fault parts r p = p
 
@@ -323,13 +324,14 @@ module _ (text : List ℕ) (c : Cursor) (x : Lexed) (e : x ≡ lexAt text (c .at
     pub member-unknown : (r : Cursor) → found ≡ Unknown → r ≡ refusedAt c 9 (x .start) → cursorOf text r ≡ memberNamed text c
     member-unknown r i q = stops 9 _ r _ (ap unknown-fault (sym i) ∙ found-fault) (λ h. omega arith) q
 
-    pub member-known : (m : Member) (n t : ℕ) (r : Cursor) → found ≡ Is m → n ≡ memberNumber m → t ≡ row m .arguments → r ≡ namedTo c (x .end) (5 + n) t
+    pub member-known : (m : Member) (n t : ℕ) (r : Cursor) → found ≡ Is m → n ≡ memberNumber m → t ≡ row m .arguments
+        → r ≡ namedTo c (x .end) (firstMember + n) t
         → cursorOf text r ≡ memberNamed text c
     unfolding D.passMember takes
     member-known m n t r i p v q =
         let h : bytes ≡ D.headWord left = sym (head-word text (c .at) x e z) in
-        goes 0 _ r _ (ap unknown-fault (sym i) ∙ found-fault) refl (ap (cursorOf text) q ∙ named-here (5 + n) _ t _
-        (ap (λ (k : ℕ). 5 + k) p ∙ ap memberKind (member-is bytes found m g i) ∙ ap (λ (w : List ℕ). memberKind (member w)) h)
+        goes 0 _ r _ (ap unknown-fault (sym i) ∙ found-fault) refl (ap (cursorOf text) q ∙ named-here (firstMember + n) _ t _
+        (ap (λ (k : ℕ). firstMember + k) p ∙ ap memberKind (member-is bytes found m g i) ∙ ap (λ (w : List ℕ). memberKind (member w)) h)
         (v ∙ ap takes (sym i ∙ g) ∙ ap (λ (w : List ℕ). takes (memberOf w)) h))
 
   -- the bracket of a call

@@ -11,6 +11,7 @@ use lib.ListN.{length, getD, set}
 use mir.Syntax.{w32, w64}
 use mir.Val.{SFits, toZ, ofZ}
 use borrow.Author.Tests.{eq-eqb, ne-eqb, eqb-true}
+use Rattle.language.specs.Limits.{textParts}
 use Rattle.language.specs.Names.{isLong, bytes, packOnto, packed, dataWord}
 use Rattle.rules.specs.declared.Value.the-variants.{Number}
 use Rattle.values.proofs.PackingRules.{pack-number}
@@ -19,6 +20,7 @@ use Rattle.grammar.specs.Tokens.{when}
 use Rattle.grammar.specs.TokensLaws.{by-test}
 use Rattle.records.specs.Records.{numberKey}
 use Rattle.layout.specs.Memory.{node}
+use Rattle.layout.specs.Nodes.{numberKind, variableKind, unboundKind, readingsKind}
 use Rattle.descent.specs.Cursor as C
 use Rattle.descent.specs.Descent.{State, moved}
 use Rattle.descent.specs.Descent as D
@@ -53,7 +55,8 @@ put-path c p k y f s records places =
 
 -- ---- names
 module _ (p x : ℕ) (c : Cursor) (records places : List ℕ) (r : Cursor) (records′ places′ : List ℕ) where
-  pub bound-variable : (j : ℕ) → j ≡ 0 → Wrote (D.put p (node 1 x 0 0)) c records places r records′ places′ → Wrote (D.putBound p x j) c records places r records′ places′
+  pub bound-variable : (j : ℕ) → j ≡ 0 → Wrote (D.put p (node variableKind x 0 0)) c records places r records′ places′
+      → Wrote (D.putBound p x j) c records places r records′ places′
   unfolding D.putBound when
   bound-variable j e h = record { same = λ text scope. rw (eq-eqb j 0 e) (h .same text scope) }
 
@@ -62,7 +65,8 @@ module _ (p x : ℕ) (c : Cursor) (records places : List ℕ) (r : Cursor) (reco
   bound-record j e h = record { same = λ text scope. rw (ne-eqb j 0 e) (λ i. stateOf text (h .cursor i) records (h .written i) scope) }
 
   module _ (scope : List ℕ) where
-    pub scoped-none : (b : ℕ) → b ≡ 0 → Wrote (D.put p (node 2 x 0 0)) c records places r records′ places′ → WroteIn scope (D.putScoped p x b) c records places r records′ places′
+    pub scoped-none : (b : ℕ) → b ≡ 0 → Wrote (D.put p (node unboundKind x 0 0)) c records places r records′ places′
+        → WroteIn scope (D.putScoped p x b) c records places r records′ places′
     unfolding D.putScoped when
     scoped-none b e h = record { same = λ text. rw (eq-eqb b 0 e) (h .same text scope) }
 
@@ -71,7 +75,7 @@ module _ (p x : ℕ) (c : Cursor) (records places : List ℕ) (r : Cursor) (reco
     unfolding D.putScoped when
     scoped-bound b e h = record { same = λ text. rw (ne-eqb b 0 e) (h .same text scope) }
 
-    pub name-data : (depth : ℕ) → x ≡ 1684108385 → Wrote (D.put p (node 3 0 0 0)) c records places r records′ places′
+    pub name-data : (depth : ℕ) → x ≡ 1684108385 → Wrote (D.put p (node readingsKind 0 0 0)) c records places r records′ places′
         → WroteIn scope (D.putName p x depth) c records places r records′ places′
     unfolding D.putName when dataWord bytes packOnto
     name-data depth e h = record { same = λ text. rw (eq-eqb x 1684108385 e) (h .same text scope) }
@@ -92,11 +96,12 @@ module _ (scope : List ℕ) (x : ℕ) where
   binder-few (suc b) =
       by-test (λ n. n ≤ suc b) (eqb x (C.binderName scope b)) (λ _. suc b) (λ _. C.binderOf scope x b) (λ _. omega arith) (λ _. let h = binder-few b in omega arith)
 
-  binder-link : (depth : ℕ) → ((b : ℕ) → b < depth → C.binderLink scope b ≤ 128) → (C.binderOf scope x depth ≡ 0 → ⊥) → getD scope (2 * C.binderOf scope x depth - 1) 0 ≤ 128
+  binder-link : (depth : ℕ) → ((b : ℕ) → b < depth → C.binderLink scope b ≤ textParts) → (C.binderOf scope x depth ≡ 0 → ⊥)
+      → getD scope (2 * C.binderOf scope x depth - 1) 0 ≤ textParts
   unfolding C.binderOf
   binder-link zero h = λ n. absurd (n refl)
   binder-link (suc b) h =
-      by-test (λ k. (k ≡ 0 → ⊥) → getD scope (2 * k - 1) 0 ≤ 128) (eqb x (C.binderName scope b)) (λ _. suc b) (λ _. C.binderOf scope x b)
+      by-test (λ k. (k ≡ 0 → ⊥) → getD scope (2 * k - 1) 0 ≤ textParts) (eqb x (C.binderName scope b)) (λ _. suc b) (λ _. C.binderOf scope x b)
       (λ _ _. let e : 2 * suc b - 1 ≡ 2 * b + 1 = omega arith in rw e (h b (omega arith))) (λ _. binder-link b (λ i l. h i (omega arith)))
 
   pub binder-room : (c : Cursor) (p depth b : ℕ) → NameRoom c p depth scope → b ≡ C.binderOf scope x depth → ScopedRoom c p b scope
@@ -143,7 +148,7 @@ module _ (text : List ℕ) (c a : Cursor) (n : ℕ) (pa : cursorOf text a ≡ pa
       not-long : long ≡ false
       not-long = not-refused long 6 _ (sym f ∙ passed-zero z) .0
 
-      few-parts : c .parts < 128
+      few-parts : c .parts < textParts
       few-parts = part-fits (c .parts) (not-refused w 8 _ (not-refused long 6 _ (sym f ∙ passed-zero z) .1) .1)
 
       pub name-room : (depth : ℕ) (scope : List ℕ) → NameAhead text depth c scope → NameRoom a (c .parts) depth scope
@@ -222,7 +227,8 @@ module _ (text : List ℕ) (w : Bool) (c a : Cursor) (x : Lexed) (n : ℕ) (e : 
     number-stopped z = record { same = λ scope. sym (then-stop _ (number-passed scope) (ne-eqb (a .number) 0 z)) }
 
     pub number-read : (m : ℕ) (r : Cursor) (records′ places′ : List ℕ) → a .number ≡ 0 → m ≡ keyOf value
-        → Wrote (D.put (c .parts) (node 0 m 0 0)) a records places r records′ places′ → WroteFor text (D.readNumber (length text) w) c records places r records′ places′
+        → Wrote (D.put (c .parts) (node numberKind m 0 0)) a records places r records′ places′
+        → WroteFor text (D.readNumber (length text) w) c records places r records′ places′
     unfolding D.readNumber
     number-read m r records′ places′ z q k =
         let y : m ≡ numberKey (C.headValue (tokensFrom text (c .at))) = q ∙ key-is value v (sym b ∙ not-beyond text c a n pa w z beyond f) in

@@ -5,6 +5,7 @@ use mathlib.Core.Bool.{Bool, true, false}
 use mathlib.Core.List.{List}
 use Prim.Native.Nat.{ℕ, _*_, _-_, _≤_, _<_}
 use lib.ListN.{getD, set}
+use Rattle.language.specs.Limits.{textParts}
 use Rattle.records.specs.Records.{numberKey}
 use Rattle.descent.specs.Cursor.{isAt, wordKind, digitsKind, binderLink}
 use Rattle.descent.specs.Descent.{State}
@@ -36,50 +37,50 @@ pub record Linked (p j : ℕ) (c : Cursor) (places : List ℕ) (r : Cursor) (pla
 
 -- room for a record of these pieces, and for its part's place
 pub record Recorded (c : Cursor) (p k f s : ℕ) : Type 0 where
-  pub count : c .count < 128
-  pub place : p < 128
+  pub count : c .count < textParts
+  pub place : p < textParts
   pub kind : k < 32
-  pub first : f ≤ 128
-  pub second : s ≤ 128
+  pub first : f ≤ textParts
+  pub second : s ≤ textParts
 
 -- the same for a name that stands for a variable or for the record before j; for a name whose binder is the one before b, or none; and for a
 -- name at a depth
 pub record BoundRoom (c : Cursor) (p j : ℕ) : Type 0 where
-  pub count : c .count < 128
-  pub place : p < 128
-  pub link : j ≤ 128
+  pub count : c .count < textParts
+  pub place : p < textParts
+  pub link : j ≤ textParts
 
 pub record ScopedRoom (c : Cursor) (p b : ℕ) (scope : List ℕ) : Type 0 where
-  pub count : c .count < 128
-  pub place : p < 128
+  pub count : c .count < textParts
+  pub place : p < textParts
   pub binder : b ≤ 16
-  pub link : (b ≡ 0 → ⊥) → getD scope (2 * b - 1) 0 ≤ 128
+  pub link : (b ≡ 0 → ⊥) → getD scope (2 * b - 1) 0 ≤ textParts
 
 pub record NameRoom (c : Cursor) (p d : ℕ) (scope : List ℕ) : Type 0 where
-  pub count : c .count < 128
-  pub place : p < 128
+  pub count : c .count < textParts
+  pub place : p < textParts
   pub depth : d ≤ 16
-  pub links : (b : ℕ) → b < d → binderLink scope b ≤ 128
+  pub links : (b : ℕ) → b < d → binderLink scope b ≤ textParts
 
 -- a name, a number or the bracket that ends a call is next, and there is room for what it writes
 pub record NameAhead (text : List ℕ) (d : ℕ) (c : Cursor) (scope : List ℕ) : Type 0 where
   pub ahead : isAt wordKind (tokensFrom text (c .at)) ≡ true
-  pub parts : c .parts ≤ 128
+  pub parts : c .parts ≤ textParts
   pub count : c .count ≤ c .parts
   pub depth : d ≤ 16
   pub links : (b : ℕ) → b < d → binderLink scope b ≤ c .count
 
 pub record NumberAhead (text : List ℕ) (c : Cursor) : Type 0 where
   pub ahead : isAt digitsKind (tokensFrom text (c .at)) ≡ true
-  pub parts : c .parts ≤ 128
+  pub parts : c .parts ≤ textParts
   pub count : c .count ≤ c .parts
 
 pub record ShutAhead (k : Call) (c : Cursor) : Type 0 where
-  pub count : c .count < 128
-  pub place : k .place < 128
+  pub count : c .count < textParts
+  pub place : k .place < textParts
   pub kind : k .kind < 32
-  pub receiver : k .receiver < 128
-  pub argument : k .argument ≤ 128
+  pub receiver : k .receiver < textParts
+  pub argument : k .argument ≤ textParts
 
 abbrev pub callOf : Call → D.Call
 callOf k = record { kind = k .kind; takes = k .takes; receiver = k .receiver; place = k .place; argument = k .argument }

@@ -10,26 +10,26 @@ use Rattle.members.specs.MembersLaws.{few-arguments}
 use Rattle.members.specs.declared.Found.{Found}
 use Rattle.members.specs.declared.Found.the-variants.{Is, Unknown}
 use Rattle.layout.specs.Memory.{Node}
-use Rattle.layout.specs.Nodes.{memberOfKind, memberArity, arity}
+use Rattle.layout.specs.Nodes.{functionKind, firstMember, memberOfKind, memberArity, arity}
 use Rattle.table.specs.WellFormed.{arityRight}
 use Rattle.table.specs.Right.{nodeRight}
 use Rattle.table.specs.RightLaws.{right-arity, second-given}
 
 pub arity-few : (k : ℕ) → arity k ≤ 2
 unfolding arity
-arity-few k = split (eqb k 4) (λ p. rw p (omega arith)) (λ p. rw p (by (memberOfKind k)))
+arity-few k = split (eqb k functionKind) (λ p. rw p (omega arith)) (λ p. rw p (by (memberOfKind k)))
   where
     by : (f : Found) → memberArity f ≤ 2
     by (Is m) = omega (arith, few-arguments m)
     by Unknown = omega arith
 
-pub function-arity : (k : ℕ) → k ≡ 4 → arity k ≡ 1
+pub function-arity : (k : ℕ) → k ≡ functionKind → arity k ≡ 1
 unfolding arity
-function-arity k e = rw (eq-eqb k 4 e)
+function-arity k e = rw (eq-eqb k functionKind e)
 
-pub leaf-arity : (k : ℕ) → k < 4 → arity k ≡ 0
+pub leaf-arity : (k : ℕ) → k < functionKind → arity k ≡ 0
 unfolding arity memberOfKind
-leaf-arity k h = rw (ne-eqb k 4 (λ e. omega arith), lt-ltb k 5 (omega arith))
+leaf-arity k h = rw (ne-eqb k functionKind (λ e. omega arith), lt-ltb k firstMember (omega arith))
 
 module _ (i : ℕ) (n : Node) (r : nodeRight i n ≡ true) where
   pub no-links : arity (n .kind) ≡ 0 → (n .first ≡ 0) × (n .second ≡ 0)

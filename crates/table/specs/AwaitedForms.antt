@@ -15,7 +15,7 @@ use Rattle.members.specs.declared.Found.the-variants.{Is, Unknown}
 use Rattle.meaning.specs.Forms.{Form}
 use Rattle.meaning.specs.Evaluation.{joined, awaited}
 use Rattle.layout.specs.Memory.{Node}
-use Rattle.layout.specs.Nodes.{memberOfKind, memberArity, memberForm, arity, build}
+use Rattle.layout.specs.Nodes.{numberKind, variableKind, unboundKind, readingsKind, functionKind, memberOfKind, memberArity, memberForm, arity, build}
 use Rattle.table.specs.WellFormed.{awaitedBy}
 use Rattle.table.specs.Right.{nodeRight}
 use Rattle.table.specs.RightLaws.{first-low, first-given, second-low, second-given}
@@ -33,7 +33,7 @@ member-awaits (Is m) g a k e =
     (λ p. let z : row m .arguments ≡ 0 = eqb-true _ _ p in let o : k ≡ 1 = omega arith in rw (o, p))
     (λ p. let o : k ≡ 2 = (let z = eqb-false (row m .arguments) 0 p in omega arith) in rw (o, p))
 
-arity-as : (k : ℕ) → eqb k 4 ≡ false → arity k ≡ memberArity (memberOfKind k)
+arity-as : (k : ℕ) → eqb k functionKind ≡ false → arity k ≡ memberArity (memberOfKind k)
 unfolding arity
 arity-as k p = rw p
 
@@ -41,7 +41,7 @@ arity-as k p = rw p
 module _ (n : Node) (b : List (List ℕ)) (φ : ℕ → Form)
     (first-held : (arity (n .kind) ≡ 0 → ⊥) → getD b (n .first - 1) [] ≡ awaited (φ (n .first - 1)))
     (second-held : arity (n .kind) ≡ 2 → getD b (n .second - 1) [] ≡ awaited (φ (n .second - 1))) where
-  works-awaits : eqb (n .kind) 4 ≡ false
+  works-awaits : eqb (n .kind) functionKind ≡ false
       → cond (eqb (arity (n .kind)) 1) (getD b (n .first - 1) []) (cond (eqb (arity (n .kind)) 2) (joined (getD b (n .first - 1) []) (getD b (n .second - 1) [])) [])
       ≡ awaited (memberForm (memberOfKind (n .kind)) (φ (n .first - 1)) (φ (n .second - 1)))
   works-awaits p =
@@ -61,20 +61,29 @@ module _ (n : Node) (b : List (List ℕ)) (φ : ℕ → Form)
   pub awaited-build : awaitedBy b n ≡ awaited (build n φ)
   unfolding awaitedBy build awaited
   awaited-build =
-      split (eqb (n .kind) 1)
-      (λ p. let z : n .kind ≡ 1 = eqb-true _ _ p in rw (p, ne-eqb (n .kind) 0 (λ e. omega arith)))
+      split (eqb (n .kind) variableKind)
+      (λ p. let z : n .kind ≡ variableKind = eqb-true _ _ p in rw (p, ne-eqb (n .kind) numberKind (λ e. omega arith)))
       (λ p.
-      split (eqb (n .kind) 4)
+      split (eqb (n .kind) functionKind)
       (λ q.
-      let z : n .kind ≡ 4 = eqb-true _ _ q in
-      rw (p, q, ne-eqb (n .kind) 0 (λ e. omega arith), ne-eqb (n .kind) 2 (λ e. omega arith), ne-eqb (n .kind) 3 (λ e. omega arith))
+      let z : n .kind ≡ functionKind = eqb-true _ _ q in
+      rw (
+        p,
+        q,
+        ne-eqb (n .kind) numberKind (λ e. omega arith),
+        ne-eqb (n .kind) unboundKind (λ e. omega arith),
+        ne-eqb (n .kind) readingsKind (λ e. omega arith),
+      )
       (rw (first-held (λ e. let y = function-arity (n .kind) z in omega arith))))
       (λ q.
-      split (eqb (n .kind) 0) (λ u. let z : n .kind ≡ 0 = eqb-true _ _ u in rw (p, q, u, leaf-arity (n .kind) (omega arith)))
+      split (eqb (n .kind) numberKind)
+      (λ u. let z : n .kind ≡ numberKind = eqb-true _ _ u in rw (p, q, u, leaf-arity (n .kind) (omega arith)))
       (λ u.
-      split (eqb (n .kind) 2) (λ v. let z : n .kind ≡ 2 = eqb-true _ _ v in rw (p, q, u, v, leaf-arity (n .kind) (omega arith)))
+      split (eqb (n .kind) unboundKind)
+      (λ v. let z : n .kind ≡ unboundKind = eqb-true _ _ v in rw (p, q, u, v, leaf-arity (n .kind) (omega arith)))
       (λ v.
-      split (eqb (n .kind) 3) (λ w. let z : n .kind ≡ 3 = eqb-true _ _ w in rw (p, q, u, v, w, leaf-arity (n .kind) (omega arith)))
+      split (eqb (n .kind) readingsKind)
+      (λ w. let z : n .kind ≡ readingsKind = eqb-true _ _ w in rw (p, q, u, v, w, leaf-arity (n .kind) (omega arith)))
       (λ w. rw (p, q, u, v, w) (works-awaits q))))))
 
 -- so of every entry, where each form is built from those of the entries before it

@@ -12,6 +12,7 @@ use lib.Dec.{eqb}
 use lib.ListN.{length, getD, set, replicate, length-set, length-append, length-replicate, getD-replicate}
 use lib.Seq.{getD-set-same, getD-set-other}
 use Rattle.language.specs.Cases.{impossible, split}
+use Rattle.language.specs.Limits.{textParts, tableEntries}
 use Rattle.layout.specs.Memory.{Node, nodeAt}
 use Rattle.layout.specs.Nodes.{sameNode}
 use Rattle.table.specs.WellFormed.{hasNode, distinct}
@@ -261,7 +262,8 @@ module _ (ν : ℕ → Node) where
   unfolding lastSame
   seek-end x total c all h = let z : c ≡ 0 = omega arith in sym (all ∙ rw z)
 
-  pub chained-more : (chain chain′ : List ℕ) (n h : ℕ) → Chained ν chain n → chain′ ≡ linked chain h n → h ≡ hashOf (ν n) → h < 512 → n < 640 → Chained ν chain′ (n + 1)
+  pub chained-more : (chain chain′ : List ℕ) (n h : ℕ) → Chained ν chain n → chain′ ≡ linked chain h n → h ≡ hashOf (ν n) → h < 512
+      → n < tableEntries + textParts → Chained ν chain′ (n + 1)
   unfolding linked latest
   chained-more chain chain′ n h ch e q lh ln =
       let z = ch .size in
@@ -309,7 +311,8 @@ unfolding hashOf
 hash-low h m q = omega arith
 
 module _ (ν : ℕ → Node) (i : ℕ) (chain′ : List ℕ) (s : ℕ) (m : Node) (qs : s ≡ lastSame ν m i) (qm : m ≡ ν i) where
-  pub entered-new : (chain : List ℕ) (h : ℕ) → Chained ν chain i → chain′ ≡ linked chain h i → h ≡ hashOf m → s ≡ 0 → i < 640 → Entered ν i chain′ true
+  pub entered-new : (chain : List ℕ) (h : ℕ) → Chained ν chain i → chain′ ≡ linked chain h i → h ≡ hashOf m → s ≡ 0 → i < tableEntries + textParts
+      → Entered ν i chain′ true
   entered-new chain h ch e q z l =
       record {
         new = sym (rw (← qm) (rw (← qs) (eq-eqb s 0 z)));
@@ -320,7 +323,8 @@ module _ (ν : ℕ → Node) (i : ℕ) (chain′ : List ℕ) (s : ℕ) (m : Node
   entered-old z = record { new = sym (rw (← qm) (rw (← qs) (ne-eqb s 0 z))); chained = λ t. impossible t }
 
 -- a node entered without a test, and all of them
-pub chained-entered : (ν : ℕ → Node) (i : ℕ) (chain chain′ : List ℕ) (m : Node) (h : ℕ) → chain′ ≡ linked chain h i → h ≡ hashOf m → m ≡ ν i → Chained ν chain i → i < 640 → Chained ν chain′ (i + 1)
+pub chained-entered : (ν : ℕ → Node) (i : ℕ) (chain chain′ : List ℕ) (m : Node) (h : ℕ) → chain′ ≡ linked chain h i → h ≡ hashOf m → m ≡ ν i
+    → Chained ν chain i → i < tableEntries + textParts → Chained ν chain′ (i + 1)
 chained-entered ν i chain chain′ m h e q qm ch l = chained-more ν chain chain′ i h ch e (q ∙ ap hashOf qm) (hash-low h m q) l
 
 pub chained-done : (ν : ℕ → Node) (i n : ℕ) (chain : List ℕ) → Chained ν chain i → i ≤ n → n ≤ i → Chained ν chain n

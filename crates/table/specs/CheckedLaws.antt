@@ -9,6 +9,7 @@ use lib.Dec.{eqb, ltb, leb}
 use lib.IntN.{ℤ}
 use lib.ListN.{getD}
 use Rattle.language.specs.Cases.{split}
+use Rattle.language.specs.Limits.{tableEntries, tableReadings}
 use Rattle.values.specs.Packing.{functionCell, delayedCell, isPacked}
 use Rattle.layout.specs.Links.{kindAt, valueAt, nameAt, otherAt}
 use Rattle.layout.specs.Memory.{Node, Entry, nodeAt, keptAt, entryAt, entriesFrom, nodesOf, memory}
@@ -189,7 +190,8 @@ module _ (rs : List ℤ) (heads links cells : List ℕ) where
   abbrev readings : ℕ
   readings = getD heads 1 0
 
-  pub well-is : wellFormed (memory rs heads links cells) ≡ (leb count 512 && (leb readings 1024 && entriesRight links cells readings count))
+  pub well-is : wellFormed (memory rs heads links cells)
+      ≡ (leb count tableEntries && (leb readings tableReadings && entriesRight links cells readings count))
   unfolding wellFormed entriesRight
   well-is =
       rw (nodes-are links cells 0 count)
@@ -201,7 +203,7 @@ module _ (rs : List ℤ) (heads links cells : List ℕ) where
         every-from links cells (λ (i : ℕ) (e : Entry). settled (entriesFrom links cells 0 count) e) 0 count,
         every-from links cells (λ (i : ℕ) (e : Entry). keptRight readings e) 0 count,
       )
-      (ap (λ (b : Bool). leb count 512 && (leb readings 1024 && b))
+      (ap (λ (b : Bool). leb count tableEntries && (leb readings tableReadings && b))
       (regroup
       (allFrom (λ j. kindKnown (nodeAt links cells j)) count 0)
       (allFrom (λ j. keyRight (nodeAt links cells j)) count 0)
@@ -213,18 +215,19 @@ module _ (rs : List ℤ) (heads links cells : List ℕ) where
       (right-all links cells count)
       (kept-all links cells count readings))))
 
-  pub well-count : (n : ℕ) → n ≡ getD heads 0 0 → 512 < n → false ≡ wellFormed (memory rs heads links cells)
-  well-count n q h = sym (well-is ∙ rw (← q, lt-leb n 512 h))
+  pub well-count : (n : ℕ) → n ≡ getD heads 0 0 → tableEntries < n → false ≡ wellFormed (memory rs heads links cells)
+  well-count n q h = sym (well-is ∙ rw (← q, lt-leb n tableEntries h))
 
-  pub well-readings : (m : ℕ) → m ≡ getD heads 1 0 → 1024 < m → false ≡ wellFormed (memory rs heads links cells)
-  well-readings m q h = sym (well-is ∙ rw (← q, lt-leb m 1024 h) (by (leb count 512)))
+  pub well-readings : (m : ℕ) → m ≡ getD heads 1 0 → tableReadings < m → false ≡ wellFormed (memory rs heads links cells)
+  well-readings m q h = sym (well-is ∙ rw (← q, lt-leb m tableReadings h) (by (leb count tableEntries)))
     where
       by : (b : Bool) → (b && false) ≡ false
       by true = refl
       by false = refl
 
-  pub well-entries : (n m : ℕ) (r : Bool) → r ≡ entriesRight links cells m n → n ≡ getD heads 0 0 → m ≡ getD heads 1 0 → n ≤ 512 → m ≤ 1024 → r ≡ wellFormed (memory rs heads links cells)
-  well-entries n m r q p o h k = q ∙ sym (well-is ∙ rw (← p, ← o, le-leb n 512 h, le-leb m 1024 k))
+  pub well-entries : (n m : ℕ) (r : Bool) → r ≡ entriesRight links cells m n → n ≡ getD heads 0 0 → m ≡ getD heads 1 0 → n ≤ tableEntries
+      → m ≤ tableReadings → r ≡ wellFormed (memory rs heads links cells)
+  well-entries n m r q p o h k = q ∙ sym (well-is ∙ rw (← p, ← o, le-leb n tableEntries h, le-leb m tableReadings k))
 
 pub ruleset checks = (
   done-is,

@@ -14,7 +14,8 @@ use Rattle.members.specs.declared.Member.{Member}
 use Rattle.members.specs.declared.Found.the-variants.{Is}
 use Rattle.meaning.specs.Forms.{Form, ask, call}
 use Rattle.layout.specs.Memory.{Node, node}
-use Rattle.layout.specs.Nodes.{kindCount, numberKind, variableKind, unboundKind, readingsKind, functionKind, memberKind, memberOfKind, memberForm, arity, build}
+use Rattle.layout.specs.Nodes.{numberKind, variableKind, unboundKind, readingsKind, functionKind, firstMember, memberKind, kindCount}
+use Rattle.layout.specs.Nodes.{memberOfKind, memberForm, arity, build}
 use Rattle.table.specs.WellFormed.{keyRight}
 use Rattle.table.specs.Right.{nodeRight}
 use Rattle.table.specs.RightLaws.{right-kind, right-key, first-given}
@@ -37,21 +38,28 @@ less-one n = omega arith
 pub member-found : (m : Member) → memberOfKind (memberKind m) ≡ Is m
 unfolding memberOfKind memberAt
 member-found m =
-    let q : 5 + memberNumber m - 5 ≡ memberNumber m = omega arith in
-    rw (le-ltb (5 + memberNumber m) 5 (omega arith), q) (number-found m)
+    let q : memberKind m - firstMember ≡ memberNumber m = omega arith in
+    rw (le-ltb (memberKind m) firstMember (omega arith), q) (number-found m)
 
-pub not-member : (m : Member) (k : ℕ) → k < 5 → eqb (memberKind m) k ≡ false
+pub not-member : (m : Member) (k : ℕ) → k < firstMember → eqb (memberKind m) k ≡ false
 not-member m k h = ne-eqb (memberKind m) k (λ e. omega arith)
 
 pub member-arity : (m : Member) → arity (memberKind m) ≡ suc (row m .arguments)
 unfolding arity
-member-arity m = rw (not-member m 4 (omega arith), member-found m)
+member-arity m = rw (not-member m functionKind (omega arith), member-found m)
 
 build-member : (m : Member) (f a : ℕ) (φ : ℕ → Form) → build (node (memberKind m) 0 f a) φ ≡ memberForm (Is m) (φ (f - 1)) (φ (a - 1))
 unfolding build
 build-member m f a φ =
     let no = not-member m in
-    rw (no 0 (omega arith), no 1 (omega arith), no 2 (omega arith), no 3 (omega arith), no 4 (omega arith), member-found m)
+    rw (
+      no numberKind (omega arith),
+      no variableKind (omega arith),
+      no unboundKind (omega arith),
+      no readingsKind (omega arith),
+      no functionKind (omega arith),
+      member-found m,
+    )
 
 pub build-ask : (m : Member) (f : ℕ) (φ : ℕ → Form) → row m .arguments ≡ 0 → build (node (memberKind m) 0 (suc f) 0) φ ≡ ask m (φ f)
 build-ask m f φ e = build-member m (suc f) 0 φ ∙ rw (e, less-one f)
@@ -82,11 +90,11 @@ record OfKind (k : ℕ) : Type 0 where
   is : memberOfKind k ≡ Is member
   kind : k ≡ memberKind member
 
-of-kind : (k : ℕ) → 5 ≤ k → k < kindCount → OfKind k
+of-kind : (k : ℕ) → firstMember ≤ k → k < kindCount → OfKind k
 unfolding memberOfKind memberAt
 of-kind k l h =
-    let w = numbered members 0 (k - 5) refl (omega arith) in
-    record { member = w .member; is = rw (le-ltb k 5 l) (w .is); kind = omega (arith, w .number) }
+    let w = numbered members 0 (k - firstMember) refl (omega arith) in
+    record { member = w .member; is = rw (le-ltb k firstMember l) (w .is); kind = omega (arith, w .number) }
 
 -- ---- a right node
 module _ (i : ℕ) (n : Node) (r : nodeRight i n ≡ true) where
@@ -96,7 +104,7 @@ module _ (i : ℕ) (n : Node) (r : nodeRight i n ≡ true) where
   made : (k key f s : ℕ) → n .kind ≡ k → n .key ≡ key → n .first ≡ f → n .second ≡ s → Fine (node k key f s) → Fine n
   made k key f s a b c d x = subst Fine (λ t. record { kind = sym a t; key = sym b t; first = sym c t; second = sym d t }) x
 
-  leaf : (x key : ℕ) → x < 4 → n .kind ≡ x → n .key ≡ key → Fine (node x key 0 0) → Fine n
+  leaf : (x key : ℕ) → x < functionKind → n .kind ≡ x → n .key ≡ key → Fine (node x key 0 0) → Fine n
   leaf x key h e y f = let l = no-links i n r (leaf-arity k (omega arith)) in made x key 0 0 e y (l .0) (l .1) f
 
   first-is : (arity k ≡ 0 → ⊥) → n .first ≡ suc (n .first - 1)
@@ -106,7 +114,7 @@ module _ (i : ℕ) (n : Node) (r : nodeRight i n ≡ true) where
   unfolding arity
   of-member o z =
       let m = o .member in
-      let a : arity k ≡ suc (row m .arguments) = rw (ne-eqb k 4 (λ q. omega (arith, o .kind)), o .is) in
+      let a : arity k ≡ suc (row m .arguments) = rw (ne-eqb k functionKind (λ q. omega (arith, o .kind)), o .is) in
       let f = first-is (λ w. omega arith) in
       split (eqb (row m .arguments) 0)
       (λ p.
@@ -120,19 +128,20 @@ module _ (i : ℕ) (n : Node) (r : nodeRight i n ≡ true) where
   pub right-fine : Fine n
   unfolding keyRight
   right-fine =
-      split (eqb k 0) (λ p. leaf 0 (n .key) (omega arith) (eqb-true k 0 p) refl (aNumber (n .key)))
+      split (eqb k numberKind) (λ p. leaf numberKind (n .key) (omega arith) (eqb-true k numberKind p) refl (aNumber (n .key)))
       (λ p.
-      split (eqb k 1) (λ q. leaf 1 (n .key) (omega arith) (eqb-true k 1 q) refl (aVariable (n .key)))
+      split (eqb k variableKind) (λ q. leaf variableKind (n .key) (omega arith) (eqb-true k variableKind q) refl (aVariable (n .key)))
       (λ q.
-      split (eqb k 2) (λ u. leaf 2 (n .key) (omega arith) (eqb-true k 2 u) refl (anUnbound (n .key)))
+      split (eqb k unboundKind) (λ u. leaf unboundKind (n .key) (omega arith) (eqb-true k unboundKind u) refl (anUnbound (n .key)))
       (λ u.
-      split (eqb k 3) (λ v. let e = eqb-true k 3 v in leaf 3 0 (omega arith) e (eqb-true (n .key) 0 (rw e at (right-key i n r))) theReadings)
+      split (eqb k readingsKind)
+      (λ v. let e = eqb-true k readingsKind v in leaf readingsKind 0 (omega arith) e (eqb-true (n .key) 0 (rw e at (right-key i n r))) theReadings)
       (λ v.
-      split (eqb k 4)
+      split (eqb k functionKind)
       (λ w.
-      let e = eqb-true k 4 w in
+      let e = eqb-true k functionKind w in
       let a = function-arity k e in
-      made 4 (n .key) (suc (n .first - 1)) 0 e refl (first-is (λ z. omega arith)) (no-second i n r a) (aFunction (n .key) (n .first - 1)))
+      made functionKind (n .key) (suc (n .first - 1)) 0 e refl (first-is (λ z. omega arith)) (no-second i n r a) (aFunction (n .key) (n .first - 1)))
       (λ w.
-      let l = none-of 5 k (((((tt, eqb-false k 0 p), eqb-false k 1 q), eqb-false k 2 u), eqb-false k 3 v), eqb-false k 4 w) in
+      let l = none-of firstMember k (((((tt, eqb-false _ _ p), eqb-false _ _ q), eqb-false _ _ u), eqb-false _ _ v), eqb-false _ _ w) in
       of-member (of-kind k l (ltb-true k kindCount (right-kind i n r))) (eqb-true (n .key) 0 (rw (p, q, u, w) at (right-key i n r))))))))

@@ -6,6 +6,7 @@ use Prim.Native.Nat.{ℕ, zero, suc, _+_, _*_, _-_, _/_, _%_}
 use lib.Dec.{leb, ltb, eqb}
 use lib.ListN.{getD, set}
 use Rattle.layout.specs.Links.{kindAt, firstAt, secondAt, keyAt, isBelow}
+use Rattle.layout.specs.Nodes.{variableKind, functionKind}
 
 -- the first and the second
 abbrev pub slotA : ℕ → ℕ
@@ -47,9 +48,9 @@ waitsOf waits link i = cond (isBelow link i) (getD waits (link - 1) 0) 0
 -- of entry i, by its kind: a variable awaits itself, a function what its body awaits but its own name
 unfoldable pub waitsAt : List ℕ → List ℕ → List ℕ → ℕ → ℕ
 waitsAt links cells waits i =
-    cond (eqb (kindAt links i) 1) ((i + 1) * 65536)
-    (cond (ltb (kindAt links i) 4) 0
-    (cond (eqb (kindAt links i) 4) (withoutSlot cells (keyAt cells i) (waitsOf waits (firstAt links i) i))
+    cond (eqb (kindAt links i) variableKind) ((i + 1) * 65536)
+    (cond (ltb (kindAt links i) functionKind) 0
+    (cond (eqb (kindAt links i) functionKind) (withoutSlot cells (keyAt cells i) (waitsOf waits (firstAt links i) i))
     (joinedSlots (waitsOf waits (firstAt links i) i) (waitsOf waits (secondAt links i) i))))
 
 -- k entries from i on, in rising order

@@ -11,10 +11,11 @@ use lib.Dec.{leb, ltb, eqb, eqb·zero-suc, eqb·suc-zero}
 use lib.ListN.{length, getD, set, replicate, length-set, length-replicate}
 use lib.Seq.{getD-set-same, getD-set-other}
 use Rattle.language.specs.Cases.{impossible, split}
+use Rattle.language.specs.Limits.{tableEntries}
 use Rattle.meaning.specs.Evaluation.{hasName}
 use Rattle.meaning.specs.Evaluation as meaning
 use Rattle.layout.specs.Memory.{Node, nodeAt}
-use Rattle.layout.specs.Nodes.{arity, sameNode}
+use Rattle.layout.specs.Nodes.{variableKind, functionKind, arity, sameNode}
 use Rattle.table.specs.WellFormed.{distinct, awaitedBy, awaitsFew}
 use Rattle.table.specs.Right.{nodeRight, rightAt}
 use Rattle.layout.specs.Numbered.{allFrom, numbered}
@@ -59,14 +60,16 @@ module _ (links cells : List ℕ) where
             ∙ waits-at ws (waitsFrom links cells k (suc i) (set ws i v)) i (λ m b. sym (pass-below (suc k) i m ws b)))
       ]
 
-  pass-is : (n : ℕ) → n ≤ 512 → (i : ℕ) → i < n
-      → getD (waitsFrom links cells n 0 (replicate 512 0)) i 0 ≡ waitsAt links cells (waitsFrom links cells n 0 (replicate 512 0)) i
-  pass-is n most i h = pass-at n 0 i (replicate 512 0) (omega arith) (omega arith) (let z = length-replicate {A = ℕ} 512 0 in omega arith)
+  pass-is : (n : ℕ) → n ≤ tableEntries → (i : ℕ) → i < n
+      → getD (waitsFrom links cells n 0 (replicate tableEntries 0)) i 0 ≡ waitsAt links cells (waitsFrom links cells n 0 (replicate tableEntries 0)) i
+  pass-is n most i h =
+      pass-at n 0 i (replicate tableEntries 0) (omega arith) (omega arith)
+      (let z = length-replicate {A = ℕ} tableEntries 0 in omega arith)
 
 -- ---- what is found for an entry
 pub record Variable (links : List ℕ) (i a : ℕ) : Type 0 where
   pub below : a ≤ i
-  pub kind : kindAt links a ≡ 1
+  pub kind : kindAt links a ≡ variableKind
 
 -- w holds variables with these names: none, one, or two with different names
 pub data Holds (links cells : List ℕ) (i w : ℕ) (xs : List ℕ) : Type 0 where
@@ -132,7 +135,7 @@ module _ (cells : List ℕ) (key : ℕ) where
   unnamed : (v : ℕ) → v ≡ 0 → isNamed cells key v ≡ false
   unnamed v e = rw e
 
-  module _ {links : List ℕ} {i : ℕ} (inside : i < 512) where
+  module _ {links : List ℕ} {i : ℕ} (inside : i < tableEntries) where
     less : {w : ℕ} {xs : List ℕ} → Holds links cells i w xs → Holds links cells i (withoutSlot cells key w) (meaning.without key xs)
     unfolding withoutSlot meaning.without
     less {w} (none p q e) = rw (unnamed (slotA w) p, unnamed (slotB w) q) (none p q (rw e))
@@ -150,7 +153,8 @@ module _ (cells : List ℕ) (key : ℕ) where
 abbrev linked : List (List ℕ) → ℕ → List ℕ
 linked before link = cond (leb 1 link) (getD before (link - 1) []) []
 
-awaited-joined : (i : ℕ) (n : Node) → nodeRight i n ≡ true → (b : List (List ℕ)) → eqb (n .kind) 1 ≡ false → eqb (n .kind) 4 ≡ false
+awaited-joined : (i : ℕ) (n : Node) → nodeRight i n ≡ true → (b : List (List ℕ))
+    → eqb (n .kind) variableKind ≡ false → eqb (n .kind) functionKind ≡ false
     → awaitedBy b n ≡ meaning.joined (linked b (n .first)) (linked b (n .second))
 unfolding awaitedBy meaning.joined
 awaited-joined i n r b p q =
@@ -198,11 +202,11 @@ all-same p q (suc n) h =
     (λ t. rw t (sym (all-last q n ∙ rw (sym ih ∙ t))))
 
 -- ---- a table of at most 512 right entries, none of them twice
-module _ (links cells : List ℕ) (n : ℕ) (most : n ≤ 512)
+module _ (links cells : List ℕ) (n : ℕ) (most : n ≤ tableEntries)
     (right : (i : ℕ) → i < n → nodeRight i (nodeAt links cells i) ≡ true)
     (alone : (i j : ℕ) → i < n → j < n → nodeAt links cells i ≡ nodeAt links cells j → i ≡ j) where
   -- a name has one variable
-  pub single : (i j : ℕ) → i < n → j < n → kindAt links i ≡ 1 → kindAt links j ≡ 1 → keyAt cells i ≡ keyAt cells j → i ≡ j
+  pub single : (i j : ℕ) → i < n → j < n → kindAt links i ≡ variableKind → kindAt links j ≡ variableKind → keyAt cells i ≡ keyAt cells j → i ≡ j
   unfolding nodeAt
   single i j h m k l e =
       let a = no-links i (nodeAt links cells i) (right i h) (leaf-arity (kindAt links i) (omega arith)) in
@@ -214,7 +218,8 @@ module _ (links cells : List ℕ) (n : ℕ) (most : n ≤ 512)
     At w xs = Holds links cells i w xs
 
     -- two variables' names are equal just where the variables are
-    key-test : {a : ℕ} → Variable links i a → (j : ℕ) → j < n → kindAt links j ≡ 1 → eqb (suc a) (suc j) ≡ eqb (keyAt cells j) (keyAt cells a)
+    key-test : {a : ℕ} → Variable links i a → (j : ℕ) → j < n → kindAt links j ≡ variableKind
+        → eqb (suc a) (suc j) ≡ eqb (keyAt cells j) (keyAt cells a)
     key-test {a} va j h k =
         split (eqb (suc a) (suc j))
         (λ p. let z : a ≡ j = (let z = eqb-true (suc a) (suc j) p in omega arith) in rw p (sym (eq-eqb (keyAt cells j) (keyAt cells a) (rw z))))
@@ -225,7 +230,7 @@ module _ (links cells : List ℕ) (n : ℕ) (most : n ≤ 512)
     differ : {a b : ℕ} → Variable links i a → Variable links i b → (b ≡ a → ⊥) → keyAt cells b ≡ keyAt cells a → ⊥
     differ {a} {b} va vb s z = s (single b a (omega (arith, vb .below)) (omega (arith, va .below)) (vb .kind) (va .kind) z)
 
-    pub holds-of : {w : ℕ} {xs : List ℕ} → At w xs → (j : ℕ) → j < n → kindAt links j ≡ 1 → hasSlot w (suc j) ≡ hasName (keyAt cells j) xs
+    pub holds-of : {w : ℕ} {xs : List ℕ} → At w xs → (j : ℕ) → j < n → kindAt links j ≡ variableKind → hasSlot w (suc j) ≡ hasName (keyAt cells j) xs
     unfolding hasName
     holds-of (none p q e) j h k = rw (p, q, e, eqb·zero-suc j)
     holds-of (one a va p q e) j h k = rw (p, q, e, eqb·zero-suc j, key-test va j h k)
@@ -326,7 +331,8 @@ module _ (links cells : List ℕ) (n : ℕ) (most : n ≤ 512)
       unfolding fewAt
       unjoined e o = rw (is i h) (few (rw e) o)
 
-      member : eqb (kindAt links i) 1 ≡ false → ltb (kindAt links i) 4 ≡ false → eqb (kindAt links i) 4 ≡ false → Step i
+      member : eqb (kindAt links i) variableKind ≡ false → ltb (kindAt links i) functionKind ≡ false
+          → eqb (kindAt links i) functionKind ≡ false → Step i
       unfolding fewAt waitsAt nodeAt
       member p q u =
           let n = nodeAt links cells i in
@@ -334,7 +340,7 @@ module _ (links cells : List ℕ) (n : ℕ) (most : n ≤ 512)
           rw (is i h, p, q, u, awaited-joined i n r (after (nodeAt links cells) i) p u)
           (join i h (by-link (n .first) (first-low i n r)) (by-link (n .second) (second-low i n r)))
 
-      function : kindAt links i ≡ 4 → Holds links cells i (waitsAt links cells ws i) (names i)
+      function : kindAt links i ≡ functionKind → Holds links cells i (waitsAt links cells ws i) (names i)
       unfolding waitsAt nodeAt awaitedBy
       function e =
           let n = nodeAt links cells i in
@@ -347,21 +353,21 @@ module _ (links cells : List ℕ) (n : ℕ) (most : n ≤ 512)
       unfolding fewAt waitsAt nodeAt awaitedBy
       step =
           let r = right i h in
-          split (eqb (kindAt links i) 1)
+          split (eqb (kindAt links i) variableKind)
           (λ p.
-          let e : kindAt links i ≡ 1 = eqb-true _ _ p in
+          let e : kindAt links i ≡ variableKind = eqb-true _ _ p in
           unjoined (no-links i (nodeAt links cells i) r (leaf-arity (kindAt links i) (omega arith)) .1)
           (rw p (one i (record { below = omega arith; kind = e }) (omega arith) (omega arith) refl)))
           (λ p.
-          split (ltb (kindAt links i) 4)
+          split (ltb (kindAt links i) functionKind)
           (λ q.
           let l = leaf-arity (kindAt links i) (ltb-true _ _ q) in
-          let f = ne-eqb (kindAt links i) 4 (λ z. omega (arith, ltb-true (kindAt links i) 4 q)) in
+          let f = ne-eqb (kindAt links i) functionKind (λ z. omega (arith, ltb-true (kindAt links i) functionKind q)) in
           unjoined (no-links i (nodeAt links cells i) r l .1) (rw (p, q, f, l) (none refl refl refl)))
           (λ q.
-          split (eqb (kindAt links i) 4)
+          split (eqb (kindAt links i) functionKind)
           (λ u.
-          let e : kindAt links i ≡ 4 = eqb-true _ _ u in
+          let e : kindAt links i ≡ functionKind = eqb-true _ _ u in
           let a = function-arity (kindAt links i) e in
           unjoined (no-second i (nodeAt links cells i) r a) (function e))
           (λ u. member p q u)))
@@ -383,11 +389,11 @@ module _ (links cells : List ℕ) (n : ℕ) (most : n ≤ 512)
     tests-are = all-same (fewAt links ws) (λ i. leb (length (names i)) 2) n test-is ∙ sym (few-all (nodeAt links cells) n)
 
   abbrev pass : List ℕ
-  pass = waitsFrom links cells n 0 (replicate 512 0)
+  pass = waitsFrom links cells n 0 (replicate tableEntries 0)
 
   -- THE LAW: where no entry awaits over two names, what the pass finds for each stands for its names
   pub found : ((k : ℕ) → k < n → length (namesOf (nodeAt links cells) k) ≤ 2) → (i : ℕ) → i < n
-      → Holds links cells i (getD (waitsFrom links cells n 0 (replicate 512 0)) i 0) (namesOf (nodeAt links cells) i)
+      → Holds links cells i (getD (waitsFrom links cells n 0 (replicate tableEntries 0)) i 0) (namesOf (nodeAt links cells) i)
   found short = found-first pass (pass-is links cells n most) n (omega arith) (λ k q t l. omega (arith, short k q))
 
   pass-tests : allFrom (fewAt links pass) n 0 ≡ awaitsFew (numbered (nodeAt links cells) 0 n)
@@ -395,6 +401,6 @@ module _ (links cells : List ℕ) (n : ℕ) (most : n ≤ 512)
 
 -- and the tests say whether one does
 module _ (links cells : List ℕ) (n : ℕ) (ws : List ℕ) (r : Bool) where
-  pub few-is : r ≡ allFrom (fewAt links ws) n 0 → ws ≡ waitsFrom links cells n 0 (replicate 512 0) → allFrom (rightAt links cells) n 0 ≡ true
-      → distinct (numbered (nodeAt links cells) 0 n) ≡ true → n ≤ 512 → r ≡ awaitsFew (numbered (nodeAt links cells) 0 n)
+  pub few-is : r ≡ allFrom (fewAt links ws) n 0 → ws ≡ waitsFrom links cells n 0 (replicate tableEntries 0) → allFrom (rightAt links cells) n 0 ≡ true
+      → distinct (numbered (nodeAt links cells) 0 n) ≡ true → n ≤ tableEntries → r ≡ awaitsFew (numbered (nodeAt links cells) 0 n)
   few-is e q right d most = e ∙ rw q (pass-tests links cells n most (λ i h. right-at links cells n i right h) (apart (nodeAt links cells) n d))

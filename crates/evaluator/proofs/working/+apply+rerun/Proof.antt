@@ -6,6 +6,7 @@ use Prim.Native.Nat.{_+_, _*_, _-_, _≤_, ℕ, _<_}
 use mathlib.Core.Path.{_≡_, refl}
 use mathlib.Core.Logic.{⊎-elim}
 use lib.ListN.{drop}
+use Rattle.language.specs.Limits.{tableEntries}
 use Rattle.rules.specs.Windows.{readingsIn}
 use Rattle.evaluator.specs.Applying.{graph}
 use Rattle.evaluator.proofs.Running.{
@@ -267,7 +268,7 @@ rerun-Inv-loop readings links waits list at body variable c frame₀ top k₀ fr
     (top ≡ body + 1) × Works (graph links waits readings) body list at frame₀ frame k
 
 abbrev rerun-μ-loop : rerun-lts.MeasureT-loop
-rerun-μ-loop readings links waits list at body variable c frame₀ top k₀ frame k = 512 - k
+rerun-μ-loop readings links waits list at body variable c frame₀ top k₀ frame k = tableEntries - k
 
 rerun-bind-requires : (t : ℕ) → rerun-lts.Need-bind-requires (rerun-claims t) (rerun-at t) rerun.Post rerun-Inv-loop rerun-μ-loop
 rerun-bind-requires t c κs = c .before .before .pre .1 .few
