@@ -10,11 +10,13 @@ use Rattle.layout.specs.Memory.{Node, nodeAt, node}
 use Rattle.table.specs.WellFormed.{distinct}
 use Rattle.table.specs.Bind.{Bound, bindOne, bindAll}
 use Rattle.layout.specs.Numbered.{numbered}
-use Rattle.layout.specs.Held.{heldAt}
-use Rattle.table.specs.Chain.{Chained}
+use Rattle.layout.specs.Held.{heldAt, textWords, kindBase, recordBase}
+use Rattle.table.specs.Chain.{Chained, chainEntries}
 
 unfoldable pub recordAt : List ℕ → ℕ → Node
-recordAt records r = node (getD records (2 * r) 0 % 32) (getD records (2 * r + 1) 0) (getD records (2 * r) 0 / 32 % 256) (getD records (2 * r) 0 / 8192 % 256)
+recordAt records r =
+    node (getD records (2 * r) 0 % kindBase) (getD records (2 * r + 1) 0) (getD records (2 * r) 0 / kindBase % recordBase)
+    (getD records (2 * r) 0 / (kindBase * recordBase) % recordBase)
 
 abbrev pub bound : List Node → List ℕ → Bound
 bound ns is = record { nodes = ns; numbers = is }
@@ -29,10 +31,10 @@ pub record Ready (links cells : List ℕ) (count total r : ℕ) (numbers fresh c
   pub low : count ≤ total
   pub high : total ≤ count + r
   pub places : length numbers ≡ textParts
-  pub room : length fresh ≡ 256
+  pub room : length fresh ≡ textWords
   pub chained : Chained (heldAt links cells count fresh) chain total
   pub apart : distinct (numbered (heldAt links cells count fresh) 0 total) ≡ true
-  pub known : (j : ℕ) → j < r → getD numbers j 0 < tableEntries + textParts
+  pub known : (j : ℕ) → j < r → getD numbers j 0 < chainEntries
 
 -- one record more
 pub record BoundOne (links cells : List ℕ) (count total : ℕ) (records : List ℕ) (r : ℕ) (numbers fresh : List ℕ) (total′ : ℕ) (numbers′ fresh′ chain′ : List ℕ) : Type 0 where
@@ -45,7 +47,7 @@ pub record BoundAll (links cells : List ℕ) (count : ℕ) (records : List ℕ) 
   pub low : count ≤ total
   pub high : total ≤ count + n
   pub places : length numbers ≡ textParts
-  pub room : length fresh ≡ 256
+  pub room : length fresh ≡ textWords
 
 -- 01, refusal 13: entries held plus new forms exceed the table's
 abbrev pub isFull : ℕ → Bool

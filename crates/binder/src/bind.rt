@@ -3,6 +3,9 @@
 use language::limits::Table;
 use language::limits::Text;
 use layout::cells::at64;
+use layout::nodes::KIND_BASE;
+use layout::nodes::RECORD_BASE;
+use layout::nodes::RECORD_WEIGHT;
 use layout::nodes::Shape;
 use layout::nodes::TEXT_WORDS;
 use layout::nodes::add_fresh;
@@ -20,7 +23,8 @@ ghost use Rattle.layout.specs.Memory.{nodeAt};
 ghost use Rattle.table.specs.WellFormed.{distinct};
 ghost use Rattle.table.specs.Bind.{relinked, relink};
 ghost use Rattle.layout.specs.Numbered.{numbered};
-ghost use Rattle.layout.specs.Held.{shaped};
+ghost use Rattle.layout.specs.Held.{shaped, textWords};
+ghost use Rattle.table.specs.Chain.{chainEntries};
 ghost use Rattle.binder.specs.Records.{recordAt, Ready, BoundOne, BoundAll, isFull};
 
 // The record of number r.
@@ -30,17 +34,17 @@ fn record_at(records: &[u64], r: u16) -> Shape
     let at = r as usize;
     let word = at64(records, 2 * at);
     Shape {
-        kind: (word % 32) as u16,
+        kind: (word % KIND_BASE) as u16,
         key: at64(records, 2 * at + 1),
-        first: (word / 32 % 256) as u16,
-        second: (word / 8192 % 256) as u16,
+        first: (word / KIND_BASE % RECORD_BASE) as u16,
+        second: (word / RECORD_WEIGHT % RECORD_BASE) as u16,
     }
 }
 
 // A link to a record, as a link to the record's entry. The first r records have their numbers.
 fn relinked(numbers: &[u16; Text::PARTS], r: u16, link: u16) -> u16
     requires { ⌜ (r ≤ textParts) × (length (now numbers) ≡ textParts) ⌝ }
-    requires { ⌜ ((j : ℕ) → j < r → getD (now numbers) j 0 < 640) ⌝ }
+    requires { ⌜ ((j : ℕ) → j < r → getD (now numbers) j 0 < chainEntries) ⌝ }
     ensures { λ x. ⌜ x ≡ relinked (take r (now (numbers .entry))) link ⌝ }
 {
     if link == 0 {
@@ -55,7 +59,7 @@ fn relinked(numbers: &[u16; Text::PARTS], r: u16, link: u16) -> u16
 // Record r, its links those of entries.
 fn relink(records: &[u64; TEXT_WORDS], numbers: &[u16; Text::PARTS], r: u16) -> Shape
     requires { ⌜ (r ≤ textParts) × (length (now numbers) ≡ textParts) ⌝ }
-    requires { ⌜ ((j : ℕ) → j < r → getD (now numbers) j 0 < 640) ⌝ }
+    requires { ⌜ ((j : ℕ) → j < r → getD (now numbers) j 0 < chainEntries) ⌝ }
     ensures { λ x. ⌜ shaped x ≡ relink (take r (now (numbers .entry))) (recordAt (now (records .entry)) r) ⌝ }
 {
     let x = record_at(records, r);
@@ -108,7 +112,7 @@ pub fn bind(
     numbers: &mut [u16; Text::PARTS],
     fresh: &mut [u64; TEXT_WORDS],
 ) -> u16
-    requires { ⌜ (count ≤ tableEntries) × (n ≤ textParts) × (length (now numbers) ≡ textParts) × (length (now fresh) ≡ 256) ⌝ }
+    requires { ⌜ (count ≤ tableEntries) × (n ≤ textParts) × (length (now numbers) ≡ textParts) × (length (now fresh) ≡ textWords) ⌝ }
     requires { ⌜ distinct (numbered (nodeAt (now links) (now cells)) 0 count) ≡ true ⌝ }
     ensures { λ t. ⌜ BoundAll (now (links .entry)) (now (cells .entry)) count (now (records .entry)) n t (now (numbers .exit)) (now (fresh .exit)) ⌝ }
 {

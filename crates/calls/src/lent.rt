@@ -1,7 +1,7 @@
 // The cache as it is lent: the tests that come before a call's work.
 use language::limits::Table;
-use layout::cells::ENTRY_CELLS;
-use layout::cells::LINK_CELLS;
+use layout::cells::TABLE_CELLS;
+use layout::cells::TABLE_LINKS;
 use layout::cells::at32;
 use table::check::well_formed;
 ghost use mathlib.Core.Path.{_≡_};
@@ -13,9 +13,7 @@ pub fn fits(readings: &[i32], heads: &[u32], links: &[u16], cells: &[u64]) -> bo
     ensures { λ r. ⌜ r ≡ fitsOf (memory (now (readings .entry)) (now (heads .entry)) (now (links .entry)) (now (cells .entry))) ⌝ }
 {
     (Table::READINGS <= readings.len())
-        & ((2 <= heads.len())
-            & ((LINK_CELLS * Table::ENTRIES <= links.len())
-                & (ENTRY_CELLS * Table::ENTRIES <= cells.len())))
+        & ((2 <= heads.len()) & ((TABLE_LINKS <= links.len()) & (TABLE_CELLS <= cells.len())))
 }
 
 // The refusal of a call on an entry, 0 for none: 3, memory under its size; then 4, a cache that is ill-formed; then 14, no such entry.

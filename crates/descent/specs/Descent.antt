@@ -6,16 +6,22 @@ use mathlib.Core.List.{List}
 use Prim.Native.Nat.{ℕ, zero, suc, _+_, _*_, _-_}
 use lib.Dec.{eqb}
 use lib.ListN.{length, getD, set}
+use Rattle.language.specs.Limits.{openMarks}
 use Rattle.language.specs.Names.{packed, dataWord}
 use Rattle.grammar.specs.Tokens.{when, Located, tokens}
 use Rattle.layout.specs.Memory.{Node, node}
 use Rattle.layout.specs.Nodes.{numberKind, variableKind, unboundKind, readingsKind, functionKind}
+use Rattle.layout.specs.Held.{kindBase, recordBase}
 use Rattle.records.specs.Records.{numberKey}
 use Rattle.descent.specs.Cursor.{Cursor, letKind, inKind, lambdaKind, dotKind, openKind, shutKind, commaKind, wordKind, digitsKind, endKind}
 use Rattle.descent.specs.Cursor.{isAt, headWord, headValue, binderOf, atBracket, atName, atNumber, atMark, atShut, atComma, pass, passPart}
 use Rattle.descent.specs.Cursor.{refuse, judge, need, letHead, lambdaHead, callHead}
 
--- the arrays: two words a record (256); the record of each part by place (128); two cells a binder (32)
+-- the cells of the binders that can be open, two each
+abbrev pub scopeCells : ℕ
+scopeCells = 2 * openMarks
+
+-- the arrays: two words a record, `textWords`; the record of each part by place, `textParts`; two cells a binder, `scopeCells`
 pub record State : Type 0 where
   pub cursor : Cursor
   pub records : List ℕ
@@ -31,7 +37,7 @@ then s k = when (eqb (s .cursor .number) 0) (λ _. k s) (λ _. s)
 
 -- the first word of a record; the second is its key
 unfoldable pub linkWord : Node → ℕ
-linkWord n = n .kind + 32 * n .first + 8192 * n .second
+linkWord n = n .kind + kindBase * n .first + kindBase * recordBase * n .second
 
 -- the cursor behind one more record, and behind the use of record j
 unfoldable pub counted : Cursor → Cursor

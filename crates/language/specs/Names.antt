@@ -31,10 +31,14 @@ inWord b = isLetter b || isDigit b
 abbrev pub isBlank : ℕ → Bool
 isBlank b = eqb b 32 || (eqb b 9 || (eqb b 13 || eqb b 10))
 
+-- how many values a byte has: the base in which the bytes of a name are packed
+abbrev pub byteBase : ℕ
+byteBase = 256
+
 -- the number that stands for a list of bytes
 unfoldable pub packOnto : ℕ → List ℕ → ℕ
 packOnto n [] = n
-packOnto n (b ∷ w) = packOnto (n * 256 + b) w
+packOnto n (b ∷ w) = packOnto (n * byteBase + b) w
 
 abbrev pub packed : List ℕ → ℕ
 packed w = packOnto 0 w

@@ -2,7 +2,11 @@
 ghost use mathlib.Core.Path.{_≡_};
 ghost use Prim.Native.Nat.{_≤_};
 ghost use lib.ListN.{length};
+ghost use Rattle.language.specs.Limits.{nameBytes};
 ghost use Rattle.language.specs.Names.{isLetter, isDigit, inWord, isBlank, packed};
+
+// How many values a byte has: the base in which the bytes of a name are packed.
+pub const BYTE_BASE: u64 = 256;
 
 // An ASCII letter.
 pub fn is_letter(b: u8) -> bool
@@ -32,15 +36,15 @@ pub fn is_blank(b: u8) -> bool
     (b == b' ') | ((b == b'\t') | ((b == b'\r') | (b == b'\n')))
 }
 
-// The bytes in base 256, the first highest.
+// The bytes as one number, the first highest.
 pub fn pack(word: &[u8]) -> u64
-    requires { ⌜ length (now word) ≤ 8 ⌝ }
+    requires { ⌜ length (now word) ≤ nameBytes ⌝ }
     ensures { λ r. ⌜ r ≡ packed (now (word .entry)) ⌝ }
 {
     let mut acc: u64 = 0;
     let mut i = 0;
     while i < word.len() {
-        acc = acc * 256 + word[i] as u64;
+        acc = acc * BYTE_BASE + word[i] as u64;
         i += 1;
     }
     acc

@@ -5,18 +5,35 @@ use mathlib.Core.List.{List}
 use Prim.Native.Nat.{ℕ, _+_, _-_, _*_, _/_, _%_}
 use lib.Dec.{ltb}
 use lib.ListN.{getD, set}
+use Rattle.language.specs.Limits.{textParts}
 use Rattle.layout.specs.Memory.{Node, nodeAt, node}
 use Rattle.layout.specs.declared.nodes.Shape.{Shape}
 
 abbrev pub shaped : Shape → Node
 shaped s = node (s .kind) (s .key) (s .first) (s .second)
 
--- the word of a kind below 32 and links below 1024
+-- the words of the nodes that a text can have, two each
+abbrev pub textWords : ℕ
+textWords = 2 * textParts
+
+-- in a word a kind is below the first of these, a link to an entry and one to a record below the others
+abbrev pub kindBase : ℕ
+kindBase = 32
+
+abbrev pub entryBase : ℕ
+entryBase = 1024
+
+abbrev pub recordBase : ℕ
+recordBase = 256
+
+-- the word of a kind and links to entries
 abbrev pub wordOf : ℕ → ℕ → ℕ → ℕ
-wordOf kind first second = kind + (32 * first + 32768 * second)
+wordOf kind first second = kind + (kindBase * first + kindBase * entryBase * second)
 
 unfoldable pub freshAt : List ℕ → ℕ → Node
-freshAt fresh i = node (getD fresh (2 * i) 0 % 32) (getD fresh (2 * i + 1) 0) (getD fresh (2 * i) 0 / 32 % 1024) (getD fresh (2 * i) 0 / 32768 % 1024)
+freshAt fresh i =
+    node (getD fresh (2 * i) 0 % kindBase) (getD fresh (2 * i + 1) 0) (getD fresh (2 * i) 0 / kindBase % entryBase)
+    (getD fresh (2 * i) 0 / (kindBase * entryBase) % entryBase)
 
 unfoldable pub heldAt : List ℕ → List ℕ → ℕ → List ℕ → ℕ → Node
 heldAt links cells count fresh i = cond (ltb i count) (nodeAt links cells i) (freshAt fresh (i - count))

@@ -6,7 +6,7 @@ use lib.Dec.{ltb, leb, eqb}
 use lib.IntN.{ℤ, pos, _-ℤ_}
 use lib.ListN.{length}
 use Rattle.language.specs.Limits.{nameBytes}
-use Rattle.language.specs.Names.{isLetter, inWord, packed, letWord, inWord!, dataWord}
+use Rattle.language.specs.Names.{isLetter, inWord, byteBase, packed, letWord, inWord!, dataWord}
 use Rattle.members.specs.Members.{row, members, memberAt, memberNumber}
 use Rattle.members.specs.declared.Member.{Member}
 use Rattle.members.specs.declared.Found.{Found}
@@ -93,7 +93,7 @@ build n φ =
 -- a number that is a packed name: a letter, then letters and digits, at most so many bytes in all
 unfoldable pub wordNumber : ℕ → ℕ → Bool
 wordNumber zero k = false
-wordNumber (suc n) k = cond (ltb k 256) (isLetter k) (inWord (k % 256) && wordNumber n (k / 256))
+wordNumber (suc n) k = cond (ltb k byteBase) (isLetter k) (inWord (k % byteBase) && wordNumber n (k / byteBase))
 
 -- a name is no let, in or data
 unfoldable pub isName : ℕ → Bool

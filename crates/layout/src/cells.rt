@@ -1,14 +1,19 @@
 // The cells of the lent memory (docs/MEMORY.md): reads that are total, past the end a read is 0; an entry's cells by name; and the writes
 // of an entry. No other file knows where a cell stands.
+use language::limits::Table;
 ghost use mathlib.Core.Path.{_≡_};
 ghost use Prim.Native.Nat.{_<_};
 ghost use lib.ListN.{length, getD};
 ghost use Rattle.layout.specs.Links.{secondIndex, otherIndex, kindAt, firstAt, secondAt, keyAt, valueAt, nameAt, otherAt, linksWith, keptWith, cellsWith, isBelow};
 
-// How many links and how many cells an entry has.
+// How many links and how many cells an entry has, and a table.
 pub const LINK_CELLS: usize = 3;
 
 pub const ENTRY_CELLS: usize = 4;
+
+pub const TABLE_LINKS: usize = LINK_CELLS * Table::ENTRIES;
+
+pub const TABLE_CELLS: usize = ENTRY_CELLS * Table::ENTRIES;
 
 pub fn at16(s: &[u16], i: usize) -> u16
     ensures { λ r. ⌜ r ≡ getD (now (s .entry)) i 0 ⌝ }

@@ -13,10 +13,22 @@ ghost use lib.ListN.{length};
 ghost use Rattle.language.specs.Limits.{textParts};
 ghost use Rattle.layout.specs.Memory.{nodeAt};
 ghost use Rattle.layout.specs.Nodes.{sameNode};
-ghost use Rattle.layout.specs.Held.{shaped, freshAt, heldAt, withFresh};
+ghost use Rattle.layout.specs.Held.{shaped, freshAt, heldAt, withFresh, textWords, entryBase};
 
 // The words of the nodes that a text can have, two each.
 pub const TEXT_WORDS: usize = 2 * Text::PARTS;
+
+// A node's kind and links make one word: a kind is below the first of these, a link to an entry and one to a record below the others.
+pub const KIND_BASE: u64 = 32;
+
+pub const ENTRY_BASE: u64 = 1024;
+
+pub const RECORD_BASE: u64 = 256;
+
+// The weight of the second link in such a word, to an entry and to a record.
+pub const ENTRY_WEIGHT: u64 = KIND_BASE * ENTRY_BASE;
+
+pub const RECORD_WEIGHT: u64 = KIND_BASE * RECORD_BASE;
 
 pub struct Shape {
     pub kind: u16,
@@ -71,7 +83,7 @@ pub fn entry_of(link: u16) -> u16
 
 // A field of a word.
 fn narrow(x: u64) -> u16
-    requires { ⌜ x < 1024 ⌝ }
+    requires { ⌜ x < entryBase ⌝ }
     ensures { λ r. ⌜ r ≡ x ⌝ }
 {
     x as u16
@@ -94,19 +106,19 @@ pub fn fresh_at(fresh: &[u64], i: u16) -> Shape
     let at = i as usize;
     let word = at64(fresh, 2 * at);
     Shape {
-        kind: narrow(word % 32),
+        kind: narrow(word % KIND_BASE),
         key: at64(fresh, 2 * at + 1),
-        first: narrow(word / 32 % 1024),
-        second: narrow(word / 32768 % 1024),
+        first: narrow(word / KIND_BASE % ENTRY_BASE),
+        second: narrow(word / ENTRY_WEIGHT % ENTRY_BASE),
     }
 }
 
 // x waits at place i.
 pub fn add_fresh(fresh: &mut [u64; TEXT_WORDS], i: u16, x: Shape)
-    requires { ⌜ (i < textParts) × (length (now fresh) ≡ 256) ⌝ }
+    requires { ⌜ (i < textParts) × (length (now fresh) ≡ textWords) ⌝ }
     ensures { λ _. ⌜ now (fresh .exit) ≡ withFresh (now (fresh .entry)) i (shaped x) ⌝ }
 {
     let at = i as usize;
-    fresh[2 * at] = x.kind as u64 + (32 * x.first as u64 + 32768 * x.second as u64);
+    fresh[2 * at] = x.kind as u64 + (KIND_BASE * x.first as u64 + ENTRY_WEIGHT * x.second as u64);
     fresh[2 * at + 1] = x.key;
 }

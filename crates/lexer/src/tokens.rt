@@ -7,7 +7,7 @@ ghost use mathlib.Core.Path.{_≡_};
 ghost use Prim.Native.Nat.{_+_, _*_, _-_, _<_, _≤_, min};
 ghost use lib.IntN.{pos, negℤ};
 ghost use lib.ListN.{length, drop};
-ghost use Rattle.language.specs.Names.{isData, isLong};
+ghost use Rattle.language.specs.Names.{byteBase, isData, isLong};
 ghost use Rattle.members.specs.Members.{memberOf};
 ghost use Rattle.grammar.specs.Tokens.{wordToken, wordAt, digitsAt, minusAt, markToken};
 ghost use Rattle.lexer.specs.Lexing.{tokenKind, placed, lexAt, bytesAt, judged, valueOf, nameAt};
@@ -231,7 +231,7 @@ fn bounded(n: u64) -> u64
 
 // One more digit behind n, up to the bound.
 fn with_digit(n: u64, base: u64, digit0: u8, b: u8) -> u64
-    requires { ⌜ (n ≤ bound) × (base ≤ 256) ⌝ }
+    requires { ⌜ (n ≤ bound) × (base ≤ byteBase) ⌝ }
     ensures { λ r. ⌜ r ≡ min (n * base + (b - digit0)) bound ⌝ }
 {
     if b < digit0 {
@@ -243,7 +243,7 @@ fn with_digit(n: u64, base: u64, digit0: u8, b: u8) -> u64
 
 // The bytes as digits in a base, up to the bound. `digit0` is the byte of the digit 0.
 fn value_in_base(bytes: &[u8], base: u64, digit0: u8) -> u64
-    requires { ⌜ (1 ≤ base) × (base ≤ 256) ⌝ }
+    requires { ⌜ (1 ≤ base) × (base ≤ byteBase) ⌝ }
     ensures { λ r. ⌜ r ≡ min (based base digit0 0 (now (bytes .entry))) bound ⌝ }
 {
     let mut n: u64 = 0;
@@ -299,7 +299,7 @@ pub fn is_long(text: &[u8], start: usize, end: usize) -> bool
     Text::NAME_BYTES < part(text, start, end).len()
 }
 
-// The name from `start` up to `end`, packed; of its first 8 bytes where it is too long.
+// The name from `start` up to `end`, packed; of its first `Text::NAME_BYTES` where it is too long.
 pub fn name(text: &[u8], start: usize, end: usize) -> u64
     ensures { λ r. ⌜ r ≡ nameAt (bytesAt (now (text .entry)) start end) ⌝ }
 {
@@ -318,7 +318,7 @@ const DATA: u64 = 0x64617461;
 pub fn is_data(text: &[u8], start: usize, end: usize) -> bool
     ensures { λ r. ⌜ r ≡ isData (bytesAt (now (text .entry)) start end) ⌝ }
 {
-    value_in_base(part(text, start, end), 256, 0) == DATA
+    value_in_base(part(text, start, end), names::BYTE_BASE, 0) == DATA
 }
 
 // The member that the word from `start` up to `end` names.

@@ -7,6 +7,8 @@ use Prim.Native.Nat.{ℕ, _+_, _*_, _-_, _%_}
 use lib.Dec.{leb, ltb}
 use lib.IntN.{ℤ}
 use lib.ListN.{length, getD}
+use Rattle.language.specs.Limits.{textParts, tableEntries, tableReadings}
+use Rattle.layout.specs.Links.{tableCells}
 use Rattle.layout.specs.Memory.{nodeAt}
 use Rattle.table.specs.WellFormed.{distinct}
 use Rattle.layout.specs.Numbered.{numbered}
@@ -35,7 +37,7 @@ pub record ReadInto (text R P : List ℕ) (r : ℕ) (R′ P′ : List ℕ) : Typ
 
 -- binding n records to the first `count` entries: the number of entries then, and the last record's entry
 abbrev pub canBind : List ℕ → List ℕ → ℕ → ℕ → Bool
-canBind links cells count n = leb count 512 && ((leb 1 n && leb n 128) && distinct (numbered (nodeAt links cells) 0 count))
+canBind links cells count n = leb count tableEntries && ((leb 1 n && leb n textParts) && distinct (numbered (nodeAt links cells) 0 count))
 
 abbrev pub boundAll : List ℕ → List ℕ → ℕ → List ℕ → ℕ → Bound
 boundAll links cells count records n = bindAll (bound (numbered (nodeAt links cells) 0 count) []) (numbered (recordAt records) 0 n)
@@ -54,7 +56,7 @@ abbrev pub packedWork : ℕ → Bool → ℕ
 packedWork count left = cond left (2 * count + 1) (2 * count)
 
 abbrev pub canWork : List ℤ → List ℕ → ℕ → Bool
-canWork xs cells n = leb (length xs) 1024 && (leb 2048 (length cells) && ltb n 512)
+canWork xs cells n = leb (length xs) tableReadings && (leb tableCells (length cells) && ltb n tableEntries)
 
 unfoldable pub workMeasured : List ℤ → List ℕ → List ℕ → ℕ → ℕ → Work
 workMeasured xs links cells n allowance = cond (canWork xs cells n) (worked xs links cells n allowance) (workOf cells 0 false)

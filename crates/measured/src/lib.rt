@@ -1,6 +1,10 @@
 // The parts of the engine that benchmarks measure by themselves, exported under plain names. The watch links none of this.
 use binder::bind;
+use language::limits::Table;
+use language::limits::Text;
+use layout::cells::TABLE_CELLS;
 use layout::cells::at16;
+use layout::nodes::TEXT_WORDS;
 use reader::answer::Read;
 use reader::parser;
 use scheduler::works;
@@ -68,8 +72,8 @@ fn read_number(r: Read) -> u64
 #[no_mangle]
 pub extern "C" fn measured_read(
     text: &[u8],
-    records: &mut [u64; 256],
-    places: &mut [u16; 128],
+    records: &mut [u64; TEXT_WORDS],
+    places: &mut [u16; Text::PARTS],
 ) -> u64
     ensures { λ r. ⌜ ReadInto (now (text .entry)) (now (records .entry)) (now (places .entry)) r (now (records .exit)) (now (places .exit)) ⌝ }
 {
@@ -90,12 +94,13 @@ pub extern "C" fn measured_well_formed(heads: &[u32], links: &[u16], cells: &[u6
     flag(check::well_formed(heads, links, cells))
 }
 
-// Whether from 1 to 128 records can be bound to the first `count` entries.
+// Whether n records, from one to as many as a text has parts, can be bound to the first `count` entries.
 fn can_bind(links: &[u16], cells: &[u64], count: u16, n: u16) -> bool
     ensures { λ r. ⌜ r ≡ canBind (now (links .entry)) (now (cells .entry)) count n ⌝ }
 {
-    if count <= 512 {
-        return ((1 <= n) & (n <= 128)) & chain::distinct_nodes(links, cells, count);
+    if count as usize <= Table::ENTRIES {
+        return ((1 <= n) & (n as usize <= Text::PARTS))
+            & chain::distinct_nodes(links, cells, count);
     }
     false
 }
@@ -121,14 +126,14 @@ pub extern "C" fn measured_bind(
     links: &[u16],
     cells: &[u64],
     count: u16,
-    records: &[u64; 256],
+    records: &[u64; TEXT_WORDS],
     n: u16,
 ) -> u64
     ensures { λ r. ⌜ r ≡ bindNumber (now (links .entry)) (now (cells .entry)) count (now (records .entry)) n ⌝ }
 {
     if can_bind(links, cells, count, n) {
-        let mut numbers = [0u16; 128];
-        let mut fresh = [0u64; 256];
+        let mut numbers = [0u16; Text::PARTS];
+        let mut fresh = [0u64; TEXT_WORDS];
         let total = bind::bind(links, cells, count, records, n, &mut numbers, &mut fresh);
         return bound_number(total, at16(&numbers, n as usize - 1));
     }
@@ -139,7 +144,8 @@ pub extern "C" fn measured_bind(
 fn can_work(readings: &[i32], cells: &[u64], entry: u16) -> bool
     ensures { λ r. ⌜ r ≡ canWork (now (readings .entry)) (now (cells .entry)) entry ⌝ }
 {
-    (readings.len() <= 1024) & ((2048 <= cells.len()) & (entry < 512))
+    (readings.len() <= Table::READINGS)
+        & ((TABLE_CELLS <= cells.len()) & ((entry as usize) < Table::ENTRIES))
 }
 
 // How much was worked out and whether some is left, as one number.

@@ -15,6 +15,7 @@ ghost use Rattle.language.specs.Limits.{textParts, tableEntries};
 ghost use Rattle.layout.specs.Memory.{nodeAt, memory};
 ghost use Rattle.table.specs.WellFormed.{distinct};
 ghost use Rattle.layout.specs.Numbered.{numbered};
+ghost use Rattle.layout.specs.Held.{textWords};
 ghost use Rattle.planner.specs.Plans.{Planned};
 
 // What a text comes to: a refusal's number and place; or number 0, the entry of the whole, how many parts the text has, and how many entries
@@ -38,7 +39,7 @@ pub fn plan_edit(
     numbers: &mut [u16; Text::PARTS],
     fresh: &mut [u64; TEXT_WORDS],
 ) -> Plan
-    requires { ⌜ (count ≤ tableEntries) × (length (now parts) ≡ textParts) × (length (now numbers) ≡ textParts) × (length (now fresh) ≡ 256) ⌝ }
+    requires { ⌜ (count ≤ tableEntries) × (length (now parts) ≡ textParts) × (length (now numbers) ≡ textParts) × (length (now fresh) ≡ textWords) ⌝ }
     requires { ⌜ distinct (numbered (nodeAt (now links) (now cells)) 0 count) ≡ true ⌝ }
     ensures { λ p. ⌜ ((readings : List ℤ) (heads : List ℕ) → getD heads 0 0 ≡ count
         → Planned (memory readings heads (now (links .entry)) (now (cells .entry)))

@@ -6,7 +6,7 @@ use lib.Dec.{eqb}
 use lib.ListN.{replicate}
 use Rattle.grammar.specs.Tokens.{when}
 use Rattle.descent.specs.Cursor as D
-use Rattle.descent.specs.Descent.{readInto}
+use Rattle.descent.specs.Descent.{scopeCells, readInto}
 use Rattle.reader.specs.declared.answer.Read.{Read}
 use Rattle.reader.specs.declared.answer.Read.the-variants.{Done, Refused}
 
@@ -16,7 +16,7 @@ answerOf c = when (eqb (c .number) 0) (λ _. Done (c .parts) (c .count) (c .root
 
 -- no binder is open
 abbrev pub noBinders : List ℕ
-noBinders = replicate 32 0
+noBinders = replicate scopeCells 0
 
 -- the answer, and each cell of the two arrays
 pub record ReadsInto (text R P : List ℕ) (r : Read) (R′ P′ : List ℕ) : Type 0 where

@@ -8,15 +8,19 @@
 // Each function is the reader of its name in descent's Descent, run with any fuel that is enough. Of an atom and of a call, though, they read up
 // to its end, where descent's readers go on with the calls: those are the one loop in calls, so that an open mark takes one frame of the stack.
 use crate::answer::Read;
+use language::limits::Text;
 use layout::nodes::Shape;
+use layout::nodes::TEXT_WORDS;
 use lexer::tokens;
 use lexer::tokens::Lexed;
 use steps::cursor;
 use steps::cursor::Cursor;
+use steps::cursor::SCOPE_CELLS;
 use steps::scratch;
 use steps::scratch::Call;
 ghost use mathlib.Core.Path.{_≡_};
 ghost use Prim.Native.Nat.{_-_, _≤_};
+ghost use Rattle.language.specs.Limits.{textParts};
 ghost use Rattle.descent.specs.Cursor.{isAt, letKind, lambdaKind, dotKind, openKind};
 ghost use Rattle.descent.specs.Descent.{firstGiven, nextGiven, inExpression, inCalls, inArguments, inMore};
 ghost use Rattle.lexer.specs.Lexing.{tokensFrom};
@@ -33,7 +37,7 @@ fn less(n: u8) -> u8
 
 // The call behind its first argument.
 fn first_given(root: u16, k: Call) -> Call
-    requires { ⌜ root ≤ 128 ⌝ }
+    requires { ⌜ root ≤ textParts ⌝ }
     ensures { λ r. ⌜ callOf r ≡ firstGiven root (callOf k) ⌝ }
 {
     Call {
@@ -65,9 +69,9 @@ fn expression(
     marks: usize,
     depth: usize,
     c: Cursor,
-    records: &mut [u64; 256],
-    places: &mut [u16; 128],
-    scope: &mut [u64; 32],
+    records: &mut [u64; TEXT_WORDS],
+    places: &mut [u16; Text::PARTS],
+    scope: &mut [u64; SCOPE_CELLS],
 ) -> Cursor
     requires { ⌜ Ready (inExpression w marks depth) (now text) c (now records) (now places) (now scope) ⌝ }
     ensures { λ r. ⌜ Parses (inExpression w marks depth) (now (text .entry)) c
@@ -97,9 +101,9 @@ fn atom(
     marks: usize,
     depth: usize,
     c: Cursor,
-    records: &mut [u64; 256],
-    places: &mut [u16; 128],
-    scope: &mut [u64; 32],
+    records: &mut [u64; TEXT_WORDS],
+    places: &mut [u16; Text::PARTS],
+    scope: &mut [u64; SCOPE_CELLS],
 ) -> Cursor
     requires { ⌜ ReadyAtom x (inExpression w marks depth) (now text) c (now records) (now places) (now scope) ⌝ }
     ensures { λ r. ⌜ Continues (inExpression w marks depth) marks depth (now (text .entry)) c
@@ -126,9 +130,9 @@ fn read_let(
     marks: usize,
     depth: usize,
     c: Cursor,
-    records: &mut [u64; 256],
-    places: &mut [u16; 128],
-    scope: &mut [u64; 32],
+    records: &mut [u64; TEXT_WORDS],
+    places: &mut [u16; Text::PARTS],
+    scope: &mut [u64; SCOPE_CELLS],
 ) -> Cursor
     requires { ⌜ ReadyAt letKind (inExpression w marks depth) (now text) c (now records) (now places) (now scope) ⌝ }
     ensures { λ r. ⌜ Parses (inExpression w marks depth) (now (text .entry)) c
@@ -167,9 +171,9 @@ fn read_lambda(
     marks: usize,
     depth: usize,
     c: Cursor,
-    records: &mut [u64; 256],
-    places: &mut [u16; 128],
-    scope: &mut [u64; 32],
+    records: &mut [u64; TEXT_WORDS],
+    places: &mut [u16; Text::PARTS],
+    scope: &mut [u64; SCOPE_CELLS],
 ) -> Cursor
     requires { ⌜ ReadyAt lambdaKind (inExpression w marks depth) (now text) c (now records) (now places) (now scope) ⌝ }
     ensures { λ r. ⌜ Parses (inExpression w marks depth) (now (text .entry)) c
@@ -206,9 +210,9 @@ fn read_bracket(
     marks: usize,
     depth: usize,
     c: Cursor,
-    records: &mut [u64; 256],
-    places: &mut [u16; 128],
-    scope: &mut [u64; 32],
+    records: &mut [u64; TEXT_WORDS],
+    places: &mut [u16; Text::PARTS],
+    scope: &mut [u64; SCOPE_CELLS],
 ) -> Cursor
     requires { ⌜ ReadyAt openKind (inExpression w marks depth) (now text) c (now records) (now places) (now scope) ⌝ }
     ensures { λ r. ⌜ Continues (inExpression w marks depth) marks depth (now (text .entry)) c
@@ -242,9 +246,9 @@ fn calls(
     marks: usize,
     depth: usize,
     c: Cursor,
-    records: &mut [u64; 256],
-    places: &mut [u16; 128],
-    scope: &mut [u64; 32],
+    records: &mut [u64; TEXT_WORDS],
+    places: &mut [u16; Text::PARTS],
+    scope: &mut [u64; SCOPE_CELLS],
 ) -> Cursor
     requires { ⌜ Ready (inCalls marks depth) (now text) c (now records) (now places) (now scope) ⌝ }
     ensures { λ r. ⌜ Parses (inCalls marks depth) (now (text .entry)) c
@@ -267,9 +271,9 @@ fn call(
     marks: usize,
     depth: usize,
     c: Cursor,
-    records: &mut [u64; 256],
-    places: &mut [u16; 128],
-    scope: &mut [u64; 32],
+    records: &mut [u64; TEXT_WORDS],
+    places: &mut [u16; Text::PARTS],
+    scope: &mut [u64; SCOPE_CELLS],
 ) -> Cursor
     requires { ⌜ ReadyAt dotKind (inCalls marks depth) (now text) c (now records) (now places) (now scope) ⌝ }
     ensures { λ r. ⌜ Continues (inCalls marks depth) marks depth (now (text .entry)) c
@@ -298,9 +302,9 @@ fn arguments(
     marks: usize,
     depth: usize,
     c: Cursor,
-    records: &mut [u64; 256],
-    places: &mut [u16; 128],
-    scope: &mut [u64; 32],
+    records: &mut [u64; TEXT_WORDS],
+    places: &mut [u16; Text::PARTS],
+    scope: &mut [u64; SCOPE_CELLS],
 ) -> Cursor
     requires { ⌜ Ready (inArguments (callOf k) marks depth) (now text) c (now records) (now places) (now scope) ⌝ }
     ensures { λ r. ⌜ Continues (inArguments (callOf k) marks depth) marks depth (now (text .entry)) c
@@ -345,9 +349,9 @@ fn more(
     marks: usize,
     depth: usize,
     c: Cursor,
-    records: &mut [u64; 256],
-    places: &mut [u16; 128],
-    scope: &mut [u64; 32],
+    records: &mut [u64; TEXT_WORDS],
+    places: &mut [u16; Text::PARTS],
+    scope: &mut [u64; SCOPE_CELLS],
 ) -> Cursor
     requires { ⌜ Ready (inMore (callOf k) marks depth) (now text) c (now records) (now places) (now scope) ⌝ }
     ensures { λ r. ⌜ Continues (inMore (callOf k) marks depth) marks depth (now (text .entry)) c
@@ -375,10 +379,10 @@ fn more(
 
 // Reads a whole text, over scratch arrays of any contents: an expression, and then the end. 01's refusals 5 to 12 are given by the lowest number
 // at the first place.
-pub fn read(text: &[u8], records: &mut [u64; 256], places: &mut [u16; 128]) -> Read
+pub fn read(text: &[u8], records: &mut [u64; TEXT_WORDS], places: &mut [u16; Text::PARTS]) -> Read
     ensures { λ r. ⌜ ReadsInto (now (text .entry)) (now (records .entry)) (now (places .entry)) r (now (records .exit)) (now (places .exit)) ⌝ }
 {
-    let mut scope = [0u64; 32];
+    let mut scope = [0u64; SCOPE_CELLS];
     let start = Cursor {
         at: 0,
         parts: 0,

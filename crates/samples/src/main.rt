@@ -7,18 +7,22 @@ use calls::edit::edit;
 use calls::fetch::fetch;
 use calls::open::open;
 use calls::preview::preview;
+use language::limits::Table;
+use language::limits::Text;
+use layout::cells::TABLE_CELLS;
+use layout::cells::TABLE_LINKS;
 ghost use Prim.Native.Nat.{_≤_};
 ghost use lib.ListN.{length};
 
 // As much work as there is.
-const ALLOWANCE: u32 = 512;
+const ALLOWANCE: u32 = Table::ENTRIES as u32;
 
 fn show(
     entry: u32,
-    readings: &[i32; 1024],
+    readings: &[i32; Table::READINGS],
     heads: &[u32; 2],
-    links: &[u16; 1536],
-    cells: &mut [u64; 2048],
+    links: &[u16; TABLE_LINKS],
+    cells: &mut [u64; TABLE_CELLS],
 ) {
     let answer = preview(entry, ALLOWANCE, readings, heads, links, cells);
     say::preview_answer(answer);
@@ -30,11 +34,11 @@ fn show(
 // A text, and what its edit answers. Gives the entry of the whole text.
 fn begin(
     text: &[u8],
-    places: &mut [u16; 128],
-    readings: &[i32; 1024],
+    places: &mut [u16; Text::PARTS],
+    readings: &[i32; Table::READINGS],
     heads: &mut [u32; 2],
-    links: &mut [u16; 1536],
-    cells: &mut [u64; 2048],
+    links: &mut [u16; TABLE_LINKS],
+    cells: &mut [u64; TABLE_CELLS],
 ) -> u32 {
     say::text(text);
     say::words(b" => ");
@@ -44,11 +48,11 @@ fn begin(
 // A text's line.
 fn line(
     text: &[u8],
-    places: &mut [u16; 128],
-    readings: &[i32; 1024],
+    places: &mut [u16; Text::PARTS],
+    readings: &[i32; Table::READINGS],
     heads: &mut [u32; 2],
-    links: &mut [u16; 1536],
-    cells: &mut [u64; 2048],
+    links: &mut [u16; TABLE_LINKS],
+    cells: &mut [u64; TABLE_CELLS],
 ) {
     let whole = begin(text, places, readings, heads, links, cells);
     if whole == say::NO_ENTRY {
@@ -76,11 +80,11 @@ fn text_end(texts: &[u8], at: usize) -> usize
 
 fn lines(
     texts: &[u8],
-    places: &mut [u16; 128],
-    readings: &[i32; 1024],
+    places: &mut [u16; Text::PARTS],
+    readings: &[i32; Table::READINGS],
     heads: &mut [u32; 2],
-    links: &mut [u16; 1536],
-    cells: &mut [u64; 2048],
+    links: &mut [u16; TABLE_LINKS],
+    cells: &mut [u64; TABLE_CELLS],
 ) {
     let mut at: usize = 0;
     while at < texts.len() {
@@ -92,11 +96,11 @@ fn lines(
 
 // The texts, one to a line, over a cache that is opened with the recording.
 fn session(recording: &[i32], texts: &[u8]) {
-    let mut readings = [0i32; 1024];
+    let mut readings = [0i32; Table::READINGS];
     let mut heads = [0u32; 2];
-    let mut links = [0u16; 1536];
-    let mut cells = [0u64; 2048];
-    let mut places = [0u16; 128];
+    let mut links = [0u16; TABLE_LINKS];
+    let mut cells = [0u64; TABLE_CELLS];
+    let mut places = [0u16; Text::PARTS];
     say::open_answer(
         open(recording, &mut readings, &mut heads, &links, &cells),
         recording.len(),
@@ -113,10 +117,10 @@ fn session(recording: &[i32], texts: &[u8]) {
 
 fn entry(
     n: u32,
-    readings: &[i32; 1024],
+    readings: &[i32; Table::READINGS],
     heads: &[u32; 2],
-    links: &[u16; 1536],
-    cells: &mut [u64; 2048],
+    links: &[u16; TABLE_LINKS],
+    cells: &mut [u64; TABLE_CELLS],
 ) {
     say::words(b"  ");
     say::number(n as u64);
@@ -127,10 +131,10 @@ fn entry(
 // A preview of each entry, lowest first; and of the next number, which no entry has.
 fn entries(
     count: u32,
-    readings: &[i32; 1024],
+    readings: &[i32; Table::READINGS],
     heads: &[u32; 2],
-    links: &[u16; 1536],
-    cells: &mut [u64; 2048],
+    links: &[u16; TABLE_LINKS],
+    cells: &mut [u64; TABLE_CELLS],
 ) {
     let mut n: u32 = 0;
     while n < count {
@@ -142,11 +146,11 @@ fn entries(
 
 // A text, entry by entry.
 fn by_entry(recording: &[i32], text: &[u8]) {
-    let mut readings = [0i32; 1024];
+    let mut readings = [0i32; Table::READINGS];
     let mut heads = [0u32; 2];
-    let mut links = [0u16; 1536];
-    let mut cells = [0u64; 2048];
-    let mut places = [0u16; 128];
+    let mut links = [0u16; TABLE_LINKS];
+    let mut cells = [0u64; TABLE_CELLS];
+    let mut places = [0u16; Text::PARTS];
     open(recording, &mut readings, &mut heads, &links, &cells);
     begin(
         text,
@@ -161,26 +165,29 @@ fn by_entry(recording: &[i32], text: &[u8]) {
     entries(count, &readings, &heads, &links, &mut cells);
 }
 
-// A text of 1,024 bytes and 128 parts: a digit, 127 times a member, and spaces.
-fn chain(digit: u8) -> [u8; 1024] {
+// The bytes of as many calls as a text can have behind a digit.
+const CALLS_BYTES: usize = 6 * (Text::PARTS - 1);
+
+// A text of as many bytes and parts as there can be: a digit, 127 times a member, and spaces.
+fn chain(digit: u8) -> [u8; Text::BYTES] {
     let member = b".sum()";
-    let mut text = [b' '; 1024];
+    let mut text = [b' '; Text::BYTES];
     text[0] = digit;
     let mut i: usize = 0;
-    while i < 762 {
+    while i < CALLS_BYTES {
         text[i + 1] = member[i % 6];
         i += 1;
     }
     text
 }
 
-// Four such texts make 512 entries.
+// Four such texts fill a table.
 fn chains(
-    places: &mut [u16; 128],
-    readings: &[i32; 1024],
+    places: &mut [u16; Text::PARTS],
+    readings: &[i32; Table::READINGS],
     heads: &mut [u32; 2],
-    links: &mut [u16; 1536],
-    cells: &mut [u64; 2048],
+    links: &mut [u16; TABLE_LINKS],
+    cells: &mut [u64; TABLE_CELLS],
 ) {
     let mut digit = b'0';
     while digit < b'4' {
@@ -191,11 +198,11 @@ fn chains(
 
 // A table that is full, and one new entry.
 fn full(recording: &[i32]) {
-    let mut readings = [0i32; 1024];
+    let mut readings = [0i32; Table::READINGS];
     let mut heads = [0u32; 2];
-    let mut links = [0u16; 1536];
-    let mut cells = [0u64; 2048];
-    let mut places = [0u16; 128];
+    let mut links = [0u16; TABLE_LINKS];
+    let mut cells = [0u64; TABLE_CELLS];
+    let mut places = [0u16; Text::PARTS];
     open(recording, &mut readings, &mut heads, &links, &cells);
     chains(&mut places, &readings, &mut heads, &mut links, &mut cells);
     line(
@@ -210,13 +217,13 @@ fn full(recording: &[i32]) {
 
 // Memory that an edit declines: 127 places; and a cache in which entry 0, a count, depends on 0.
 fn memory() {
-    let readings = [0i32; 1024];
+    let readings = [0i32; Table::READINGS];
     let mut heads = [1u32, 0];
-    let mut links = [0u16; 1536];
+    let mut links = [0u16; TABLE_LINKS];
     links[0] = 13;
     links[1] = 1;
-    let mut cells = [0u64; 2048];
-    let mut few = [0u16; 127];
+    let mut cells = [0u64; TABLE_CELLS];
+    let mut few = [0u16; Text::PARTS - 1];
     say::words(b"127 places: 1 => ");
     say::edit_answer(
         edit(
@@ -229,7 +236,7 @@ fn memory() {
         ),
         &few,
     );
-    let mut places = [0u16; 128];
+    let mut places = [0u16; Text::PARTS];
     say::words(b"\nentry 0 depends on 0: ");
     line(
         b"1",
@@ -294,8 +301,8 @@ fn main() {
     );
     full(&run);
     // When a call is declined
-    session(&run, &[b' '; 1025]);
-    session(&[0; 1025], b"");
+    session(&run, &[b' '; Text::BYTES + 1]);
+    session(&[0; Table::READINGS + 1], b"");
     memory();
     session(
         &run,

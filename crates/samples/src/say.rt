@@ -2,6 +2,7 @@
 use interface::answers::Edited;
 use interface::answers::Opened;
 use interface::answers::Previewed;
+use language::names::BYTE_BASE;
 use libc::STDOUT_FILENO;
 use schedule::View;
 
@@ -27,15 +28,15 @@ fn signed(z: i32) {
     }
 }
 
-// A name's bytes are packed in base 256, the first byte highest.
+// A name's bytes are packed in base `BYTE_BASE`, the first byte highest.
 fn name(packed: u64) {
     let mut place: u64 = 72057594037927936;
     while 0 < place {
-        let byte = (packed / place % 256) as u8;
+        let byte = (packed / place % BYTE_BASE) as u8;
         if byte != 0 {
             words(&[byte]);
         }
-        place /= 256;
+        place /= BYTE_BASE;
     }
 }
 

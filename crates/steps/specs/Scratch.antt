@@ -5,7 +5,8 @@ use mathlib.Core.Bool.{Bool, true, false}
 use mathlib.Core.List.{List}
 use Prim.Native.Nat.{ℕ, _*_, _-_, _≤_, _<_}
 use lib.ListN.{getD, set}
-use Rattle.language.specs.Limits.{textParts}
+use Rattle.language.specs.Limits.{textParts, openMarks}
+use Rattle.layout.specs.Held.{kindBase}
 use Rattle.records.specs.Records.{numberKey}
 use Rattle.descent.specs.Cursor.{isAt, wordKind, digitsKind, binderLink}
 use Rattle.descent.specs.Descent.{State}
@@ -39,7 +40,7 @@ pub record Linked (p j : ℕ) (c : Cursor) (places : List ℕ) (r : Cursor) (pla
 pub record Recorded (c : Cursor) (p k f s : ℕ) : Type 0 where
   pub count : c .count < textParts
   pub place : p < textParts
-  pub kind : k < 32
+  pub kind : k < kindBase
   pub first : f ≤ textParts
   pub second : s ≤ textParts
 
@@ -53,13 +54,13 @@ pub record BoundRoom (c : Cursor) (p j : ℕ) : Type 0 where
 pub record ScopedRoom (c : Cursor) (p b : ℕ) (scope : List ℕ) : Type 0 where
   pub count : c .count < textParts
   pub place : p < textParts
-  pub binder : b ≤ 16
+  pub binder : b ≤ openMarks
   pub link : (b ≡ 0 → ⊥) → getD scope (2 * b - 1) 0 ≤ textParts
 
 pub record NameRoom (c : Cursor) (p d : ℕ) (scope : List ℕ) : Type 0 where
   pub count : c .count < textParts
   pub place : p < textParts
-  pub depth : d ≤ 16
+  pub depth : d ≤ openMarks
   pub links : (b : ℕ) → b < d → binderLink scope b ≤ textParts
 
 -- a name, a number or the bracket that ends a call is next, and there is room for what it writes
@@ -67,7 +68,7 @@ pub record NameAhead (text : List ℕ) (d : ℕ) (c : Cursor) (scope : List ℕ)
   pub ahead : isAt wordKind (tokensFrom text (c .at)) ≡ true
   pub parts : c .parts ≤ textParts
   pub count : c .count ≤ c .parts
-  pub depth : d ≤ 16
+  pub depth : d ≤ openMarks
   pub links : (b : ℕ) → b < d → binderLink scope b ≤ c .count
 
 pub record NumberAhead (text : List ℕ) (c : Cursor) : Type 0 where
@@ -78,7 +79,7 @@ pub record NumberAhead (text : List ℕ) (c : Cursor) : Type 0 where
 pub record ShutAhead (k : Call) (c : Cursor) : Type 0 where
   pub count : c .count < textParts
   pub place : k .place < textParts
-  pub kind : k .kind < 32
+  pub kind : k .kind < kindBase
   pub receiver : k .receiver < textParts
   pub argument : k .argument ≤ textParts
 

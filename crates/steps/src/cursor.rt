@@ -11,10 +11,14 @@ ghost use mathlib.Core.Bool.{cond, _&&_};
 ghost use Prim.Native.Nat.{suc, _≤_, _<_};
 ghost use lib.Dec.{eqb};
 ghost use lib.ListN.{length};
+ghost use Rattle.language.specs.Limits.{textParts, openMarks};
 ghost use Rattle.descent.specs.Cursor.{binderName, binderLink, binderOf, lambdasIn, lambdaIn};
 ghost use Rattle.descent.specs.Cursor.{atPart, atLet, atLambda, atBracket, atShut, atComma, need, letHead, lambdaHead, callHead};
 ghost use Rattle.steps.specs.Cursors.{cursorOf, passedTo, partTo, namedTo, refusedAt, refusing, passing, passingPart, letNamed, lambdaNamed, memberNamed, callOpened};
 ghost use Rattle.steps.specs.Cursors.{nameFault, numberFault, letNameFault, lambdaNameFault, openFault};
+
+// Two cells for each binder that can be open.
+pub const SCOPE_CELLS: usize = 2 * Text::MARKS;
 
 // Where the text is read from, how many parts and records there are, the record of the expression last read, the packed name read last or the
 // kind of the member read last and how many arguments that takes, and the refusal: its number, 0 for none, and its place.
@@ -47,7 +51,7 @@ fn moved(c: Cursor, at: usize) -> Cursor
 
 // The same behind the token of a part.
 fn counted(c: Cursor, at: usize) -> Cursor
-    requires { ⌜ c .parts ≤ 128 ⌝ }
+    requires { ⌜ c .parts ≤ textParts ⌝ }
     ensures { λ r. ⌜ r ≡ partTo c at ⌝ }
 {
     Cursor {
@@ -116,7 +120,7 @@ pub fn judged(text: &[u8], number: u8, c: Cursor) -> Cursor
 
 // The same, for a token that is a part.
 pub fn judged_part(text: &[u8], number: u8, c: Cursor) -> Cursor
-    requires { ⌜ c .parts ≤ 128 ⌝ }
+    requires { ⌜ c .parts ≤ textParts ⌝ }
     ensures { λ r. ⌜ cursorOf (now (text .entry)) r ≡ passingPart (now (text .entry)) number c ⌝ }
 {
     let x = tokens::token(text, c.at);
@@ -230,8 +234,8 @@ fn at_call_open(bracket: bool, marks: usize) -> u8
 }
 
 // One more than the number of the innermost binder of the name, 0 for none.
-pub fn binder_of(scope: &[u64; 32], x: u64, depth: usize) -> usize
-    requires { ⌜ depth ≤ 16 ⌝ }
+pub fn binder_of(scope: &[u64; SCOPE_CELLS], x: u64, depth: usize) -> usize
+    requires { ⌜ depth ≤ openMarks ⌝ }
     ensures { λ r. ⌜ r ≡ binderOf (now (scope .entry)) x depth ⌝ }
 {
     let mut b = depth;
@@ -246,32 +250,32 @@ pub fn binder_of(scope: &[u64; 32], x: u64, depth: usize) -> usize
 }
 
 // Whether a binder is a lambda's.
-fn is_lambda(scope: &[u64; 32], b: usize) -> bool
-    requires { ⌜ b < 16 ⌝ }
+fn is_lambda(scope: &[u64; SCOPE_CELLS], b: usize) -> bool
+    requires { ⌜ b < openMarks ⌝ }
     ensures { λ r. ⌜ r ≡ eqb (binderLink (now (scope .entry)) b) 0 ⌝ }
 {
     scope[2 * b + 1] == 0
 }
 
 // Whether it is a lambda's of this name.
-fn is_lambda_of(scope: &[u64; 32], x: u64, b: usize) -> bool
-    requires { ⌜ b < 16 ⌝ }
+fn is_lambda_of(scope: &[u64; SCOPE_CELLS], x: u64, b: usize) -> bool
+    requires { ⌜ b < openMarks ⌝ }
     ensures { λ r. ⌜ r ≡ (eqb (binderLink (now (scope .entry)) b) 0 && eqb x (binderName (now (scope .entry)) b)) ⌝ }
 {
     is_lambda(scope, b) & (x == scope[2 * b])
 }
 
 // One more, where the binder is a lambda's.
-fn with_lambda(scope: &[u64; 32], b: usize, n: usize) -> usize
-    requires { ⌜ (b < 16) × (n ≤ b) ⌝ }
+fn with_lambda(scope: &[u64; SCOPE_CELLS], b: usize, n: usize) -> usize
+    requires { ⌜ (b < openMarks) × (n ≤ b) ⌝ }
     ensures { λ r. ⌜ r ≡ cond (eqb (binderLink (now (scope .entry)) b) 0) (suc n) n ⌝ }
 {
     if is_lambda(scope, b) { n + 1 } else { n }
 }
 
 // How many lambdas are open.
-pub fn lambdas_in(scope: &[u64; 32], depth: usize) -> usize
-    requires { ⌜ depth ≤ 16 ⌝ }
+pub fn lambdas_in(scope: &[u64; SCOPE_CELLS], depth: usize) -> usize
+    requires { ⌜ depth ≤ openMarks ⌝ }
     ensures { λ r. ⌜ r ≡ lambdasIn (now (scope .entry)) depth ⌝ }
 {
     let mut n = 0;
@@ -284,8 +288,8 @@ pub fn lambdas_in(scope: &[u64; 32], depth: usize) -> usize
 }
 
 // Whether the name is one of an open lambda.
-pub fn lambda_in(scope: &[u64; 32], x: u64, depth: usize) -> bool
-    requires { ⌜ depth ≤ 16 ⌝ }
+pub fn lambda_in(scope: &[u64; SCOPE_CELLS], x: u64, depth: usize) -> bool
+    requires { ⌜ depth ≤ openMarks ⌝ }
     ensures { λ r. ⌜ r ≡ lambdaIn (now (scope .entry)) x depth ⌝ }
 {
     let mut b = depth;
@@ -318,8 +322,8 @@ fn let_name(text: &[u8], c: Cursor) -> Cursor
 }
 
 // The name of a lambda.
-fn lambda_name(text: &[u8], scope: &[u64; 32], depth: usize, c: Cursor) -> Cursor
-    requires { ⌜ depth ≤ 16 ⌝ }
+fn lambda_name(text: &[u8], scope: &[u64; SCOPE_CELLS], depth: usize, c: Cursor) -> Cursor
+    requires { ⌜ depth ≤ openMarks ⌝ }
     ensures { λ r. ⌜ cursorOf (now (text .entry)) r ≡ lambdaNamed (now (text .entry)) (now (scope .entry)) depth c ⌝ }
 {
     let x = tokens::token(text, c.at);
@@ -374,7 +378,7 @@ fn call_open(text: &[u8], marks: usize, c: Cursor) -> Cursor
 
 // let name =
 pub fn let_head(text: &[u8], w: bool, marks: usize, c: Cursor) -> Cursor
-    requires { ⌜ c .parts ≤ 128 ⌝ }
+    requires { ⌜ c .parts ≤ textParts ⌝ }
     ensures { λ r. ⌜ cursorOf (now (text .entry)) r ≡ letHead (length (now (text .entry))) w marks (cursorOf (now (text .entry)) c) ⌝ }
 {
     let a = judged_part(text, at_let(w, marks, c.parts), c);
@@ -396,10 +400,10 @@ pub fn lambda_head(
     w: bool,
     marks: usize,
     depth: usize,
-    scope: &[u64; 32],
+    scope: &[u64; SCOPE_CELLS],
     c: Cursor,
 ) -> Cursor
-    requires { ⌜ (c .parts ≤ 128) × (depth ≤ 16) ⌝ }
+    requires { ⌜ (c .parts ≤ textParts) × (depth ≤ openMarks) ⌝ }
     ensures { λ r. ⌜ cursorOf (now (text .entry)) r ≡ lambdaHead (length (now (text .entry))) w marks depth (now (scope .entry)) (cursorOf (now (text .entry)) c) ⌝ }
 {
     let a = judged_part(
@@ -421,7 +425,7 @@ pub fn lambda_head(
 
 // . member (
 pub fn call_head(text: &[u8], marks: usize, c: Cursor) -> Cursor
-    requires { ⌜ c .parts ≤ 128 ⌝ }
+    requires { ⌜ c .parts ≤ textParts ⌝ }
     ensures { λ r. ⌜ cursorOf (now (text .entry)) r ≡ callHead (length (now (text .entry))) marks (cursorOf (now (text .entry)) c) ⌝ }
 {
     let a = judged_part(text, at_part(c.parts), c);

@@ -2,12 +2,18 @@
 // Each function is the function of its name in descent's Descent.
 use crate::cursor;
 use crate::cursor::Cursor;
+use crate::cursor::SCOPE_CELLS;
+use language::limits::Text;
+use layout::nodes::KIND_BASE;
+use layout::nodes::RECORD_WEIGHT;
 use layout::nodes::Shape;
+use layout::nodes::TEXT_WORDS;
 use lexer::tokens;
 use lexer::tokens::Literal;
 ghost use mathlib.Core.Path.{_≡_};
 ghost use Prim.Native.Nat.{_+_, _*_, _≤_, _<_};
 ghost use lib.ListN.{length, set};
+ghost use Rattle.language.specs.Limits.{textParts, openMarks};
 ghost use Rattle.layout.specs.Memory.{node};
 ghost use Rattle.descent.specs.Descent.{put, putBound, putScoped, putName, readName, readNumber, readShut};
 ghost use Rattle.steps.specs.Cursors.{stateOf};
@@ -31,14 +37,14 @@ pub fn put(
     key: u64,
     first: u16,
     second: u16,
-    records: &mut [u64; 256],
-    places: &mut [u16; 128],
+    records: &mut [u64; TEXT_WORDS],
+    places: &mut [u16; Text::PARTS],
 ) -> Cursor
     requires { ⌜ Recorded c p kind first second ⌝ }
     ensures { λ r. ⌜ Wrote (put p (node kind key first second)) c (now (records .entry)) (now (places .entry)) r (now (records .exit)) (now (places .exit)) ⌝ }
 {
     let n = c.count as usize;
-    records[2 * n] = kind as u64 + 32 * first as u64 + 8192 * second as u64;
+    records[2 * n] = kind as u64 + KIND_BASE * first as u64 + RECORD_WEIGHT * second as u64;
     records[2 * n + 1] = key;
     places[p as usize] = c.count;
     Cursor {
@@ -54,8 +60,8 @@ pub fn put(
 }
 
 // Record j for the part of place p.
-fn link(c: Cursor, p: u16, j: u16, places: &mut [u16; 128]) -> Cursor
-    requires { ⌜ (p < 128) × (j ≤ 128) ⌝ }
+fn link(c: Cursor, p: u16, j: u16, places: &mut [u16; Text::PARTS]) -> Cursor
+    requires { ⌜ (p < textParts) × (j ≤ textParts) ⌝ }
     ensures { λ r. ⌜ Linked p j c (now (places .entry)) r (now (places .exit)) ⌝ }
 {
     places[p as usize] = j;
@@ -72,16 +78,16 @@ fn link(c: Cursor, p: u16, j: u16, places: &mut [u16; 128]) -> Cursor
 }
 
 // The record last read, for the part of place p.
-pub fn mark(p: u16, root: u16, places: &mut [u16; 128])
-    requires { ⌜ (p < 128) × (root ≤ 128) ⌝ }
+pub fn mark(p: u16, root: u16, places: &mut [u16; Text::PARTS])
+    requires { ⌜ (p < textParts) × (root ≤ textParts) ⌝ }
     ensures { λ _. ⌜ now (places .exit) ≡ set (now (places .entry)) p root ⌝ }
 {
     places[p as usize] = root;
 }
 
 // Binder number depth: its packed name and what it stands for.
-pub fn enter(depth: usize, x: u64, j: u64, scope: &mut [u64; 32])
-    requires { ⌜ depth < 16 ⌝ }
+pub fn enter(depth: usize, x: u64, j: u64, scope: &mut [u64; SCOPE_CELLS])
+    requires { ⌜ depth < openMarks ⌝ }
     ensures { λ _. ⌜ now (scope .exit) ≡ set (set (now (scope .entry)) (2 * depth) x) (2 * depth + 1) j ⌝ }
 {
     scope[2 * depth] = x;
@@ -94,8 +100,8 @@ fn put_bound(
     p: u16,
     x: u64,
     j: u64,
-    records: &mut [u64; 256],
-    places: &mut [u16; 128],
+    records: &mut [u64; TEXT_WORDS],
+    places: &mut [u16; Text::PARTS],
 ) -> Cursor
     requires { ⌜ BoundRoom c p j ⌝ }
     ensures { λ r. ⌜ Wrote (putBound p x j) c (now (records .entry)) (now (places .entry)) r (now (records .exit)) (now (places .exit)) ⌝ }
@@ -113,9 +119,9 @@ fn put_scoped(
     p: u16,
     x: u64,
     b: usize,
-    scope: &[u64; 32],
-    records: &mut [u64; 256],
-    places: &mut [u16; 128],
+    scope: &[u64; SCOPE_CELLS],
+    records: &mut [u64; TEXT_WORDS],
+    places: &mut [u16; Text::PARTS],
 ) -> Cursor
     requires { ⌜ ScopedRoom c p b (now scope) ⌝ }
     ensures { λ r. ⌜ WroteIn (now (scope .entry)) (putScoped p x b) c (now (records .entry)) (now (places .entry)) r (now (records .exit)) (now (places .exit)) ⌝ }
@@ -137,9 +143,9 @@ fn put_name(
     p: u16,
     x: u64,
     depth: usize,
-    scope: &[u64; 32],
-    records: &mut [u64; 256],
-    places: &mut [u16; 128],
+    scope: &[u64; SCOPE_CELLS],
+    records: &mut [u64; TEXT_WORDS],
+    places: &mut [u16; Text::PARTS],
 ) -> Cursor
     requires { ⌜ NameRoom c p depth (now scope) ⌝ }
     ensures { λ r. ⌜ WroteIn (now (scope .entry)) (putName p x depth) c (now (records .entry)) (now (places .entry)) r (now (records .exit)) (now (places .exit)) ⌝ }
@@ -184,9 +190,9 @@ pub fn read_name(
     w: bool,
     depth: usize,
     c: Cursor,
-    scope: &[u64; 32],
-    records: &mut [u64; 256],
-    places: &mut [u16; 128],
+    scope: &[u64; SCOPE_CELLS],
+    records: &mut [u64; TEXT_WORDS],
+    places: &mut [u16; Text::PARTS],
 ) -> Cursor
     requires { ⌜ NameAhead (now text) depth c (now scope) ⌝ }
     ensures { λ r. ⌜ stateOf (now (text .entry)) r (now (records .exit)) (now (places .exit)) (now (scope .entry))
@@ -216,8 +222,8 @@ pub fn read_number(
     text: &[u8],
     w: bool,
     c: Cursor,
-    records: &mut [u64; 256],
-    places: &mut [u16; 128],
+    records: &mut [u64; TEXT_WORDS],
+    places: &mut [u16; Text::PARTS],
 ) -> Cursor
     requires { ⌜ NumberAhead (now text) c ⌝ }
     ensures { λ r. ⌜ WroteFor (now (text .entry)) (readNumber (length (now (text .entry))) w) c (now (records .entry)) (now (places .entry)) r (now (records .exit)) (now (places .exit)) ⌝ }
@@ -247,8 +253,8 @@ pub fn read_shut(
     text: &[u8],
     k: Call,
     c: Cursor,
-    records: &mut [u64; 256],
-    places: &mut [u16; 128],
+    records: &mut [u64; TEXT_WORDS],
+    places: &mut [u16; Text::PARTS],
 ) -> Cursor
     requires { ⌜ ShutAhead k c ⌝ }
     ensures { λ r. ⌜ WroteFor (now (text .entry)) (readShut (length (now (text .entry))) (callOf k)) c (now (records .entry)) (now (places .entry)) r (now (records .exit)) (now (places .exit)) ⌝ }

@@ -5,11 +5,22 @@ use mathlib.Core.List.{List}
 use Prim.Native.Nat.{ℕ, zero, suc, _+_, _*_, _%_, _<_}
 use lib.Dec.{eqb}
 use lib.ListN.{length, getD, set}
+use Rattle.language.specs.Limits.{textParts, tableEntries}
 use Rattle.layout.specs.Memory.{Node}
 use Rattle.layout.specs.Nodes.{sameNode}
 
+-- how many hashes there are; the entries that chains can have, held or about to be appended; and the cells of both
+abbrev pub hashes : ℕ
+hashes = 512
+
+abbrev pub chainEntries : ℕ
+chainEntries = tableEntries + textParts
+
+abbrev pub chainCells : ℕ
+chainCells = hashes + chainEntries
+
 unfoldable pub hashOf : Node → ℕ
-hashOf n = (n .key % 65521 + (n .kind * 31 + (n .first * 1009 + n .second * 37))) % 512
+hashOf n = (n .key % 65521 + (n .kind * 31 + (n .first * 1009 + n .second * 37))) % hashes
 
 -- one more than the last of n nodes that has the hash, or 0
 unfoldable pub latest : (ℕ → Node) → ℕ → ℕ → ℕ
@@ -27,13 +38,13 @@ newAt ν i = eqb (lastSame ν (ν i) i) 0
 
 -- the chains of the first n nodes
 pub record Chained (ν : ℕ → Node) (chain : List ℕ) (n : ℕ) : Type 0 where
-  pub size : length chain ≡ 1152
-  pub heads : (h : ℕ) → h < 512 → getD chain h 0 ≡ latest ν h n
-  pub nexts : (i : ℕ) → i < n → getD chain (512 + i) 0 ≡ latest ν (hashOf (ν i)) i
+  pub size : length chain ≡ chainCells
+  pub heads : (h : ℕ) → h < hashes → getD chain h 0 ≡ latest ν h n
+  pub nexts : (i : ℕ) → i < n → getD chain (hashes + i) 0 ≡ latest ν (hashOf (ν i)) i
 
 -- node i put in front of the chain of hash h
 unfoldable pub linked : List ℕ → ℕ → ℕ → List ℕ
-linked chain h i = set (set chain (512 + i) (getD chain h 0)) h (i + 1)
+linked chain h i = set (set chain (hashes + i) (getD chain h 0)) h (i + 1)
 
 -- node i was tested, and entered if it is new
 pub record Entered (ν : ℕ → Node) (i : ℕ) (chain : List ℕ) (r : Bool) : Type 0 where

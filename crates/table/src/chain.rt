@@ -1,4 +1,4 @@
-// A chain for each hash, in the call's own frame: the first 512 cells hold one more than the latest entry of the hash, or 0; then a cell
+// A chain for each hash, in the call's own frame: a cell for each hash holds one more than the latest entry of the hash, or 0; then a cell
 // for each entry holds the same of the entries before it.
 use language::limits::Table;
 use language::limits::Text;
@@ -15,17 +15,20 @@ ghost use Rattle.layout.specs.Memory.{nodeAt};
 ghost use Rattle.table.specs.WellFormed.{distinct};
 ghost use Rattle.layout.specs.Numbered.{numbered};
 ghost use Rattle.layout.specs.Held.{shaped, heldAt};
-ghost use Rattle.table.specs.Chain.{hashOf, lastSame, Chained, linked, Entered};
+ghost use Rattle.table.specs.Chain.{hashes, chainEntries, chainCells, hashOf, lastSame, Chained, linked, Entered};
 
-// A cell for each of 512 hashes, and one for each entry, held or about to be appended.
-pub const CHAIN_CELLS: usize = 512 + (Table::ENTRIES + Text::PARTS);
+// How many hashes there are.
+pub const HASHES: usize = 512;
+
+// A cell for each hash, and one for each entry, held or about to be appended.
+pub const CHAIN_CELLS: usize = HASHES + (Table::ENTRIES + Text::PARTS);
 
 // The chain of a node.
 pub fn hash(x: Shape) -> u16
     ensures { λ r. ⌜ r ≡ hashOf (shaped x) ⌝ }
 {
     let sum = x.key % 65521 + (x.kind as u64 * 31 + (x.first as u64 * 1009 + x.second as u64 * 37));
-    (sum % 512) as u16
+    (sum % HASHES as u64) as u16
 }
 
 // One more than the number of the last of `total` entries that is x, or 0.
@@ -41,7 +44,7 @@ pub fn seek(
 ) -> u16
     requires { ⌜ Chained (heldAt (now links) (now cells) count (now fresh)) (now chain) total ⌝ }
     requires { ⌜ h ≡ hashOf (shaped x) ⌝ }
-    requires { ⌜ (h < 512) × (total ≤ 640) ⌝ }
+    requires { ⌜ (h < hashes) × (total ≤ chainEntries) ⌝ }
     ensures { λ r. ⌜ r ≡ lastSame (heldAt (now (links .entry)) (now (cells .entry)) count (now (fresh .entry))) (shaped x) total ⌝ }
 {
     let mut c = chain[h as usize];
@@ -49,17 +52,17 @@ pub fn seek(
         if same(held_at(links, cells, count, fresh, c - 1), x) {
             return c;
         }
-        c = chain[511 + c as usize];
+        c = chain[HASHES - 1 + c as usize];
     }
     0
 }
 
 // Entry i, of hash h, is put in front of its chain.
 pub fn enter(chain: &mut [u16; CHAIN_CELLS], h: u16, i: u16)
-    requires { ⌜ (h < 512) × (i < 640) × (length (now chain) ≡ 1152) ⌝ }
+    requires { ⌜ (h < hashes) × (i < chainEntries) × (length (now chain) ≡ chainCells) ⌝ }
     ensures { λ _. ⌜ now (chain .exit) ≡ linked (now (chain .entry)) h i ⌝ }
 {
-    chain[512 + i as usize] = chain[h as usize];
+    chain[HASHES + i as usize] = chain[h as usize];
     chain[h as usize] = i + 1;
 }
 
@@ -73,7 +76,7 @@ fn enter_new(
     i: u16,
 ) -> bool
     requires { ⌜ Chained (heldAt (now links) (now cells) count (now fresh)) (now chain) i ⌝ }
-    requires { ⌜ i < 640 ⌝ }
+    requires { ⌜ i < chainEntries ⌝ }
     ensures { λ r. ⌜ Entered (heldAt (now (links .entry)) (now (cells .entry)) count (now (fresh .entry))) i (now (chain .exit)) r ⌝ }
 {
     let x = held_at(links, cells, count, fresh, i);

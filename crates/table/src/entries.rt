@@ -1,4 +1,6 @@
 // One entry: whether its kind, its key and its dependencies are right (01, refusal 4).
+use language::limits::Text;
+use language::names::BYTE_BASE;
 use language::names::in_word;
 use language::names::is_letter;
 use layout::cells::first_of;
@@ -11,6 +13,8 @@ use members::arguments;
 use members::member_at;
 ghost use mathlib.Core.Path.{_≡_};
 ghost use Prim.Native.Nat.{_%_};
+ghost use Rattle.language.specs.Limits.{nameBytes};
+ghost use Rattle.language.specs.Names.{byteBase};
 ghost use Rattle.layout.specs.Nodes.{memberOfKind, memberArity, arity, wordNumber, isName};
 ghost use Rattle.table.specs.WellFormed.{keyRight, arityRight};
 ghost use Rattle.table.specs.Right.{rightAt};
@@ -19,23 +23,23 @@ ghost use Rattle.layout.specs.Memory.{node};
 
 // The last byte of a packed word.
 fn low_byte(k: u64) -> u8
-    ensures { λ r. ⌜ r ≡ k % 256 ⌝ }
+    ensures { λ r. ⌜ r ≡ k % byteBase ⌝ }
 {
-    (k % 256) as u8
+    (k % BYTE_BASE) as u8
 }
 
-// A packed word: a letter, then letters and digits, at most eight bytes.
+// A packed word: a letter, then letters and digits, at most a name's bytes.
 fn is_word(k: u64) -> bool
-    ensures { λ r. ⌜ r ≡ wordNumber 8 k ⌝ }
+    ensures { λ r. ⌜ r ≡ wordNumber nameBytes k ⌝ }
 {
     let mut rest = k;
-    let mut left: u64 = 8;
+    let mut left = Text::NAME_BYTES;
     while 0 < left {
-        if rest < 256 {
+        if rest < BYTE_BASE {
             return is_letter(low_byte(rest));
         }
         if in_word(low_byte(rest)) {
-            rest = rest / 256;
+            rest = rest / BYTE_BASE;
             left = left - 1;
         } else {
             return false;

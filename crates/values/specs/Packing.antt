@@ -4,6 +4,7 @@ use mathlib.Core.Bool.{Bool, _&&_, _||_, cond}
 use Prim.Native.Nat.{ℕ, suc, _+_, _-_, _*_, _/_, _%_}
 use lib.Dec.{leb, ltb, eqb}
 use lib.IntN.{pos, natAbs, _+ℤ_, _-ℤ_}
+use Rattle.language.specs.Names.{byteBase}
 use Rattle.rules.specs.declared.Value.{Value}
 use Rattle.rules.specs.declared.Value.the-variants.{Number, Window, Function, Delayed, Missing}
 use Rattle.rules.specs.Values.{wrongKind}
@@ -39,7 +40,7 @@ unpackOf c =
     (cond (ltb c functionCell) (Window (c % windowCell / 65536 % 65536) (c % 65536))
     (cond (ltb c delayedCell) Function
     (cond (ltb c missingCell) Delayed
-    (Missing (c % 256)))))
+    (Missing (c % byteBase)))))
 
 abbrev pub isFunctionCell : ℕ → Bool
 isFunctionCell c = eqb c functionCell

@@ -1,5 +1,6 @@
 // A value as one cell of memory, and back. Each kind has a range of cells of its own, in the order number, window, function, delayed,
 // missing; 0 is no value.
+use language::names::BYTE_BASE;
 use rules::Value;
 ghost use mathlib.Core.Path.{_≡_};
 ghost use Rattle.values.specs.Packing.{packOf, unpackOf, isPacked};
@@ -65,7 +66,7 @@ pub fn unpack(cell: u64) -> Value
     if cell < Packed::MISSING {
         return Value::Delayed;
     }
-    Value::Missing((cell % 256) as u8)
+    Value::Missing((cell % BYTE_BASE) as u8)
 }
 
 // Whether the cell is a packed value that may be kept beside so many readings: a number within signed 32 bits, a window within the

@@ -3,11 +3,12 @@ use borrow.Author.Needs.{needs}
 use mathlib.Core.Path.{_≡_}
 use Prim.Native.Nat.{_-_}
 use lib.ListN.{length}
+use Rattle.language.specs.Limits.{textBytes}
 use Rattle.samples.proofs.chain.Statement.{statement}
 use Rattle.samples.proofs.chain.Tie as tie
 
 abbrev Inv-loop : tie.InvT-loop
-Inv-loop digit member text₀ i₀ text i = length text ≡ 1024
+Inv-loop digit member text₀ i₀ text i = length text ≡ textBytes
 
 abbrev μ-loop : tie.MeasureT-loop
 μ-loop digit member text₀ i₀ text i = 762 - i

@@ -32,6 +32,9 @@ add-sum-2 c = search needs
 add-sum-3 : tie.Need-add-sum-3
 add-sum-3 c = search needs
 
+rem-result : tie.Need-rem-result
+rem-result c = search needs
+
 cast-result : tie.Need-cast-result
 cast-result c = search needs
 
@@ -52,5 +55,6 @@ hash-spec =
     add-sum
     add-sum-2
     add-sum-3
+    rem-result
     cast-result
     returns)

@@ -38,6 +38,9 @@ same-requires c κs = search needs
 returns : tie.Need-returns Inv-loop μ-loop
 returns c = search (needs, chains)
 
+sub-c : tie.Need-sub-c Inv-loop μ-loop
+sub-c c = search needs
+
 cast-c : tie.Need-cast-c Inv-loop μ-loop
 cast-c c = search needs
 
@@ -72,6 +75,7 @@ seek-spec =
     held-at-requires
     same-requires
     returns
+    sub-c
     cast-c
     add-c
     mul-c-2
