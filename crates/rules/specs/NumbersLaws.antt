@@ -68,13 +68,15 @@ minus-not (suc x) n = record { le = tt }
 -- less is not above
 less : (x y : ℤ) → (x <ℤ y) ↔ (y ≤ℤ x → ⊥)
 less (pos m) (pos n) = (
-    λ h k. omega (arith, ltb→lt m n (h .lt), leb→le n m (k .le)),
-    λ h. record { lt = lt→ltb m n (lt-of-not-le (λ (g : n ≤ m). h (record { le = le→leb n m g }))) })
+  λ h k. omega (arith, ltb→lt m n (h .lt), leb→le n m (k .le)),
+  λ h. record { lt = lt→ltb m n (lt-of-not-le (λ (g : n ≤ m). h (record { le = le→leb n m g }))) },
+)
 less (pos m) (negsuc n) = (λ h. absurd (h .lt), λ h. absurd (h (record { le = tt })))
 less (negsuc m) (pos n) = (λ h k. k .le, λ h. record { lt = tt })
 less (negsuc m) (negsuc n) = (
-    λ h k. omega (arith, ltb→lt n m (h .lt), leb→le m n (k .le)),
-    λ h. record { lt = lt→ltb n m (lt-of-not-le (λ (g : m ≤ n). h (record { le = le→leb m n g }))) })
+  λ h k. omega (arith, ltb→lt n m (h .lt), leb→le m n (k .le)),
+  λ h. record { lt = lt→ltb n m (lt-of-not-le (λ (g : m ≤ n). h (record { le = le→leb m n g }))) },
+)
 
 -- ---- rounding down
 
@@ -82,12 +84,14 @@ module _ (d : ℕ) where
   below-rounded : (a z : ℤ) → ((z *ℤ pos (suc d)) ≤ℤ a) ↔ (z ≤ℤ roundedDown a (suc d))
   below-rounded (pos n) (pos m) = (
     λ h. record { le = le→leb m (n / suc d) (le-div-iff-mul-le (zero-lt-suc d) .1 (leb→le (m * suc d) n (h .le))) },
-    λ h. record { le = le→leb (m * suc d) n (le-div-iff-mul-le (zero-lt-suc d) .0 (leb→le m (n / suc d) (h .le))) })
+    λ h. record { le = le→leb (m * suc d) n (le-div-iff-mul-le (zero-lt-suc d) .0 (leb→le m (n / suc d) (h .le))) },
+  )
   below-rounded (pos n) (negsuc m) = (λ h. record { le = tt }, λ h. minus-not (suc m * suc d) n)
   below-rounded (negsuc n) (pos m) = (λ h. absurd (h .le), λ h. absurd (h .le))
   below-rounded (negsuc n) (negsuc m) = (
     λ h. record { le = le→leb (n / suc d) m (le-of-suc-le-suc (div-lt-iff-lt-mul (zero-lt-suc d) .1 (minus-negative (suc m * suc d) n .0 h))) },
-    λ h. minus-negative (suc m * suc d) n .1 (div-lt-iff-lt-mul (zero-lt-suc d) .0 (suc-le-suc (leb→le (n / suc d) m (h .le)))))
+    λ h. minus-negative (suc m * suc d) n .1 (div-lt-iff-lt-mul (zero-lt-suc d) .0 (suc-le-suc (leb→le (n / suc d) m (h .le)))),
+  )
 
 -- not above a / b are just the numbers up to the quotient
 pub below-quotient : (a b z : ℤ) → (b ≡ pos 0 → ⊥) → NotAbove a b z ↔ (z ≤ℤ quotient a b)
@@ -95,8 +99,9 @@ below-quotient a (pos zero) z h = absurd (h refl)
 below-quotient a (pos (suc d)) z h = below-rounded d a z
 below-quotient a (negsuc d) z h =
     let e : z *ℤ negsuc d ≡ negℤ (z *ℤ pos (suc d)) = *ℤ-negsuc z d in (
-    λ k. below-rounded d (negℤ a) z .0 (turned a (z *ℤ pos (suc d)) (subst (λ (y : ℤ). a ≤ℤ y) e k)),
-    λ k. subst (λ (y : ℤ). a ≤ℤ y) (sym e) (turned (z *ℤ pos (suc d)) a (below-rounded d (negℤ a) z .1 k)))
+      λ k. below-rounded d (negℤ a) z .0 (turned a (z *ℤ pos (suc d)) (subst (λ (y : ℤ). a ≤ℤ y) e k)),
+      λ k. subst (λ (y : ℤ). a ≤ℤ y) (sym e) (turned (z *ℤ pos (suc d)) a (below-rounded d (negℤ a) z .1 k)),
+    )
 
 -- ---- what is above is what is not not above
 
@@ -110,12 +115,14 @@ module _ (a b : ℤ) (h : b ≡ pos 0 → ⊥) where
   pub quotient-greatest : GreatestNotAbove a b (quotient a b)
   quotient-greatest = record {
     not-above = below-quotient a b (quotient a b) h .1 (≤ℤ-refl (quotient a b));
-    greatest = λ z k. below-quotient a b z h .0 k }
+    greatest = λ z k. below-quotient a b z h .0 k;
+  }
 
   pub quotient-exactly : (q : ℤ) → (quotient a b ≡ q) ↔ GreatestNotAbove a b q
   quotient-exactly q = (
     λ e. subst (GreatestNotAbove a b) e quotient-greatest,
-    λ g. antisym (quotient a b) q (g .greatest (quotient a b) (quotient-greatest .not-above)) (below-quotient a b q h .0 (g .not-above)))
+    λ g. antisym (quotient a b) q (g .greatest (quotient a b) (quotient-greatest .not-above)) (below-quotient a b q h .0 (g .not-above)),
+  )
 
   -- the next number after q is not above a / b exactly if it is up to the quotient
   next-below : (q : ℤ) → NotAbove a b (q +ℤ pos 1) ↔ (sucℤ q ≤ℤ quotient a b)
@@ -124,7 +131,8 @@ module _ (a b : ℤ) (h : b ≡ pos 0 → ⊥) where
   pub quotient-between : (q : ℤ) → (quotient a b ≡ q) ↔ (NotAbove a b q × Above a b (q +ℤ pos 1))
   quotient-between q = (
     λ e. (quotient-exactly q .0 e .not-above, above a b (q +ℤ pos 1) .1 (λ k. next-above q (subst (λ (y : ℤ). sucℤ q ≤ℤ y) e (next-below q .0 k)))),
-    λ g. sym (last-below q (quotient a b) (below-quotient a b q h .0 (g .0)) (λ k. above a b (q +ℤ pos 1) .0 (g .1) (next-below q .1 k))))
+    λ g. sym (last-below q (quotient a b) (below-quotient a b q h .0 (g .0)) (λ k. above a b (q +ℤ pos 1) .0 (g .1) (next-below q .1 k))),
+  )
 
 -- ---- the member
 

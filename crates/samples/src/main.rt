@@ -269,7 +269,10 @@ fn main() {
         &run,
         b"data.countWhere(\\b -> b.gt(150))\ndata.sum()\ndata.longestRun(\\b -> b.gt(145))\ndata.sumBy(\\p -> data.countWhere(\\q -> q.gt(p)))",
     );
-    sessions(&run, b"-7.div(2)\n-2147483648.div(-1)\n7.div(0)\n7.div(-2)\n-7.div(-2)\n-6.div(3)");
+    sessions(
+        &run,
+        b"-7.div(2)\n-2147483648.div(-1)\n7.div(0)\n7.div(-2)\n-7.div(-2)\n-6.div(3)",
+    );
     sessions(&run, b"let u = 1.div(0) in 6\nlet y = b in \\b -> y");
     sessions(
         &run,

@@ -48,11 +48,7 @@ pub fn round_down(n: i64, d: i64) -> i64
     requires { ⌜ pos 0 <ℤ d ⌝ }
     ensures { λ r. ⌜ r ≡ quotient n d ⌝ }
 {
-    if n < 0 {
-        -1 - (-1 - n) / d
-    } else {
-        n / d
-    }
+    if n < 0 { -1 - (-1 - n) / d } else { n / d }
 }
 
 // The greatest whole number not above the quotient; reason 3 for a zero divisor. By a negative divisor it is that of the two turned about 0.
