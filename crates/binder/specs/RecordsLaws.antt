@@ -17,25 +17,25 @@ use Rattle.table.specs.WellFormed.{distinct}
 use Rattle.table.specs.Bind.{find, relinked, relink, Bound, bindOne, bindAll}
 use Rattle.layout.specs.Numbered.{numbered}
 use Rattle.table.specs.RightLaws.{left-suc}
-use Rattle.layout.specs.Held.{shaped, wordOf, freshAt, heldAt, withFresh}
+use Rattle.layout.specs.Held.{shaped, wordOf, freshAt, heldAt, withFresh, kindBase, entryBase, recordBase, textWords}
 use Rattle.table.specs.Chain.{hashOf, lastSame, Chained, linked}
 use Rattle.table.specs.ChainLaws.{numbered-zero, numbered-last, numbered-agree, length-numbered, distinct-snoc, has-last, last-le, find-last, hash-low, chained-more, chained-agree, held-front}
 use Rattle.binder.specs.Records.{recordAt, bound, boundNow, Ready, BoundOne, BoundAll}
 use Rattle.layout.specs.declared.nodes.Shape.{Shape}
 
 -- the words of a node that waits, taken apart again
-word-kind : (k f s : ℕ) → k < 32 → f < 1024 → s < 1024 → wordOf k f s % 32 ≡ k
+word-kind : (k f s : ℕ) → k < kindBase → f < entryBase → s < entryBase → wordOf k f s % kindBase ≡ k
 word-kind k f s hk hf hs = omega arith
 
-word-first : (k f s : ℕ) → k < 32 → f < 1024 → s < 1024 → wordOf k f s / 32 % 1024 ≡ f
+word-first : (k f s : ℕ) → k < kindBase → f < entryBase → s < entryBase → wordOf k f s / kindBase % entryBase ≡ f
 word-first k f s hk hf hs = omega arith
 
-word-second : (k f s : ℕ) → k < 32 → f < 1024 → s < 1024 → wordOf k f s / 32768 % 1024 ≡ s
+word-second : (k f s : ℕ) → k < kindBase → f < entryBase → s < entryBase → wordOf k f s / (kindBase * entryBase) % entryBase ≡ s
 word-second k f s hk hf hs = omega arith
 
 -- nodes that wait
 module _ (fresh : List ℕ) (i : ℕ) (n : Node) where
-  pub fresh-same : n .kind < 32 → n .first < 1024 → n .second < 1024 → 2 * i + 1 < length fresh → freshAt (withFresh fresh i n) i ≡ n
+  pub fresh-same : n .kind < kindBase → n .first < entryBase → n .second < entryBase → 2 * i + 1 < length fresh → freshAt (withFresh fresh i n) i ≡ n
   unfolding freshAt withFresh
   fresh-same hk hf hs l =
       let y = length-set fresh (2 * i) (wordOf (n .kind) (n .first) (n .second)) in
@@ -96,8 +96,8 @@ module _ (numbers : List ℕ) (r link : ℕ) where
       let g = List·getD-eq-default (take r numbers) 0 {n = link - 1} (omega arith) in
       sym (relinked-at (link - 1) z ∙ omega arith)
 
-pub record-is : (records : List ℕ) (r word kind key first second : ℕ) → kind ≡ word % 32 → key ≡ getD records (2 * r + 1) 0 → first ≡ word / 32 % 256
-    → second ≡ word / 8192 % 256 → word ≡ getD records (2 * r) 0 → node kind key first second ≡ recordAt records r
+pub record-is : (records : List ℕ) (r word kind key first second : ℕ) → kind ≡ word % kindBase → key ≡ getD records (2 * r + 1) 0 → first ≡ word / kindBase % recordBase
+    → second ≡ word / (kindBase * recordBase) % recordBase → word ≡ getD records (2 * r) 0 → node kind key first second ≡ recordAt records r
 unfolding recordAt
 record-is records r word kind key first second k y f s w = rw (k, y, f, s, w)
 
@@ -108,7 +108,7 @@ relink-is numbers r n x first second p q e = rw (← e, p, q)
 
 -- links of bound records are small
 relinked-low : (numbers : List ℕ) (r link : ℕ) → ((j : ℕ) → j < r → getD numbers j 0 < tableEntries + textParts) → r ≤ textParts
-    → length numbers ≡ textParts → relinked (take r numbers) link < 1024
+    → length numbers ≡ textParts → relinked (take r numbers) link < entryBase
 relinked-low numbers r zero h k e = omega arith
 relinked-low numbers r (suc j) h k e =
     elim (decLt j r) [
@@ -169,15 +169,15 @@ module _ (links cells : List ℕ) (count total : ℕ) (records : List ℕ) (r : 
         };
       }
 
-  kind-low : m .kind < 32
+  kind-low : m .kind < kindBase
   unfolding relink recordAt
   kind-low = rw qm (omega arith)
 
-  first-low : m .first < 1024
+  first-low : m .first < entryBase
   unfolding relink
   first-low = rw qm (relinked-low numbers r (recordAt records r .first) (ready .known) (omega arith) (ready .places))
 
-  second-low : m .second < 1024
+  second-low : m .second < entryBase
   unfolding relink
   second-low = rw qm (relinked-low numbers r (recordAt records r .second) (ready .known) (omega arith) (ready .places))
 
@@ -229,7 +229,7 @@ module _ (links cells : List ℕ) (count : ℕ) (records : List ℕ) (n : ℕ) w
   same-start : (fresh : List ℕ) → numbered (heldAt links cells count fresh) 0 count ≡ numbered (nodeAt links cells) 0 count
   same-start fresh = numbered-agree (heldAt links cells count fresh) (nodeAt links cells) 0 count (λ j l. held-front links cells count fresh j (omega arith))
 
-  pub ready-start : (numbers fresh chain : List ℕ) → count ≤ tableEntries → length numbers ≡ textParts → length fresh ≡ 256
+  pub ready-start : (numbers fresh chain : List ℕ) → count ≤ tableEntries → length numbers ≡ textParts → length fresh ≡ textWords
       → Chained (heldAt links cells count fresh) chain count
       → distinct (numbered (nodeAt links cells) 0 count) ≡ true → Ready links cells count count 0 numbers fresh chain
   ready-start numbers fresh chain h p q ch d =

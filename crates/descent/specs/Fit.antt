@@ -10,7 +10,7 @@ use lib.Dec.{leb, eqb, lit<}
 use lib.ListN.{getD, set}
 use lib.Seq.{getD-set-other}
 use borrow.Author.Tests.{leb-false, eqb-true, eqb-false}
-use Rattle.language.specs.Limits.{textParts}
+use Rattle.language.specs.Limits.{textParts, openMarks}
 use Rattle.members.specs.MembersLaws.{number-below}
 use Rattle.grammar.specs.TokensLaws.{by-test}
 use Rattle.meaning.specs.Binding.{member}
@@ -51,7 +51,7 @@ pub record Fit (m : Mode) (s : State) : Type 0 where
   pub parts : s .cursor .parts ≤ textParts
   -- with the record that is owed for a call's part
   pub count : s .cursor .count + owed m ≤ s .cursor .parts
-  pub marks : marksOf m + besides m ≤ 16
+  pub marks : marksOf m + besides m ≤ openMarks
   pub depth : depthOf m ≤ marksOf m
   pub links : (b : ℕ) → b < depthOf m → binderLink (s .scope) b ≤ s .cursor .count
   pub own : OwnFit m s
@@ -67,23 +67,23 @@ went-on end a k =
     by-test (λ x. x .number ≡ 0 → (a .number ≡ 0) × (k a .number ≡ 0)) (eqb (a .number) 0) (λ _. k a) (λ _. a)
     (λ e z. (eqb-true (a .number) 0 e, z)) (λ e z. absurd (eqb-false (a .number) 0 e z))
 
-pub let-few : (end : ℕ) (w : Bool) (marks : ℕ) (c : Cursor) → letHead end w marks c .number ≡ 0 → marks < 16
+pub let-few : (end : ℕ) (w : Bool) (marks : ℕ) (c : Cursor) → letHead end w marks c .number ≡ 0 → marks < openMarks
 unfolding letHead atLet
 let-few end w marks c z =
-    leb-false 16 marks (not-refused (leb 16 marks) 11 _
+    leb-false openMarks marks (not-refused (leb openMarks marks) 11 _
     (not-refused w 8 _ (judged end (atLet w marks (c .parts)) c _ (went-on end (judge end (atLet w marks (c .parts)) c (λ _. passPart c)) _ z .0)) .1) .0)
 
-pub lambda-few : (end : ℕ) (w : Bool) (marks depth : ℕ) (scope : List ℕ) (c : Cursor) → lambdaHead end w marks depth scope c .number ≡ 0 → marks < 16
+pub lambda-few : (end : ℕ) (w : Bool) (marks depth : ℕ) (scope : List ℕ) (c : Cursor) → lambdaHead end w marks depth scope c .number ≡ 0 → marks < openMarks
 unfolding lambdaHead atLambda
 lambda-few end w marks depth scope c z =
     let l = lambdasIn scope depth in
-    leb-false 16 marks (not-refused (leb 16 marks) 11 _
+    leb-false openMarks marks (not-refused (leb openMarks marks) 11 _
     (not-refused (leb 2 l) 9 _ (not-refused w 8 _ (judged end (atLambda w l marks (c .parts)) c _
     (went-on end (judge end (atLambda w l marks (c .parts)) c (λ _. passPart c)) _ z .0)) .1) .1) .0)
 
-bracket-few : (end : ℕ) (w : Bool) (marks : ℕ) (c : Cursor) (d : Unit {0} → Cursor) → judge end (atBracket w marks) c d .number ≡ 0 → marks < 16
+bracket-few : (end : ℕ) (w : Bool) (marks : ℕ) (c : Cursor) (d : Unit {0} → Cursor) → judge end (atBracket w marks) c d .number ≡ 0 → marks < openMarks
 unfolding atBracket
-bracket-few end w marks c d z = leb-false 16 marks (not-refused (leb 16 marks) 11 _ (not-refused w 8 _ (judged end (atBracket w marks) c d z) .1) .0)
+bracket-few end w marks c d z = leb-false openMarks marks (not-refused (leb openMarks marks) 11 _ (not-refused w 8 _ (judged end (atBracket w marks) c d z) .1) .0)
 
 -- a call's head: few marks, and the kind of a member
 kind-small : (m : List ℕ) → memberKind (member m) < 32
@@ -103,12 +103,14 @@ unfolding next
 goes-next P end a k f =
     by-test (λ x. x .number ≡ 0 → P x) (eqb (a .number) 0) (λ _. k a) (λ _. a) (λ e. f (eqb-true (a .number) 0 e)) (λ e z. absurd (eqb-false (a .number) 0 e z))
 
-call-head : (end marks : ℕ) (c : Cursor) → callHead end marks c .number ≡ 0 → (marks < 16) × (callHead end marks c .name < 32)
+call-head : (end marks : ℕ) (c : Cursor) → callHead end marks c .number ≡ 0 → (marks < openMarks) × (callHead end marks c .name < 32)
 unfolding callHead atCallOpen pass
 call-head end marks c =
-    let P : Cursor → Type 0 = λ x. (marks < 16) × (x .name < 32) in
-    goes-next P end _ _ (λ _. goes-next P end _ _ (λ z. goes-judge P end _ _ _ (λ n.
-    (leb-false 16 marks (not-refused (leb 16 marks) 11 0 (was-due (isAt openKind _) (cond (leb 16 marks) 12 0) 4 n .1) .0), goes-judge (λ x. x .name < 32) end _ _ _ (λ _. member-named _) z))))
+    let P : Cursor → Type 0 = λ x. (marks < openMarks) × (x .name < 32) in
+    goes-next P end _ _ (λ _. goes-next P end _ _ (λ z. goes-judge P end _ _ _ (λ n. (
+      leb-false openMarks marks (not-refused (leb openMarks marks) 11 0 (was-due (isAt openKind _) (cond (leb openMarks marks) 12 0) 4 n .1) .0),
+      goes-judge (λ x. x .name < 32) end _ _ _ (λ _. member-named _) z,
+    ))))
 
 -- one binder more
 entered-link : (cs : List ℕ) (i v : ℕ) → getD (set cs i v) i 0 ≤ v
@@ -130,7 +132,7 @@ links-entered depth x j c scope h l b m =
 
 -- a state that is kept is fit again
 pub fit-kept : (m m' : Mode) (p g o : ℕ) (s s' : State) → Fit m s → Preserved (depthOf m') p g o s s' → s' .cursor .count + owed m' ≤ s' .cursor .parts
-    → marksOf m' + besides m' ≤ 16 → depthOf m' ≤ marksOf m' → depthOf m' ≤ depthOf m → OwnFit m' s' → Fit m' s'
+    → marksOf m' + besides m' ≤ openMarks → depthOf m' ≤ marksOf m' → depthOf m' ≤ depthOf m → OwnFit m' s' → Fit m' s'
 fit-kept m m' p g o s s' h k c l d e own =
     record {
       parts = omega (arith, h .parts, k .most);

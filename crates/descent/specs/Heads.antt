@@ -7,6 +7,7 @@ use Prim.Native.Nat.{ℕ, zero, suc, _<_}
 use native.Mathlib.Omega.{arith}
 use lib.Dec.{leb, eqb}
 use borrow.Author.Tests.{leb-false, eqb-true, eqb-false}
+use Rattle.language.specs.Limits.{openMarks}
 use Rattle.language.specs.Names.{packed}
 use Rattle.members.specs.Members.{memberOf, isUnknown, takes}
 use Rattle.grammar.specs.Tokens.{when, Located}
@@ -92,7 +93,7 @@ module _ (end : ℕ) where
     pub record LetRead (h : Trees (at (letName (around marks Σ)) F) → Expression) (c' : Cursor) : Type 0 where
       pub x : List ℕ
       pub name : c' .name ≡ packed x
-      pub few : marks < 16
+      pub few : marks < openMarks
       pub onward : r ≡ readOn end (at (expression false (opened (around marks Σ))) (value x (around marks Σ) ∷ F)) (λ q. h ((x, q .0, q .1 .0), q .1 .1)) (c' .parts) (c' .rest)
 
     pub fits-let : (w : Bool) (h : Trees (at (letName (around marks Σ)) F) → Expression) → c .number ≡ 0
@@ -110,12 +111,12 @@ module _ (end : ℕ) where
         (due-by _ _ wordKind end one r _ (let-name-number p marks Σ x) (e ∙ front-letName end d F h p one)) (λ _ e.
         fits-need equalsKind (passName (passPart c)) (LetRead h) r _ (e ∙ front-letEquals end x d F _ p two) (λ e.
         fits-here (pass (passName (passPart c))) (LetRead h) r z
-        (record { x = x; name = refl; few = leb-false 16 marks (not-refused (leb 16 marks) 11 _ (not-refused w 8 _ n .1) .0); onward = e }))))
+        (record { x = x; name = refl; few = leb-false openMarks marks (not-refused (leb openMarks marks) 11 _ (not-refused w 8 _ n .1) .0); onward = e }))))
 
     pub record LambdaRead (h : Trees (at (lambdaName (around marks Σ)) F) → Expression) (c' : Cursor) : Type 0 where
       pub x : List ℕ
       pub name : c' .name ≡ packed x
-      pub few : marks < 16
+      pub few : marks < openMarks
       pub onward : r ≡ readOn end (at (expression false (inLambda x (around marks Σ))) F) (λ q. h ((x, q .0), q .1)) (c' .parts) (c' .rest)
 
     pub fits-lambda : (w : Bool) (h : Trees (at (lambdaName (around marks Σ)) F) → Expression) → Holds Σ depth scope → c .number ≡ 0
@@ -133,7 +134,8 @@ module _ (end : ℕ) where
         (due-by _ _ wordKind end one r _ (lambda-name-number p marks Σ x depth scope g) (e ∙ front-lambdaName end d F h p one)) (λ _ e.
         fits-need arrowKind (passName (passPart c)) (LambdaRead h) r _ (e ∙ front-lambdaArrow end x d F _ p two) (λ e.
         fits-here (pass (passName (passPart c))) (LambdaRead h) r z
-        (record { x = x; name = refl; few = leb-false 16 marks (not-refused (leb 16 marks) 11 _ (not-refused (leb 2 (lambdasIn scope depth)) 9 _ (not-refused w 8 _ n .1) .1) .0); onward = e }))))
+        let l = not-refused (leb openMarks marks) 11 _ (not-refused (leb 2 (lambdasIn scope depth)) 9 _ (not-refused w 8 _ n .1) .1) .0 in
+        (record { x = x; name = refl; few = leb-false openMarks marks l; onward = e }))))
 
     pub record CallRead (h : Trees (at (memberPhase (around marks Σ)) F) → Expression) (c' : Cursor) : Type 0 where
       pub x : List ℕ

@@ -8,6 +8,7 @@ use native.Mathlib.Omega.{arith}
 use lib.Dec.{eqb}
 use lib.ListN.{length, drop}
 use borrow.Author.Tests.{eqb-true, eqb-false}
+use Rattle.layout.specs.Held.{textWords}
 use Rattle.language.specs.Limits.{textParts}
 use Rattle.grammar.specs.Tokens.{Token, kLet, kIn, kEquals, kLambda, kArrow, kDot, kOpen, kShut, kComma, word, number, other, when, Located, tokens}
 use Rattle.grammar.specs.Grammar.{Expression}
@@ -16,7 +17,7 @@ use Rattle.grammar.specs.Reading.{Reading, tree, refused}
 use Rattle.grammar.specs.Machine.{at, over, Trees, finish, readText}
 use Rattle.records.specs.Records.{recordsOf}
 use Rattle.descent.specs.Cursor.{Cursor, endKind, kindOf, headKind, headPlace, isAt, atMark, judge}
-use Rattle.descent.specs.Descent.{State, moved, start, inExpression, run, ended, readWith, readInto}
+use Rattle.descent.specs.Descent.{State, moved, start, inExpression, run, ended, readWith, readInto, scopeCells}
 use Rattle.descent.specs.Cells.{sets-all, words, length-words}
 use Rattle.descent.specs.Continued.{judgeAt, endedAt, readOn, text-on}
 use Rattle.descent.specs.Fronts.{due}
@@ -150,7 +151,7 @@ module _ (text R P S : List ℕ) (f : ℕ) (room : length S ≡ 32) (enough : 2 
   unfolding readWith
   after-keeps = ended-keeps end 0 (start (tokens text) R P S) before (run-keeps end f (inExpression false 0 0) (start (tokens text) R P S))
 
-  held : length R ≡ 256 → length P ≡ textParts → Ended R P (readText text) after → after .cursor .number ≡ 0 → (e : Expression)
+  held : length R ≡ textWords → length P ≡ textParts → Ended R P (readText text) after → after .cursor .number ≡ 0 → (e : Expression)
       → readText text ≡ tree e → Held R P e after
   held lr lp y z e h =
       let g : y .e ≡ e = same-tree (y .is) h in
@@ -180,7 +181,7 @@ module _ (text R P S : List ℕ) (f : ℕ) (room : length S ≡ 32) (enough : 2 
         keys = small-keys text e h;
       }
 
-  pub reads : length R ≡ 256 → length P ≡ textParts → Result text R P after
+  pub reads : length R ≡ textWords → length P ≡ textParts → Result text R P after
   reads lr lp = by (eqb (after .cursor .number) 0) refl
     where
       by : (b : Bool) → eqb (after .cursor .number) 0 ≡ b → Result text R P after
@@ -193,5 +194,5 @@ module _ (text R P S : List ℕ) (f : ℕ) (room : length S ≡ 32) (enough : 2 
           record { reads = λ e g. absurd (not-tree (sym g ∙ h)); refuses = λ n p g. same-refusal h g; accepts = λ z. absurd (eqb-false (after .cursor .number) 0 q z); declines = all-fits .stops }
 
 -- the reading that the code's contract cites
-pub into : (text R P S : List ℕ) → length R ≡ 256 → length P ≡ textParts → length S ≡ 32 → Result text R P (readInto text R P S)
+pub into : (text R P S : List ℕ) → length R ≡ textWords → length P ≡ textParts → length S ≡ scopeCells → Result text R P (readInto text R P S)
 into text R P S lr lp ls = reads text R P S (suc (2 * length (tokens text))) ls (omega arith) lr lp

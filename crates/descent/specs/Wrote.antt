@@ -8,6 +8,7 @@ use native.Mathlib.Omega.{arith}
 use lib.Dec.{eqb, eqb·suc-zero}
 use lib.ListN.{length, length-set, length-append}
 use lib.Seq.{sets}
+use Rattle.language.specs.Limits.{openMarks}
 use Rattle.language.specs.Names.{packed, isData, dataWord}
 use Rattle.grammar.specs.Tokens.{when}
 use Rattle.grammar.specs.TokensLaws.{by-test}
@@ -51,7 +52,7 @@ module _ (R : List ℕ) (Σ : List Named) (t : List Node) (marks depth : ℕ) (s
       record { number = z; count = w .count; records = w .records; holds = holds-kept Σ depth (s .scope) (s' .scope) (k .below) (h .holds); room = k .scope ∙ h .room; few = h .few }
 
   -- one binder more, where there is room
-  pub ready-entered : (x : List ℕ) (n i j : ℕ) → n ≡ packed x → i ≡ j → depth < marks → marks ≤ 16 → Ready R (stands x j ∷ Σ) t marks (suc depth) (enter depth n i s)
+  pub ready-entered : (x : List ℕ) (n i j : ℕ) → n ≡ packed x → i ≡ j → depth < marks → marks ≤ openMarks → Ready R (stands x j ∷ Σ) t marks (suc depth) (enter depth n i s)
   unfolding enter
   ready-entered x n i j e g l m =
       rw (e, g) (record {

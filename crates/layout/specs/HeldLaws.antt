@@ -6,15 +6,15 @@ use borrow.Author.Tests.{lt-ltb, le-ltb}
 use lib.ListN.{getD}
 use Rattle.layout.specs.Links.{kindAt, firstAt, secondAt, keyAt}
 use Rattle.layout.specs.Memory.{Node, nodeAt, node}
-use Rattle.layout.specs.Held.{freshAt, heldAt}
+use Rattle.layout.specs.Held.{freshAt, heldAt, kindBase, entryBase}
 
 pub node-is : (links cells : List ℕ) (i kind key first second : ℕ) → kind ≡ kindAt links i → key ≡ keyAt cells i → first ≡ firstAt links i
     → second ≡ secondAt links i → node kind key first second ≡ nodeAt links cells i
 unfolding nodeAt
 node-is links cells i kind key first second k y f s = rw (k, y, f, s)
 
-pub fresh-is : (fresh : List ℕ) (i word kind key first second : ℕ) → kind ≡ word % 32 → key ≡ getD fresh (2 * i + 1) 0 → first ≡ word / 32 % 1024
-    → second ≡ word / 32768 % 1024 → word ≡ getD fresh (2 * i) 0 → node kind key first second ≡ freshAt fresh i
+pub fresh-is : (fresh : List ℕ) (i word kind key first second : ℕ) → kind ≡ word % kindBase → key ≡ getD fresh (2 * i + 1) 0 → first ≡ word / kindBase % entryBase
+    → second ≡ word / (kindBase * entryBase) % entryBase → word ≡ getD fresh (2 * i) 0 → node kind key first second ≡ freshAt fresh i
 unfolding freshAt
 fresh-is fresh i word kind key first second k y f s w = rw (k, y, f, s, w)
 

@@ -10,6 +10,8 @@ use lib.Dec.{leb, ltb}
 use lib.IntN.{ℤ}
 use lib.ListN.{length, getD}
 use lib.Seq.{getD-take}
+use Rattle.layout.specs.Links.{tableCells}
+use Rattle.language.specs.Limits.{textParts, tableEntries, tableReadings}
 use Rattle.layout.specs.Memory.{nodeAt}
 use Rattle.table.specs.WellFormed.{distinct}
 use Rattle.table.specs.Bind.{Bound}
@@ -28,30 +30,30 @@ read-into text R P r R′ P′ h n e = record { answer = e ∙ ap readNumber (h 
 
 -- binding
 module _ (links cells : List ℕ) (count n : ℕ) where
-  pub can-few : count ≤ 512 → (d : Bool) → d ≡ distinct (numbered (nodeAt links cells) 0 count) → ((leb 1 n && leb n 128) && d) ≡ canBind links cells count n
-  can-few few d e = rw (le-leb count 512 few, e) refl
+  pub can-few : count ≤ tableEntries → (d : Bool) → d ≡ distinct (numbered (nodeAt links cells) 0 count) → ((leb 1 n && leb n textParts) && d) ≡ canBind links cells count n
+  can-few few d e = rw (le-leb count tableEntries few, e) refl
 
-  pub can-many : 512 < count → false ≡ canBind links cells count n
-  can-many many = rw (lt-leb count 512 many) refl
+  pub can-many : tableEntries < count → false ≡ canBind links cells count n
+  can-many many = rw (lt-leb count tableEntries many) refl
 
 module _ (links cells : List ℕ) (count n : ℕ) (can : Bool) (told : can ≡ canBind links cells count n) where
   all : can ≡ true → canBind links cells count n ≡ true
   all so = sym told ∙ so
 
-  within : can ≡ true → (leb 1 n && leb n 128) ≡ true
-  within so = and-eq-true-iff (leb 1 n && leb n 128) _ .0 (and-eq-true-iff (leb count 512) _ .0 (all so) .1) .0
+  within : can ≡ true → (leb 1 n && leb n textParts) ≡ true
+  within so = and-eq-true-iff (leb 1 n && leb n textParts) _ .0 (and-eq-true-iff (leb count tableEntries) _ .0 (all so) .1) .0
 
-  pub bind-count : can ≡ true → count ≤ 512
-  bind-count so = leb-true _ _ (and-eq-true-iff (leb count 512) _ .0 (all so) .0)
+  pub bind-count : can ≡ true → count ≤ tableEntries
+  bind-count so = leb-true _ _ (and-eq-true-iff (leb count tableEntries) _ .0 (all so) .0)
 
   pub bind-some : can ≡ true → 1 ≤ n
   bind-some so = leb-true _ _ (and-eq-true-iff (leb 1 n) _ .0 (within so) .0)
 
-  pub bind-few : can ≡ true → n ≤ 128
+  pub bind-few : can ≡ true → n ≤ textParts
   bind-few so = leb-true _ _ (and-eq-true-iff (leb 1 n) _ .0 (within so) .1)
 
   pub bind-apart : can ≡ true → distinct (numbered (nodeAt links cells) 0 count) ≡ true
-  bind-apart so = and-eq-true-iff (leb 1 n && leb n 128) _ .0 (and-eq-true-iff (leb count 512) _ .0 (all so) .1) .1
+  bind-apart so = and-eq-true-iff (leb 1 n && leb n textParts) _ .0 (and-eq-true-iff (leb count tableEntries) _ .0 (all so) .1) .1
 
   pub bind-done : can ≡ true → (records : List ℕ) (total : ℕ) (numbers fresh : List ℕ) → BoundAll links cells count records n total numbers fresh
       → (last : ℕ) → last ≡ getD numbers (n - 1) 0 → (r : ℕ) → r ≡ boundNumber total last → r ≡ bindNumber links cells count records n
@@ -73,11 +75,11 @@ module _ (xs : List ℤ) (links cells : List ℕ) (n allowance : ℕ) (can : Boo
   pub work-lent : can ≡ true → Lent xs cells n
   work-lent so =
       let all : canWork xs cells n ≡ true = sym told ∙ so in
-      let rest : (leb 2048 (length cells) && ltb n 512) ≡ true = and-eq-true-iff (leb (length xs) 1024) _ .0 all .1 in
+      let rest : (leb tableCells (length cells) && ltb n tableEntries) ≡ true = and-eq-true-iff (leb (length xs) tableReadings) _ .0 all .1 in
       record {
-        few = leb-true _ _ (and-eq-true-iff (leb (length xs) 1024) _ .0 all .0);
-        room = leb-true _ _ (and-eq-true-iff (leb 2048 (length cells)) _ .0 rest .0);
-        entry = ltb-true _ _ (and-eq-true-iff (leb 2048 (length cells)) _ .0 rest .1);
+        few = leb-true _ _ (and-eq-true-iff (leb (length xs) tableReadings) _ .0 all .0);
+        room = leb-true _ _ (and-eq-true-iff (leb tableCells (length cells)) _ .0 rest .0);
+        entry = ltb-true _ _ (and-eq-true-iff (leb tableCells (length cells)) _ .0 rest .1);
       }
 
   pub work-done : can ≡ true → (after : List ℕ) (count : ℕ) (left : Bool) → Works xs links cells n allowance after count left

@@ -21,7 +21,7 @@ use Rattle.model.specs.Model.{refused, edited}
 use Rattle.layout.specs.Memory.{Memory, Node, entryCount, nodeAt, memory}
 use Rattle.table.specs.Bind.{Bound, bindAll, appendAll}
 use Rattle.layout.specs.Numbered.{numbered}
-use Rattle.layout.specs.Held.{freshAt}
+use Rattle.layout.specs.Held.{freshAt, textWords, kindBase, recordBase}
 use Rattle.table.specs.CheckedLaws.{nodes-are}
 use Rattle.binder.specs.Records.{recordAt, bound, BoundAll, isFull}
 use Rattle.binder.specs.RecordsLaws.{bound-waits, bound-numbers, bound-total}
@@ -39,9 +39,9 @@ use Rattle.planner.specs.declared.plan.Plan.{Plan}
 use Rattle.planner.specs.Plans.{ReadTo, Planned}
 
 -- The records that the reader wrote are those that binding reads.
-record-same : (cells : List ℕ) (r : ℕ) → D.recordAt cells r .second < 256 → recordAt cells r ≡ D.recordAt cells r
+record-same : (cells : List ℕ) (r : ℕ) → D.recordAt cells r .second < recordBase → recordAt cells r ≡ D.recordAt cells r
 unfolding recordAt D.recordAt
-record-same cells r h = let z : getD cells (2 * r) 0 / 8192 % 256 ≡ getD cells (2 * r) 0 / 8192 = omega arith in rw z
+record-same cells r h = let z : getD cells (2 * r) 0 / (kindBase * recordBase) % recordBase ≡ getD cells (2 * r) 0 / (kindBase * recordBase) = omega arith in rw z
 
 records-same : (cells : List ℕ) (r : ℕ) (ns : List Node) → Earlier r ns → r + length ns ≤ textParts → D.recordsFrom cells r (length ns) ≡ ns
     → numbered (recordAt cells) r (length ns) ≡ ns
@@ -51,7 +51,7 @@ records-same cells r (n ∷ ns) h l e =
     let q : D.recordAt cells r ≡ n = cc in
     let u : D.recordsFrom cells (suc r) (length ns) ≡ ns = cc in
     let s = h .0 .second in
-    let v : D.recordAt cells r .second < 256 = rw q (omega arith) in
+    let v : D.recordAt cells r .second < recordBase = rw q (omega arith) in
     rw (record-same cells r v, q, records-same cells (suc r) ns (h .1) (omega arith) u)
 
 -- What the reader answers, by the text.
@@ -78,7 +78,7 @@ held-read text R P x s n size root R′ P′ q h lp qn qs qr qR qP =
       room = rw (qP, h .places) (simp (length-append, length-drop) (omega (arith, h .parts, h .fewParts)));
     }
 
-module _ (text R P : List ℕ) (r : Read) (R′ P′ : List ℕ) (reading : ReadsInto text R P r R′ P′) (lr : length R ≡ 256)
+module _ (text R P : List ℕ) (r : Read) (R′ P′ : List ℕ) (reading : ReadsInto text R P r R′ P′) (lr : length R ≡ textWords)
     (lp : length P ≡ textParts) where
   abbrev after : State
   after = readInto text R P noBinders
@@ -122,7 +122,7 @@ declined-only : (m : Memory) (text : List ℕ) (number place : ℕ) (P N F : Lis
 declined-only m text number place P N F u a b = record { declined = λ _. record { answer = a; memory = b }; accepted = λ z. absurd (u z) }
 
 pub planned-refused : (m : Memory) (text R P : List ℕ) (r : Read) (R′ P′ : List ℕ) (number place : ℕ) (N F : List ℕ) → ReadsInto text R P r R′ P′
-    → length R ≡ 256 → length P ≡ textParts
+    → length R ≡ textWords → length P ≡ textParts
     → r ≡ Refused number place → Planned m text (plan number place 0 0 0) P′ N F
 unfolding readAnswer readMemory
 planned-refused m text R P r R′ P′ number place N F reading lr lp e =

@@ -9,6 +9,7 @@ use native.Mathlib.Omega.{arith}
 use lib.Dec.{eqb, lit<}
 use lib.ListN.{length, set}
 use borrow.Author.Tests.{eq-eqb, ne-eqb}
+use Rattle.language.specs.Limits.{textParts, openMarks}
 use Rattle.grammar.specs.Tokens.{when}
 use Rattle.layout.specs.Memory.{node}
 use Rattle.layout.specs.Nodes.{functionKind}
@@ -70,7 +71,7 @@ module _ (text : List ℕ) where
     pub read-fit : Fit m (stateOf text c R P S) → Fit (inCalls (F.marksOf m) (depthOf m)) (stateOf text a R′ P′ S′)
     read-fit f = Paths.reads-fit end (h .reads) f z
 
-    pub root-few : Fit m (stateOf text c R P S) → a .root < 128
+    pub root-few : Fit m (stateOf text c R P S) → a .root < textParts
     root-few f = let g = read-fit f in omega (arith, g .own, g .count, g .parts)
 
   -- ---- a call that is refused, and one of which a part is read
@@ -399,10 +400,10 @@ module _ (text : List ℕ) where
         lambda-zero : C.lambdaHead end w marks depth S (cursorOf text c) .number ≡ 0
         lambda-zero = sym (ap (λ (v : C.Cursor). v .number) p) ∙ z
 
-        pub lambda-few : marks < 16
+        pub lambda-few : marks < openMarks
         lambda-few = F.lambda-few end w marks depth S (cursorOf text c) lambda-zero
 
-        pub lambda-deep : depth < 16
+        pub lambda-deep : depth < openMarks
         lambda-deep = let m = lambda-few in let d = f .fit .depth in omega arith
 
         pub lambda-less : tokens-left h + 3 ≤ tokens-left c
@@ -433,7 +434,7 @@ module _ (text : List ℕ) where
                 record { reads = Paths.lambda-body-refused end w marks depth at-it (cursorOf text h) (f .ahead) p (eq-eqb (h .number) 0 z) body-reads (ne-eqb (r .number) 0 t) }
 
             module _ (t : r .number ≡ 0) where
-              pub lambda-root : r .root < 128
+              pub lambda-root : r .root < textParts
               lambda-root = root-few _ _ _ _ _ _ _ _ _ y t (lambda-fit .fit)
 
               pub lambda-room : Recorded r (c .parts) 4 (r .root + 1) 0
@@ -461,16 +462,16 @@ module _ (text : List ℕ) where
         let-zero : C.letHead end w marks (cursorOf text c) .number ≡ 0
         let-zero = sym (ap (λ (v : C.Cursor). v .number) p) ∙ z
 
-        pub let-few : marks < 16
+        pub let-few : marks < openMarks
         let-few = F.let-few end w marks (cursorOf text c) let-zero
 
-        pub let-deep : depth < 16
+        pub let-deep : depth < openMarks
         let-deep = let m = let-few in let d = f .fit .depth in omega arith
 
         pub let-less : tokens-left h + 3 ≤ tokens-left c
         let-less = Paths.less-let end w marks depth at-it (cursorOf text h) (f .ahead) p (eq-eqb (h .number) 0 z)
 
-        pub let-place : c .parts < 128
+        pub let-place : c .parts < textParts
         let-place =
             G.room-part w marks depth 3 at-it (cursorOf text h) (f .fit)
             (subst (Moved 3 1 (cursorOf text c)) (sym p) (moved-let end w marks (cursorOf text c) (behind-some 1 (tokensFrom text (c .at)) (lit< tt) (f .ahead)))) z .place
@@ -527,7 +528,7 @@ module _ (text : List ℕ) where
                     }
 
                 module _ (a : r .number ≡ 0) where
-                  pub let-root : r .root < 128
+                  pub let-root : r .root < textParts
                   let-root = root-few _ _ _ _ _ _ _ _ _ k a (let-body-fit .fit)
 
                   pub let-read : (P₃ : List ℕ) → P₃ ≡ set P₂ (c .parts) (r .root) → Parses E text c R P S r R₂ P₃ S₃

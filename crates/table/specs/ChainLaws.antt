@@ -20,7 +20,7 @@ use Rattle.table.specs.Bind.{find}
 use Rattle.layout.specs.Numbered.{allFrom, numbered}
 use Rattle.table.specs.RightLaws.{all-stop, all-end}
 use Rattle.layout.specs.Held.{heldAt}
-use Rattle.table.specs.Chain.{hashOf, latest, lastSame, newAt, Chained, linked, Entered}
+use Rattle.table.specs.Chain.{hashOf, latest, lastSame, newAt, Chained, linked, Entered, hashes}
 
 -- the test is equality
 pub same-equal : (a b : Node) → sameNode a b ≡ true → a ≡ b
@@ -217,7 +217,7 @@ module _ (ν : ℕ → Node) where
       split (eqb (hashOf (ν j)) h) (λ p. eqb-true _ _ p) (λ p. let l = latest-le h j in let z : suc j ≡ latest ν h j = (rw p at e) in absurd (omega arith))
 
   module _ (chain : List ℕ) (total : ℕ) (ch : Chained ν chain total) where
-    module _ (x : Node) (h : ℕ) (q : h ≡ hashOf x) (l : h < 512) where
+    module _ (x : Node) (h : ℕ) (q : h ≡ hashOf x) (l : h < hashes) where
       pub seek-start : lastSame ν x total ≡ lastSame ν x (getD chain h 0)
       seek-start = rw (ch .heads h l, q) (sym (jump x total))
 
@@ -232,7 +232,7 @@ module _ (ν : ℕ → Node) where
       hash-at = let z : c ≡ suc (c - 1) = omega arith in latest-at (hashOf x) (c - 1) (rw (← z) own)
 
       next-is : getD chain (511 + c) 0 ≡ latest ν (hashOf x) (c - 1)
-      next-is = let z : 511 + c ≡ 512 + (c - 1) = omega arith in rw z (ch .nexts (c - 1) (omega arith) ∙ rw hash-at)
+      next-is = let z : 511 + c ≡ hashes + (c - 1) = omega arith in rw z (ch .nexts (c - 1) (omega arith) ∙ rw hash-at)
 
       pub seek-next : getD chain (511 + c) 0 ≡ latest ν (hashOf x) (getD chain (511 + c) 0)
       seek-next = rw next-is (sym (latest-again (hashOf x) (c - 1)))
@@ -262,12 +262,12 @@ module _ (ν : ℕ → Node) where
   unfolding lastSame
   seek-end x total c all h = let z : c ≡ 0 = omega arith in sym (all ∙ rw z)
 
-  pub chained-more : (chain chain′ : List ℕ) (n h : ℕ) → Chained ν chain n → chain′ ≡ linked chain h n → h ≡ hashOf (ν n) → h < 512
+  pub chained-more : (chain chain′ : List ℕ) (n h : ℕ) → Chained ν chain n → chain′ ≡ linked chain h n → h ≡ hashOf (ν n) → h < hashes
       → n < tableEntries + textParts → Chained ν chain′ (n + 1)
   unfolding linked latest
   chained-more chain chain′ n h ch e q lh ln =
       let z = ch .size in
-      let inner = length-set chain (512 + n) (getD chain h 0) in
+      let inner = length-set chain (hashes + n) (getD chain h 0) in
       rw (e, add-one n)
       record {
         size = simp length-set z;
@@ -275,19 +275,19 @@ module _ (ν : ℕ → Node) where
             split (eqb (hashOf (ν n)) k)
             (λ p.
             let w : k ≡ h = sym (q ∙ eqb-true _ _ p) in
-            rw p (rw w (getD-set-same (set chain (512 + n) (getD chain h 0)) h (suc n) 0 (omega arith))))
+            rw p (rw w (getD-set-same (set chain (hashes + n) (getD chain h 0)) h (suc n) 0 (omega arith))))
             (λ p.
             rw p
-            (getD-set-other (set chain (512 + n) (getD chain h 0)) h k (suc n) 0 (λ w. eqb-false _ _ p (sym q ∙ sym w))
-            ∙ getD-set-other chain (512 + n) k (getD chain h 0) 0 (λ w. omega arith)
+            (getD-set-other (set chain (hashes + n) (getD chain h 0)) h k (suc n) 0 (λ w. eqb-false _ _ p (sym q ∙ sym w))
+            ∙ getD-set-other chain (hashes + n) k (getD chain h 0) 0 (λ w. omega arith)
             ∙ ch .heads k lk));
         nexts = λ i li.
-            getD-set-other (set chain (512 + n) (getD chain h 0)) h (512 + i) (suc n) 0 (λ w. omega arith)
+            getD-set-other (set chain (hashes + n) (getD chain h 0)) h (hashes + i) (suc n) 0 (λ w. omega arith)
             ∙ elim (decLt i n) [
-              | yes less ↦ getD-set-other chain (512 + n) (512 + i) (getD chain h 0) 0 (λ w. omega arith) ∙ ch .nexts i less
+              | yes less ↦ getD-set-other chain (hashes + n) (hashes + i) (getD chain h 0) 0 (λ w. omega arith) ∙ ch .nexts i less
               | no most ↦
                   let w : i ≡ n = omega arith in
-                  rw w (getD-set-same chain (512 + n) (getD chain h 0) 0 (omega arith) ∙ ch .heads h lh ∙ rw q)
+                  rw w (getD-set-same chain (hashes + n) (getD chain h 0) 0 (omega arith) ∙ ch .heads h lh ∙ rw q)
             ];
       }
 
@@ -306,7 +306,7 @@ module _ (ν μ : ℕ → Node) where
         nexts = λ i l. ch .nexts i l ∙ latest-agree (hashOf (ν i)) i (λ j m. h j (omega arith)) ∙ ap (λ (x : Node). latest μ (hashOf x) i) (h i l);
       }
 
-pub hash-low : (h : ℕ) (m : Node) → h ≡ hashOf m → h < 512
+pub hash-low : (h : ℕ) (m : Node) → h ≡ hashOf m → h < hashes
 unfolding hashOf
 hash-low h m q = omega arith
 
