@@ -12,11 +12,14 @@ use lib.ListN.{length, length-set}
 use lib.Seq.{getD-set-same, getD-set-other}
 use Rattle.language.specs.Cases.{impossible, split}
 use Rattle.language.specs.Limits.{tableEntries, tableReadings}
+use Rattle.model.specs.Decoding.{decodeFrom}
 use Rattle.layout.specs.Links.{secondIndex, otherIndex, linksWith, cellsWith}
 use Rattle.layout.specs.LinksLaws.{links-length, links-apart, links-here, cells-length, cells-apart, cells-kept, cells-key, cells-nothing}
 use Rattle.layout.specs.Memory.{Memory, Node, Entry, nothingKept, fits, entryCount, readingCount, nodeAt, entryAt, entriesFrom, entriesOf}
 use Rattle.layout.specs.Nodes.{kids}
-use Rattle.table.specs.WellFormed.{every, hasNode, distinct, awaitedBy, awaitedAfter, awaitsFew, doneAt, allDone, settled, namesRight, keptRight, wellFormed}
+use Rattle.table.specs.Awaits.{awaitedBy, awaitedAfter}
+use Rattle.table.specs.AwaitedBuild.{few-is}
+use Rattle.table.specs.WellFormed.{every, hasNode, distinct, awaitsFew, doneAt, allDone, settled, namesRight, keptRight, wellFormed}
 use Rattle.table.specs.Bind.{append, appendAll}
 use Rattle.table.specs.Right.{nodeRight, rightAt}
 use Rattle.layout.specs.Numbered.{allFrom, numbered}
@@ -147,7 +150,7 @@ well-from m w =
 
 -- a cache with no entries
 pub well-empty : (m : Memory) → entryCount m ≡ 0 → readingCount m ≤ tableReadings → wellFormed m ≡ true
-unfolding wellFormed entriesFrom every distinct awaitedAfter
+unfolding wellFormed entriesFrom every distinct decodeFrom
 well-empty m e h = rw (e, le-leb (readingCount m) tableReadings h)
 
 pub and-true : (a b : Bool) → a ≡ true → b ≡ true → (a && b) ≡ true
@@ -239,7 +242,9 @@ module _ (m : Memory) (n : Node) (f : fits m ≡ true) (w : Well m) (room : entr
 
   module _ (r : nodeRight k n ≡ true) (u : hasNode n held ≡ false) (a : length (awaitedBy (awaitedAfter [] held) n) ≤ 2) where
     few-more : awaitsFew (held ++ (n ∷ [])) ≡ true
-    few-more = rw (after-snoc (nodeAt ls cs) [] held n) (every-snoc (λ (x : List ℕ). leb (length x) 2) 0 (awaitedAfter [] held) (awaitedBy (awaitedAfter [] held) n) (w .names) (le-leb _ _ a))
+    few-more =
+        sym (few-is (held ++ (n ∷ [])))
+        ∙ rw (after-snoc (nodeAt ls cs) [] held n) (every-snoc (λ (x : List ℕ). leb (length x) 2) 0 (awaitedAfter [] held) (awaitedBy (awaitedAfter [] held) n) (few-is held ∙ w .names) (le-leb _ _ a))
 
     pub append-well : wellFormed (append m n) ≡ true
     unfolding append

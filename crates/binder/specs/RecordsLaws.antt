@@ -12,9 +12,11 @@ use lib.Dec.{eqb, ltb}
 use lib.ListN.{length, getD, set, take, drop, length-set, List·getD-eq-default}
 use lib.Seq.{getD-set-same, getD-set-other, getD-take, take-suc-set, length-take-le, drop-at}
 use Rattle.language.specs.Limits.{textParts, tableEntries}
+use Rattle.layout.specs.Nodes.{sameNode}
 use Rattle.layout.specs.Memory.{Node, nodeAt, node}
 use Rattle.table.specs.WellFormed.{distinct}
-use Rattle.table.specs.Bind.{find, relinked, relink, Bound, bindOne, bindAll}
+use Rattle.model.specs.Lists.{index}
+use Rattle.table.specs.Bind.{relinked, relink, Bound, bindOne, bindAll}
 use Rattle.layout.specs.Numbered.{numbered}
 use Rattle.table.specs.RightLaws.{left-suc}
 use Rattle.layout.specs.Held.{shaped, wordOf, freshAt, heldAt, withFresh, kindBase, entryBase, recordBase, textWords}
@@ -138,7 +140,7 @@ module _ (links cells : List ℕ) (count total : ℕ) (records : List ℕ) (r : 
   ns = numbered ν 0 total
 
   -- the number that the definition finds
-  found : find ns m ≡ cond (eqb c 0) total (c - 1)
+  found : index sameNode m ns ≡ cond (eqb c 0) total (c - 1)
   found = find-last ν m total (ready .apart) ∙ rw (← qc)
 
   bind-as : bindOne (boundNow links cells count total r numbers fresh) (recordAt records r)

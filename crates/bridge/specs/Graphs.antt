@@ -7,7 +7,7 @@ use Prim.Native.Nat.{ℕ, zero, suc, _-_}
 use borrow.Author.Tests.{eqb-true, eq-eqb}
 use lib.Dec.{eqb}
 use lib.IntN.{pos, natAbs, -ℤ-+ℤ-cancel}
-use Rattle.members.specs.Members.{row}
+use Rattle.members.specs.Members.{arguments}
 use Rattle.members.specs.declared.Member.{Member}
 use Rattle.members.specs.declared.Found.{Found}
 use Rattle.members.specs.declared.Found.the-variants.{Is, Unknown}
@@ -89,11 +89,11 @@ pub kids-function : (x b : ℕ) → kids (node functionKind x (suc b) 0) ≡ b �
 unfolding kids arity
 kids-function x b = rw (less-one b)
 
-pub kids-ask : (m : Member) (f : ℕ) → row m .arguments ≡ 0 → kids (node (memberKind m) 0 (suc f) 0) ≡ f ∷ []
+pub kids-ask : (m : Member) (f : ℕ) → arguments m ≡ 0 → kids (node (memberKind m) 0 (suc f) 0) ≡ f ∷ []
 unfolding kids
 kids-ask m f e = rw (member-arity m, e, less-one f)
 
-pub kids-call : (m : Member) (f a : ℕ) → row m .arguments ≡ 1 → kids (node (memberKind m) 0 (suc f) (suc a)) ≡ f ∷ a ∷ []
+pub kids-call : (m : Member) (f a : ℕ) → arguments m ≡ 1 → kids (node (memberKind m) 0 (suc f) (suc a)) ≡ f ∷ a ∷ []
 unfolding kids
 kids-call m f a e = rw (member-arity m, e, less-one f, less-one a)
 
@@ -198,9 +198,9 @@ only-of _ φ j (aCall m f a e) h =
 agree-member : (f : Found) (n : Node) (φ ψ : ℕ → Form) → ((j : ℕ) → among j (listed (memberArity f) n) ≡ true → φ j ≡ ψ j)
     → memberForm f (φ (n .first - 1)) (φ (n .second - 1)) ≡ memberForm f (ψ (n .first - 1)) (ψ (n .second - 1))
 agree-member Unknown n φ ψ h = refl
-agree-member (Is m) n φ ψ h = by (row m .arguments) refl
+agree-member (Is m) n φ ψ h = by (arguments m) refl
   where
-    by : (k : ℕ) → row m .arguments ≡ k → memberForm (Is m) (φ (n .first - 1)) (φ (n .second - 1)) ≡ memberForm (Is m) (ψ (n .first - 1)) (ψ (n .second - 1))
+    by : (k : ℕ) → arguments m ≡ k → memberForm (Is m) (φ (n .first - 1)) (φ (n .second - 1)) ≡ memberForm (Is m) (ψ (n .first - 1)) (ψ (n .second - 1))
     by zero e = let a = h (n .first - 1) (rw e (among-first (n .first - 1) [])) in rw (e, a)
     by (suc k) e =
         let a = h (n .first - 1) (rw e (among-first (n .first - 1) _)) in

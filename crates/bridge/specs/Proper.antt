@@ -8,7 +8,7 @@ use native.Mathlib.Omega.{arith}
 use borrow.Author.Tests.{eqb-true, eq-eqb}
 use lib.Dec.{eqb}
 use lib.ListN.{length}
-use Rattle.members.specs.Members.{row}
+use Rattle.members.specs.Members.{arguments}
 use Rattle.language.specs.Cases.{impossible, split, or-right}
 use Rattle.grammar.specs.KeptLimits.{InRange}
 use Rattle.meaning.specs.Forms.{Form, number, variable, unbound, readings, ask, call, function}
@@ -20,8 +20,8 @@ Shape (number z) = InRange z
 Shape (variable x) = isName x ≡ true
 Shape (unbound x) = isName x ≡ true
 Shape readings = Unit {0}
-Shape (ask m f) = row m .arguments ≡ 0
-Shape (call m f a) = row m .arguments ≡ 1
+Shape (ask m f) = arguments m ≡ 0
+Shape (call m f a) = arguments m ≡ 1
 Shape (function x b) = isName x ≡ true
 
 pub record Proper (f : Form) : Type 0 where

@@ -11,17 +11,17 @@ use lib.ListN.{length}
 use Rattle.members.specs.MembersLaws.{few-arguments}
 use Rattle.language.specs.Limits.{openLambdas}
 use Rattle.language.specs.Names.{packed, sameName, isData, dataWord}
-use Rattle.members.specs.Members.{row}
+use Rattle.members.specs.Members.{arguments}
 use Rattle.language.specs.Cases.{impossible, split, by-cond}
 use Rattle.grammar.specs.Grammar.{Expression, Calls, Arguments, More, letIn, lambda, name, literal, bracket, done, call, none, first, last, next}
-use Rattle.grammar.specs.Faults.{Binder, byLet, byLambda, Around, outermost, opened, inLet, inLambda, lambdasOf}
+use Rattle.grammar.specs.Faults.{Around, outermost, opened, inLambda}
 use Rattle.grammar.specs.KeptLimits.{Site, aLet, aLambda, aBracket, aName, aNumber, aCall, givenA, givenM, EverywhereE, EverywhereC, EverywhereA}
 use Rattle.grammar.specs.KeptLimits.{EverywhereM, KeepsLimits, InRange, NotData}
 use Rattle.grammar.specs.SingleLimits.{FewLambdas, ShortNames, DataUnbound, SmallNumbers, RightCalls}
 use Rattle.grammar.specs.KeptLimitsLaws.{keeps-each, weave-E, Both, both}
 use Rattle.grammar.specs.Words.{Worded}
 use Rattle.meaning.specs.Forms.{Form, number, variable, unbound, readings, ask, function}
-use Rattle.meaning.specs.Binding.{Meaning, means, lookUp, named, asLambda, member, formE, formC, formA, formM, called, orderE, orderC, orderA, orderM, formsInOrder}
+use Rattle.meaning.specs.Binding.{Meaning, lookUp, named, asLambda, member, formE, formC, formA, formM, called, orderE, orderC, orderA, orderM, formsInOrder}
 use Rattle.meaning.specs.Evaluation.{hasName, awaited}
 use Rattle.model.specs.Lists.{All}
 use Rattle.layout.specs.Nodes.{isName}
@@ -32,11 +32,11 @@ use Rattle.bridge.specs.Proper.{Shape, Proper, Has, nodup-awaited, has-j
 -- what is known at each site of a tree that a text is read to
 abbrev Known : Site → Around → Type 0
 Known (aLet x) d = Unit {0}
-Known (aLambda x) d = (isName (packed x) ≡ true) × (lambdasOf (d .binders) < openLambdas)
+Known (aLambda x) d = (isName (packed x) ≡ true) × (length (d .lambdas) < openLambdas)
 Known aBracket d = Unit {0}
 Known (aName x) d = isData x ≡ false → isName (packed x) ≡ true
 Known (aNumber z) d = InRange z
-Known (aCall m n) d = row (member m) .arguments ≡ n
+Known (aCall m n) d = arguments (member m) ≡ n
 
 -- the sites known, from the limits and the words
 no-data : (x : List ℕ) → NotData x → isData x ≡ false
@@ -61,16 +61,14 @@ known e h w =
     (both e RightCalls Worded (k .members) w)
 
 -- the names of the lambdas around
-unfoldable lambdaNames : List Binder → List ℕ
+unfoldable lambdaNames : List (List ℕ) → List ℕ
 lambdaNames [] = []
-lambdaNames (byLet x ∷ bs) = lambdaNames bs
-lambdaNames (byLambda x ∷ bs) = packed x ∷ lambdaNames bs
+lambdaNames (x ∷ bs) = packed x ∷ lambdaNames bs
 
-names-length : (bs : List Binder) → length (lambdaNames bs) ≡ lambdasOf bs
-unfolding lambdaNames lambdasOf
+names-length : (bs : List (List ℕ)) → length (lambdaNames bs) ≡ length bs
+unfolding lambdaNames
 names-length [] = refl
-names-length (byLet x ∷ bs) = names-length bs
-names-length (byLambda x ∷ bs) = ap suc (names-length bs)
+names-length (x ∷ bs) = ap suc (names-length bs)
 
 -- a proper form whose awaited names are among the lambdas'
 record Good (f : Form) (ns : List ℕ) : Type 0 where
@@ -85,11 +83,11 @@ unfolding hasName
 good-more f x ns g = record { proper = g .proper; within = λ y h. let i = g .within y h in split (eqb y x) (λ e. rw e) (λ e. rw e i) }
 
 abbrev GoodAll : List Meaning → List ℕ → Type 0
-GoodAll Γ ns = All (λ (e : Meaning). Good (e .form) ns) Γ
+GoodAll Γ ns = All (λ (e : Meaning). Good (e .1) ns) Γ
 
 good-all-more : (Γ : List Meaning) (x : ℕ) (ns : List ℕ) → GoodAll Γ ns → GoodAll Γ (x ∷ ns)
 good-all-more [] x ns h = tt
-good-all-more (e ∷ Γ) x ns h = (good-more (e .form) x ns (h .0), good-all-more Γ x ns (h .1))
+good-all-more (e ∷ Γ) x ns h = (good-more (e .1) x ns (h .0), good-all-more Γ x ns (h .1))
 
 -- each form from the forms that it is made of
 good-leaf : (f : Form) (ns : List ℕ) → length ns ≤ 2 → Shape f → ((y : ℕ) → hasName y (awaited f) ≡ false) → Good f ns
@@ -99,7 +97,7 @@ good-lookup : (x : List ℕ) (Γ : List Meaning) (ns : List ℕ) → length ns �
 unfolding lookUp awaited hasName
 good-lookup x [] ns l h n = good-leaf (unbound (packed x)) ns l n (λ y. refl)
 good-lookup x (e ∷ Γ) ns l h n =
-    by-cond (λ (f : Form). Good f ns) (sameName x (e .name)) (e .form) (lookUp x Γ) (λ q. h .0) (λ q. good-lookup x Γ ns l (h .1) n)
+    by-cond (λ (f : Form). Good f ns) (sameName x (e .0)) (e .1) (lookUp x Γ) (λ q. h .0) (λ q. good-lookup x Γ ns l (h .1) n)
 
 good-named : (x : List ℕ) (Γ : List Meaning) (ns : List ℕ) → length ns ≤ 2 → GoodAll Γ ns → (isData x ≡ false → isName (packed x) ≡ true) → Good (named x Γ) ns
 unfolding named awaited hasName
@@ -111,11 +109,11 @@ good-number : (z : ℤ) (ns : List ℕ) → length ns ≤ 2 → InRange z → Go
 unfolding awaited hasName
 good-number z ns l h = good-leaf (number z) ns l h (λ y. refl)
 
-good-ask : (m : List ℕ) (f : Form) (ns : List ℕ) → length ns ≤ 2 → row (member m) .arguments ≡ 0 → Good f ns → Good (ask (member m) f) ns
+good-ask : (m : List ℕ) (f : Form) (ns : List ℕ) → length ns ≤ 2 → arguments (member m) ≡ 0 → Good f ns → Good (ask (member m) f) ns
 unfolding awaited
 good-ask m f ns l e g = good (ask (member m) f) ns l e (g .within)
 
-good-call : (m : List ℕ) (f a : Form) (ns : List ℕ) → length ns ≤ 2 → row (member m) .arguments ≡ 1 → Good f ns → Good a ns → Good (Form.call (member m) f a) ns
+good-call : (m : List ℕ) (f a : Form) (ns : List ℕ) → length ns ≤ 2 → arguments (member m) ≡ 1 → Good f ns → Good a ns → Good (Form.call (member m) f a) ns
 unfolding awaited
 good-call m f a ns l e g h = good (Form.call (member m) f a) ns l e (λ y i. has-joined y (awaited f) (awaited a) ns (g .within) (h .within) i)
 
@@ -142,55 +140,55 @@ one-argument x k h e = omega arith
 
 -- the forms in order, each proper; ns are the names of the lambdas around
 mutual
-  unfolding orderE formE called lambdaNames opened inLet inLambda givenA givenM
+  unfolding orderE formE called lambdaNames opened inLambda givenA givenM
 
-  goodE : (e : Expression) (d : Around) (Γ : List Meaning) → EverywhereE Known e d → length (lambdaNames (d .binders)) ≤ 2 → GoodAll Γ (lambdaNames (d .binders))
-      → (u : List Form) → All Proper u → Good (formE e Γ) (lambdaNames (d .binders)) × All Proper (orderE e Γ u)
+  goodE : (e : Expression) (d : Around) (Γ : List Meaning) → EverywhereE Known e d → length (lambdaNames (d .lambdas)) ≤ 2 → GoodAll Γ (lambdaNames (d .lambdas))
+      → (u : List Form) → All Proper u → Good (formE e Γ) (lambdaNames (d .lambdas)) × All Proper (orderE e Γ u)
   goodE (letIn x a b) d Γ k l g u p =
-      let gb = goodE b (inLet x d) (means x (formE a Γ) ∷ Γ) (k .2) l (goodE a (opened d) Γ (k .1) l g [] tt .0, g) u p in
-      (gb .0, goodE a (opened d) Γ (k .1) l g (orderE b (means x (formE a Γ) ∷ Γ) u) (gb .1) .1)
+      let gb = goodE b (opened d) ((x, formE a Γ) ∷ Γ) (k .2) l (goodE a (opened d) Γ (k .1) l g [] tt .0, g) u p in
+      (gb .0, goodE a (opened d) Γ (k .1) l g (orderE b ((x, formE a Γ) ∷ Γ) u) (gb .1) .1)
   goodE (lambda x b) d Γ k l g u p =
-      let n = names-length (d .binders) in
+      let n = names-length (d .lambdas) in
       let room = k .0 .1 in
-      let more : length (packed x ∷ lambdaNames (d .binders)) ≤ 2 = omega arith in
-      let env : GoodAll (asLambda x Γ) (packed x ∷ lambdaNames (d .binders)) =
-      (good-variable (packed x) _ more (k .0 .0) (first-has (packed x) (lambdaNames (d .binders))), good-all-more Γ (packed x) (lambdaNames (d .binders)) g) in
-      let f = good-function (packed x) (formE b (asLambda x Γ)) (lambdaNames (d .binders)) l (k .0 .0) (goodE b (inLambda x d) (asLambda x Γ) (k .1) more env [] tt .0) in
+      let more : length (packed x ∷ lambdaNames (d .lambdas)) ≤ 2 = omega arith in
+      let env : GoodAll (asLambda x Γ) (packed x ∷ lambdaNames (d .lambdas)) =
+      (good-variable (packed x) _ more (k .0 .0) (first-has (packed x) (lambdaNames (d .lambdas))), good-all-more Γ (packed x) (lambdaNames (d .lambdas)) g) in
+      let f = good-function (packed x) (formE b (asLambda x Γ)) (lambdaNames (d .lambdas)) l (k .0 .0) (goodE b (inLambda x d) (asLambda x Γ) (k .1) more env [] tt .0) in
       (f, goodE b (inLambda x d) (asLambda x Γ) (k .1) more env (function (packed x) (formE b (asLambda x Γ)) ∷ u) (f .proper, p) .1)
   goodE (name x r) d Γ k l g u p =
-      let f = good-named x Γ (lambdaNames (d .binders)) l g (k .0) in
+      let f = good-named x Γ (lambdaNames (d .lambdas)) l g (k .0) in
       let c = goodC r d (named x Γ) Γ (k .1) l g f u p in
       (c .0, (f .proper, c .1))
   goodE (literal z r) d Γ k l g u p =
-      let f = good-number z (lambdaNames (d .binders)) l (k .0) in
+      let f = good-number z (lambdaNames (d .lambdas)) l (k .0) in
       let c = goodC r d (number z) Γ (k .1) l g f u p in
       (c .0, (f .proper, c .1))
   goodE (bracket e r) d Γ k l g u p =
       let c = goodC r d (formE e Γ) Γ (k .2) l g (goodE e (opened d) Γ (k .1) l g [] tt .0) u p in
       (c .0, goodE e (opened d) Γ (k .1) l g (orderC r (formE e Γ) Γ u) (c .1) .1)
 
-  goodC : (r : Calls) (d : Around) (f : Form) (Γ : List Meaning) → EverywhereC Known r d → length (lambdaNames (d .binders)) ≤ 2
-      → GoodAll Γ (lambdaNames (d .binders)) → Good f (lambdaNames (d .binders))
-      → (u : List Form) → All Proper u → Good (formC r f Γ) (lambdaNames (d .binders)) × All Proper (orderC r f Γ u)
+  goodC : (r : Calls) (d : Around) (f : Form) (Γ : List Meaning) → EverywhereC Known r d → length (lambdaNames (d .lambdas)) ≤ 2
+      → GoodAll Γ (lambdaNames (d .lambdas)) → Good f (lambdaNames (d .lambdas))
+      → (u : List Form) → All Proper u → Good (formC r f Γ) (lambdaNames (d .lambdas)) × All Proper (orderC r f Γ u)
   goodC done d f Γ k l g h u p = (h, p)
   goodC (call m a) d f Γ k l g h u p = goodA a m d f Γ (k .0) (k .1) l g h u p
 
-  goodA : (a : Arguments) (m : List ℕ) (d : Around) (f : Form) (Γ : List Meaning) → row (member m) .arguments ≡ givenA a → EverywhereA Known a d → length (lambdaNames (d .binders)) ≤ 2
-      → GoodAll Γ (lambdaNames (d .binders)) → Good f (lambdaNames (d .binders))
-      → (u : List Form) → All Proper u → Good (formA a m f Γ) (lambdaNames (d .binders)) × All Proper (orderA a (called a m f Γ) Γ u)
+  goodA : (a : Arguments) (m : List ℕ) (d : Around) (f : Form) (Γ : List Meaning) → arguments (member m) ≡ givenA a → EverywhereA Known a d → length (lambdaNames (d .lambdas)) ≤ 2
+      → GoodAll Γ (lambdaNames (d .lambdas)) → Good f (lambdaNames (d .lambdas))
+      → (u : List Form) → All Proper u → Good (formA a m f Γ) (lambdaNames (d .lambdas)) × All Proper (orderA a (called a m f Γ) Γ u)
   goodA (none r) m d f Γ e k l g h u p =
-      let q = good-ask m f (lambdaNames (d .binders)) l e h in
+      let q = good-ask m f (lambdaNames (d .lambdas)) l e h in
       let c = goodC r d (ask (member m) f) Γ k l g q u p in
       (c .0, (q .proper, c .1))
   goodA (first e′ x) m d f Γ e k l g h u p =
       let few = few-arguments (member m) in
-      let q = good-call m f (formE e′ Γ) (lambdaNames (d .binders)) l (one-argument x (row (member m) .arguments) few e) h (goodE e′ (opened d) Γ (k .0) l g [] tt .0) in
+      let q = good-call m f (formE e′ Γ) (lambdaNames (d .lambdas)) l (one-argument x (arguments (member m)) few e) h (goodE e′ (opened d) Γ (k .0) l g [] tt .0) in
       let c = goodM x d (Form.call (member m) f (formE e′ Γ)) Γ (k .1) l g q u p in
       (c .0, goodE e′ (opened d) Γ (k .0) l g (orderM x (Form.call (member m) f (formE e′ Γ)) Γ u) (c .1) .1)
 
-  goodM : (x : More) (d : Around) (f : Form) (Γ : List Meaning) → EverywhereM Known x d → length (lambdaNames (d .binders)) ≤ 2
-      → GoodAll Γ (lambdaNames (d .binders)) → Good f (lambdaNames (d .binders))
-      → (u : List Form) → All Proper u → Good (formM x f Γ) (lambdaNames (d .binders)) × All Proper (orderM x f Γ u)
+  goodM : (x : More) (d : Around) (f : Form) (Γ : List Meaning) → EverywhereM Known x d → length (lambdaNames (d .lambdas)) ≤ 2
+      → GoodAll Γ (lambdaNames (d .lambdas)) → Good f (lambdaNames (d .lambdas))
+      → (u : List Form) → All Proper u → Good (formM x f Γ) (lambdaNames (d .lambdas)) × All Proper (orderM x f Γ u)
   goodM (last r) d f Γ k l g h u p = let c = goodC r d f Γ k l g h u p in (c .0, (h .proper, c .1))
   goodM (next e x) d f Γ k l g h u p =
       let c = goodM x d f Γ (k .1) l g h u p in

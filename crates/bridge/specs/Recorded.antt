@@ -13,20 +13,20 @@ use lib.ListN.{length, getD, length-append, List·getD-append}
 use lib.Seq.{getD-at}
 use Rattle.language.specs.Limits.{leastNumber}
 use Rattle.language.specs.Names.{packed, sameName, isData}
-use Rattle.members.specs.Members.{row, memberOf, isUnknown, takes}
+use Rattle.members.specs.Members.{arguments, memberOf, isUnknown, takes}
 use Rattle.members.specs.MembersLaws.{few-arguments}
 use Rattle.members.specs.declared.Member.{Member}
 use Rattle.members.specs.declared.Found.{Found}
 use Rattle.members.specs.declared.Found.the-variants.{Is, Unknown}
 use Rattle.language.specs.Cases.{impossible, split}
 use Rattle.grammar.specs.Grammar.{Expression, Calls, Arguments, More, letIn, lambda, name, literal, bracket, done, call, none, first, last, next}
-use Rattle.grammar.specs.Faults.{Around, outermost, opened, inLet, inLambda}
+use Rattle.grammar.specs.Faults.{Around, outermost, opened, inLambda}
 use Rattle.grammar.specs.KeptLimits.{givenA, givenM, EverywhereE, EverywhereC, EverywhereA, EverywhereM, InRange, KeepsLimits}
 use Rattle.grammar.specs.SingleLimits.{RightCalls, SmallNumbers}
 use Rattle.grammar.specs.KeptLimitsLaws.{keeps-each}
 use Rattle.meaning.specs.Forms.{Form, number, variable, unbound, readings, ask, function, same}
 use Rattle.meaning.specs.FormsLaws.{same-eq, same-self}
-use Rattle.meaning.specs.Binding.{Meaning, means, lookUp, named, asLambda, member, formE, formC, formA, formM, called, placesE}
+use Rattle.meaning.specs.Binding.{Meaning, lookUp, named, asLambda, member, formE, formC, formA, formM, called, placesE}
 use Rattle.meaning.specs.Binding.{placesC, placesA, placesM, orderE, orderC, orderA, orderM, formOf, formsByPlace, formsInOrder}
 use Rattle.model.specs.Lists.{All, member as isIn, insert, insertAll}
 use Rattle.model.specs.ListLaws.{Equality, all-append, insert-old, insertAll-has}
@@ -35,7 +35,7 @@ use Rattle.model.specs.Graph.{among, formAt, Placed, AllPlaced, decode, decode-
 use Rattle.layout.specs.Memory.{Node, node}
 use Rattle.layout.specs.Nodes.{numberKind, variableKind, unboundKind, readingsKind, functionKind, memberKind, build, kids, arity, memberOfKind}
 use Rattle.table.specs.NodeKinds.{Fine, aNumber, aVariable, anUnbound, theReadings, aFunction, anAsk, aCall, build-ask, build-call, less-one}
-use Rattle.records.specs.Records.{Named, stands, Recorded, newRecord, numberKey, linked, recordScoped, recordName, behind, recordE, recordC, recordA, recordM, recordsOf}
+use Rattle.records.specs.Records.{Named, Recorded, newRecord, numberKey, linked, recordScoped, recordName, behind, recordE, recordC, recordA, recordM, recordsOf}
 use Rattle.formulas.specs.Formulas.{formulas}
 use Rattle.bridge.specs.EntryForms.{formsOf}
 use Rattle.bridge.specs.Graphs.{nodes, kids-function, kids-ask, kids-call, among-one, among-two}
@@ -154,7 +154,7 @@ before ps R t f pr os h r =
       order = r .order;
     }
 
--- one more record, whose place stands before others
+-- one more record, whose place (before, others)
 pushed : (n : Node) (R : Recorded) (t : List Node) (f : Form) (pr os : List Form → List Form) → Placed formulas nodes (length (R .records)) n → Right R t f pr os
     → Right (newRecord n (R .records) (length (R .records) ∷ R .places)) t (build n (formIn (R .records))) (λ v. build n (formIn (R .records)) ∷ pr v) (λ u. os (build n (formIn (R .records)) ∷ u))
 pushed n R t f pr os p r =
@@ -236,7 +236,7 @@ abbrev Scoped : List Named → List Meaning → List Node → Type 0
 Scoped [] [] t = Unit {0}
 Scoped [] (e ∷ Γ) t = ⊥
 Scoped (s ∷ Σ) [] t = ⊥
-Scoped (s ∷ Σ) (e ∷ Γ) t = (s .name ≡ e .name) × Linked (s .link) (s .name) (e .form) t × Scoped Σ Γ t
+Scoped (s ∷ Σ) (e ∷ Γ) t = (s .0 ≡ e .0) × Linked (s .1) (s .0) (e .1) t × Scoped Σ Γ t
 
 linked-longer : (k : ℕ) (x : List ℕ) (f : Form) (t u : List Node) → Linked k x f t → Linked k x f (t ++ u)
 linked-longer zero x f t u h = h
@@ -246,7 +246,7 @@ scoped-longer : (Σ : List Named) (Γ : List Meaning) (t u : List Node) → Scop
 scoped-longer [] [] t u h = tt
 scoped-longer [] (e ∷ Γ) t u h = h
 scoped-longer (s ∷ Σ) [] t u h = h
-scoped-longer (s ∷ Σ) (e ∷ Γ) t u h = (h .0, linked-longer (s .link) (s .name) (e .form) t u (h .1), scoped-longer Σ Γ t u (h .2))
+scoped-longer (s ∷ Σ) (e ∷ Γ) t u h = (h .0, linked-longer (s .1) (s .0) (e .1) t u (h .1), scoped-longer Σ Γ t u (h .2))
 
 scoped-after : (Σ : List Named) (Γ : List Meaning) (t : List Node) (R : Recorded) (f : Form) (pr os : List Form → List Form) → Right R t f pr os → Scoped Σ Γ t → Scoped Σ Γ (R .records)
 scoped-after Σ Γ t R f pr os r h = let x = r .is in rw x (scoped-longer Σ Γ t (r .more) h)
@@ -278,8 +278,8 @@ scoped-right x (s ∷ Σ) (e ∷ Γ) t h =
     let n = h .0 in
     let l = scoped-right x Σ Γ t (h .2) in
     rw (← n)
-    (split (sameName x (s .name))
-    (λ q. rw q (linked-right (s .link) x (s .name) (e .form) t (eqb-true (packed x) (packed (s .name)) q) (h .1)))
+    (split (sameName x (s .0))
+    (λ q. rw q (linked-right (s .1) x (s .0) (e .1) t (eqb-true (packed x) (packed (s .0)) q) (h .1)))
     (λ q. rw q l))
 
 name-right : (x : List ℕ) (Σ : List Named) (Γ : List Meaning) (t : List Node) → Scoped Σ Γ t → Right (recordName x Σ t) t (named x Γ) (one (named x Γ)) (one (named x Γ))
@@ -290,20 +290,20 @@ name-right x Σ Γ t h =
     (scoped-right x Σ Γ t h)
 
 -- a member that is known and given what it takes
-pub given-right : (m : List ℕ) (k : ℕ) → isUnknown (memberOf m) ≡ false → k ≡ takes (memberOf m) → row (member m) .arguments ≡ k
+pub given-right : (m : List ℕ) (k : ℕ) → isUnknown (memberOf m) ≡ false → k ≡ takes (memberOf m) → arguments (member m) ≡ k
 unfolding member takes
 given-right m k u e = by (memberOf m) refl
   where
-    by : (f : Found) → memberOf m ≡ f → row (member m) .arguments ≡ k
+    by : (f : Found) → memberOf m ≡ f → arguments (member m) ≡ k
     by (Is n) q = rw q (sym (rw q at e))
     by Unknown q = impossible (sym (rw q at u))
 
 -- a call's record
-ask-placed : (m : Member) (f i : ℕ) → row m .arguments ≡ 0 → f < i → Placed formulas nodes i (node (memberKind m) 0 (suc f) 0)
+ask-placed : (m : Member) (f i : ℕ) → arguments m ≡ 0 → f < i → Placed formulas nodes i (node (memberKind m) 0 (suc f) 0)
 ask-placed m f i e h =
     record { fine = anAsk m f e; lower = λ j a. let q = among-one j f (subst (λ (l : List ℕ). among j l ≡ true) (kids-ask m f e) a) in omega arith }
 
-call-placed : (m : Member) (f a i : ℕ) → row m .arguments ≡ 1 → f < i → a < i → Placed formulas nodes i (node (memberKind m) 0 (suc f) (suc a))
+call-placed : (m : Member) (f a i : ℕ) → arguments m ≡ 1 → f < i → a < i → Placed formulas nodes i (node (memberKind m) 0 (suc f) (suc a))
 call-placed m f a i e h k =
     record {
       fine = aCall m f a e;
@@ -368,11 +368,11 @@ mutual
   recordedE (letIn x a b) d Σ Γ t c n s =
       let A = recordedE a (opened d) Σ Γ t (c .1) (n .1) s in
       let RA = recordE a Σ t in
-      let B = recordedE b (inLet x d) (stands x (suc (RA .root)) ∷ Σ) (means x (formE a Γ) ∷ Γ) (RA .records) (c .2) (n .2) (refl, (A .low, A .form), scoped-after Σ Γ t RA _ _ _ A s) in
-      rooted (behind (RA .places) (recordE b (stands x (suc (RA .root)) ∷ Σ) (RA .records))) t _ _ _ (after RA (recordE b (stands x (suc (RA .root)) ∷ Σ) (RA .records)) t _ _ _ _ _ _ A B)
+      let B = recordedE b (opened d) ((x, suc (RA .root)) ∷ Σ) ((x, formE a Γ) ∷ Γ) (RA .records) (c .2) (n .2) (refl, (A .low, A .form), scoped-after Σ Γ t RA _ _ _ A s) in
+      rooted (behind (RA .places) (recordE b ((x, suc (RA .root)) ∷ Σ) (RA .records))) t _ _ _ (after RA (recordE b ((x, suc (RA .root)) ∷ Σ) (RA .records)) t _ _ _ _ _ _ A B)
   recordedE (lambda x b) d Σ Γ t c n s =
-      let B = recordedE b (inLambda x d) (stands x 0 ∷ Σ) (asLambda x Γ) t (c .1) (n .1) (refl, refl, s) in
-      let RB = recordE b (stands x 0 ∷ Σ) t in
+      let B = recordedE b (inLambda x d) ((x, 0) ∷ Σ) (asLambda x Γ) t (c .1) (n .1) (refl, refl, s) in
+      let RB = recordE b ((x, 0) ∷ Σ) t in
       let k = node functionKind (packed x) (suc (RB .root)) 0 in
       subst
       (λ (g : Form). Right (newRecord k (RB .records) (length (RB .records) ∷ RB .places)) t g (λ v. g ∷ placesE b (asLambda x Γ) v) (λ u. orderE b (asLambda x Γ) (g ∷ u)))
@@ -400,7 +400,7 @@ mutual
   recordedC done d f F Σ Γ t c n s h e = still t f F h e
   recordedC (call m a) d f F Σ Γ t c n s h e = recordedA a m d f F Σ Γ t (given-right m (givenA a) (c .0 .0) (c .0 .1)) (c .1) (n .1) s h e
 
-  recordedA : (a : Arguments) (m : List ℕ) (d : Around) (f : ℕ) (F : Form) (Σ : List Named) (Γ : List Meaning) (t : List Node) → row (member m) .arguments ≡ givenA a → EverywhereA RightCalls a d
+  recordedA : (a : Arguments) (m : List ℕ) (d : Around) (f : ℕ) (F : Form) (Σ : List Named) (Γ : List Meaning) (t : List Node) → arguments (member m) ≡ givenA a → EverywhereA RightCalls a d
       → EverywhereA SmallNumbers a d → Scoped Σ Γ t → f < length t → formIn t f ≡ F
       → Right (recordA a m f Σ t) t (formA a m F Γ) (λ v. called a m F Γ ∷ placesA a (called a m F Γ) Γ v) (orderA a (called a m F Γ) Γ)
   recordedA (none r) m d f F Σ Γ t g c n s h e =
@@ -414,13 +414,13 @@ mutual
       let RE = recordE e′ Σ t in
       let l = low-after RE t _ _ _ E in
       let few = few-arguments (member m) in
-      let only : row (member m) .arguments ≡ 1 = omega arith in
+      let only : arguments (member m) ≡ 1 = omega arith in
       let M = recordedM x m d f (RE .root) F (formE e′ Γ) (RE .places) Σ Γ (RE .records) only (c .1) (n .1) (scoped-after Σ Γ t RE _ _ _ E s)
       (omega arith) (form-after RE t _ _ _ E f h ∙ e) (E .low) (E .form) (E .inside) in
       replaced _ t _ _ _ _ (extended RE (recordM x m f (RE .root) (RE .places) Σ (RE .records)) t _ _ _ _ _ _ E M)
       (λ v. ap (λ (fs : List Form). Form.call (member m) F (formE e′ Γ) ∷ fs) (E .places _))
 
-  recordedM : (x : More) (m : List ℕ) (d : Around) (f a : ℕ) (F A : Form) (ps : List ℕ) (Σ : List Named) (Γ : List Meaning) (t : List Node) → row (member m) .arguments ≡ 1 → EverywhereM RightCalls x d
+  recordedM : (x : More) (m : List ℕ) (d : Around) (f a : ℕ) (F A : Form) (ps : List ℕ) (Σ : List Named) (Γ : List Meaning) (t : List Node) → arguments (member m) ≡ 1 → EverywhereM RightCalls x d
       → EverywhereM SmallNumbers x d → Scoped Σ Γ t → f < length t → formIn t f ≡ F → a < length t → formIn t a ≡ A → All (λ (p : ℕ). p < length t) ps
       → Right (recordM x m f a ps Σ t) t (formM x (Form.call (member m) F A) Γ)
       (λ v. Form.call (member m) F A ∷ (map (formIn t) ps ++ placesM x (Form.call (member m) F A) Γ v)) (orderM x (Form.call (member m) F A) Γ)

@@ -13,7 +13,7 @@ use lib.ListN.{length, getD, getElem?, length-take, length-map, length-append}
 use lib.Signed.{mag}
 use Rattle.language.specs.Cases.{impossible, split}
 use Rattle.language.specs.Limits.{tableEntries, tableReadings}
-use Rattle.members.specs.Members.{row}
+use Rattle.members.specs.Members.{arguments}
 use Rattle.members.specs.MembersLaws.{number-below}
 use Rattle.members.specs.declared.Member.{Member}
 use Rattle.values.specs.Packing.{isPacked}
@@ -33,9 +33,10 @@ use Rattle.model.specs.Checks as Checks
 use Rattle.layout.specs.Memory.{Memory, Node, Entry, entryCount, readingCount, recordingOf, entriesOf, nodesOf, node}
 use Rattle.layout.specs.Nodes.{numberKind, variableKind, unboundKind, functionKind, memberKind, kindCount, worksKind}
 use Rattle.layout.specs.Nodes.{arity, memberOfKind, listed, kids, sameNode, build, numberOfKey}
-use Rattle.table.specs.WellFormed.{every, kindKnown, keyRight, given, arityRight, lower, hasNode, distinct}
-use Rattle.table.specs.WellFormed.{awaitedBy, awaitedAfter, isDone, doneAt, allDone, settled, namesRight, keptRight, wellFormed}
-use Rattle.table.specs.AwaitedForms.{awaited-build}
+use Rattle.table.specs.WellFormed.{every, kindKnown, keyRight, arityRight, lower, hasNode, distinct}
+use Rattle.table.specs.Awaits.{awaitedBy, awaitedAfter}
+use Rattle.table.specs.WellFormed.{isDone, doneAt, allDone, settled, namesRight, keptRight, wellFormed}
+use Rattle.table.specs.AwaitedBuild.{awaited-build}
 use Rattle.table.specs.NodeKinds.{Fine, aNumber, aVariable, anUnbound, theReadings, aFunction, anAsk, aCall, not-member, member-arity, build-ask, build-call}
 use Rattle.formulas.specs.Formulas.{formulas, IsReading}
 use Rattle.bridge.specs.Graphs.{nodes, graph-laws, equality, kids-function, kids-ask, kids-call, among-first, among-second}
@@ -88,14 +89,14 @@ key-right _ φ (aCall m f a e) s =
     let no = not-member m in
     rw (no numberKind (omega arith), no variableKind (omega arith), no unboundKind (omega arith), no functionKind (omega arith))
 
-one-link : (b : ℕ) → given (suc b) ≡ true
+one-link : (b : ℕ) → leb 1 (suc b) ≡ true
 one-link b = le-leb 1 (suc b) (omega arith)
 
-arity-ask : (m : Member) (f : ℕ) → row m .arguments ≡ 0 → arityRight (node (memberKind m) 0 (suc f) 0) ≡ true
+arity-ask : (m : Member) (f : ℕ) → arguments m ≡ 0 → arityRight (node (memberKind m) 0 (suc f) 0) ≡ true
 unfolding arityRight
 arity-ask m f e = rw (member-arity m, e, one-link f)
 
-arity-call : (m : Member) (f a : ℕ) → row m .arguments ≡ 1 → arityRight (node (memberKind m) 0 (suc f) (suc a)) ≡ true
+arity-call : (m : Member) (f a : ℕ) → arguments m ≡ 1 → arityRight (node (memberKind m) 0 (suc f) (suc a)) ≡ true
 unfolding arityRight
 arity-call m f a e = rw (member-arity m, e, one-link f, one-link a)
 
@@ -343,17 +344,8 @@ module _ (m : Memory) (o : Ok m) (i : Invariant formulas formula-laws (holds m))
       let q : r .0 ≡ record { form = getD fs j readings; mark = markOf (x .0 .kept) } = cc in
       done-at es j (x .0) (x .1) (done-entry j (x .0) b (subst (λ (y : Model.Entry formulas). Inv.done formulas y ≡ true) q (r .2))))))
 
-  few-names : (j : ℕ) (names : List ℕ) → getElem? (awaitedAfter [] ns) j ≡ some names → leb (length names) 2 ≡ true
-  few-names j names h =
-      let e : awaitedAfter [] ns ≡ map awaited fs = awaited-after [] ns (o .placed) in
-      let h′ : getElem? (map awaited fs) j ≡ some names = rw e at h in
-      let l = nth-below (map awaited fs) j names h′ in
-      let n = length-map fs awaited in
-      let x = nth-has fs j (omega arith) in
-      let s : some names ≡ some (awaited (x .0)) = sym h′ ∙ nth-map awaited fs j (x .0) (x .1) in
-      let q : names ≡ awaited (x .0) = cc in
-      let k = all-nth Proper fs j (x .0) proper (x .1) .few in
-      rw q (le-leb (length (awaited (x .0))) 2 k)
+  few-names : (j : ℕ) (f : Form) → getElem? fs j ≡ some f → leb (length (awaited f)) 2 ≡ true
+  few-names j f h = le-leb (length (awaited f)) 2 (all-nth Proper fs j f proper h .few)
 
   alone : (p q : ℕ) (n : Node) → getElem? ns p ≡ some n → getElem? ns q ≡ some n → p ≡ q
   alone p q n hp hq =
@@ -383,7 +375,7 @@ module _ (m : Memory) (o : Ok m) (i : Invariant formulas formula-laws (holds m))
       let c5 = from (λ k (e : Entry). arityRight (e .node)) es (λ j e h. arity-right (e .node) (at j e h .placed .fine)) in
       let c6 = from (λ k (e : Entry). lower k (e .node)) es (λ j e h. lower-by j (e .node) (at j e h .placed .fine) (at j e h .placed .lower)) in
       let c7 = distinct-by ns alone in
-      let c8 = from (λ k (names : List ℕ). leb (length names) 2) (awaitedAfter [] ns) few-names in
+      let c8 = from (λ k (f : Form). leb (length (awaited f)) 2) fs few-names in
       let c9 = from (λ k (e : Entry). settled es e) es (λ j e h. settled-at j e (at j e h)) in
       let c10 = from (λ k (e : Entry). keptRight (readingCount m) e) es (λ j e h. kept j e (at j e h) (all-nth Written es j e (o .written) h)) in
       rw (c1, c2, c3, c4, c5, c6, c7, c8, c9, c10)

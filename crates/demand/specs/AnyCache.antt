@@ -41,8 +41,8 @@ use Rattle.formulas.specs.Formulas.{IsReading}
 use Rattle.interface.specs.Calls.{workOn, workedMemory}
 use Rattle.demand.specs.Appended.{lengths}
 use Rattle.demand.specs.Accepted.{reading-small}
-use Rattle.demand.specs.WorkedCount.{count-more}
-use Rattle.demand.specs.Holds.{isKept, workedOut}
+use Rattle.demand.specs.WorkedCount.{isKept, count-more}
+use Rattle.demand.specs.Holds.{workedOut}
 use Rattle.demand.specs.Starts.{start-length, start-at}
 
 -- ---- as many cells as before

@@ -15,7 +15,7 @@ use Rattle.model.specs.Graph.{among, formAt, AllPlaced, decode}
 use Rattle.model.specs.Binder as Binder
 use Rattle.layout.specs.Memory.{Node}
 use Rattle.layout.specs.Nodes.{sameNode, build, kids, arity, memberOfKind}
-use Rattle.table.specs.Bind.{find, relinked, relink, Bound, bindOne, bindAll}
+use Rattle.table.specs.Bind.{relinked, relink, Bound, bindOne, bindAll}
 use Rattle.table.specs.NodeKinds.{Fine, aNumber, aVariable, anUnbound, theReadings, aFunction, anAsk, aCall, build-ask, build-call}
 use Rattle.formulas.specs.Formulas.{formulas}
 use Rattle.bridge.specs.Graphs.{nodes, kids-function, kids-ask, kids-call, among-one, among-two, among-first, among-second}
@@ -77,11 +77,6 @@ relink-same : (numbers : List ℕ) (n : Node) → relink numbers n ≡ relinkBy 
 unfolding relink relinkBy
 relink-same numbers n = λ i. record { kind = n .kind; key = n .key; first = link-same numbers (n .first) i; second = link-same numbers (n .second) i }
 
-find-index : (ns : List Node) (n : Node) → find ns n ≡ index sameNode n ns
-unfolding find index
-find-index [] n = refl
-find-index (m ∷ ns) n = ap (λ (k : ℕ). cond (sameNode m n) 0 (suc k)) (find-index ns n)
-
 -- found: below the length; not found: the length
 found-below : (n : Node) (ns : List Node) → member sameNode n ns ≡ true → index sameNode n ns < length ns
 unfolding member index
@@ -112,9 +107,9 @@ one-same b r =
     let ns = b .nodes in
     let m = relinkBy r (λ (k : ℕ). getD (b .numbers) k 0) in
     let e : relink (b .numbers) r ≡ m = relink-same (b .numbers) r in
-    let f : find ns (relink (b .numbers) r) ≡ index sameNode m ns = ap (find ns) e ∙ find-index ns m in
-    let t : ltb (find ns (relink (b .numbers) r)) (length ns) ≡ member sameNode m ns = ap (λ (k : ℕ). ltb k (length ns)) f ∙ test-same m ns in
-    let v : find ns (relink (b .numbers) r) ≡ cond (member sameNode m ns) (index sameNode m ns) (length ns) = f ∙ number-same m ns in
+    let f : index sameNode (relink (b .numbers) r) ns ≡ index sameNode m ns = ap (λ (x : Node). index sameNode x ns) e in
+    let t : ltb (index sameNode (relink (b .numbers) r) ns) (length ns) ≡ member sameNode m ns = ap (λ (k : ℕ). ltb k (length ns)) f ∙ test-same m ns in
+    let v : index sameNode (relink (b .numbers) r) ns ≡ cond (member sameNode m ns) (index sameNode m ns) (length ns) = f ∙ number-same m ns in
     λ i. record { nodes = cond (t i) ns (ns ++ (e i ∷ [])); numbers = b .numbers ++ (v i ∷ []) }
 
 pub all-same : (b : Bound) (rs : List Node) → asBound (bindAll b rs) ≡ Binder.bindAll formulas nodes relinkBy (asBound b) (map Binder.fresh rs)

@@ -12,14 +12,14 @@ use lib.ListN.{length, getD}
 use lib.Signed.{mag}
 use Rattle.language.specs.Cases.{impossible, split, by-cond}
 use Rattle.language.specs.Limits.{tableReadings}
-use Rattle.members.specs.Members.{row}
 use Rattle.members.specs.declared.Member.{Member}
 use Rattle.rules.specs.declared.Value.{Value}
 use Rattle.rules.specs.declared.Value.the-variants.{Number, Window, Function, Delayed, Missing}
 use Rattle.rules.specs.Values.{wrongKind}
-use Rattle.rules.specs.Apply.{isKind, isMissing, isDelayed, rule0, rule1, apply0, apply1}
+use Rattle.rules.specs.Rules.{rule}
+use Rattle.rules.specs.Apply.{isMissing, isDelayed, byRule0, byRule1, apply0, apply1}
 use Rattle.values.specs.Keepable.{Storable, Keepable}
-use Rattle.values.specs.Packing.{packOf, unpackOf, isPacked, functionCell, delayedCell, isFunctionCell, isDelayedCell}
+use Rattle.values.specs.Packing.{packOf, unpackOf, isPacked, functionCell, delayedCell}
 use Rattle.values.specs.PackingLaws.{round, packed-above, kept-passes}
 use Rattle.meaning.specs.Forms.{Form, number, variable, unbound, readings, ask, call, function, nameOf}
 use Rattle.meaning.specs.FormsLaws.{within-self}
@@ -28,8 +28,8 @@ use Rattle.layout.specs.Memory.{Kept as Cells}
 use Rattle.layout.specs.Nodes.{isName, wordNumber}
 use Rattle.table.specs.WellFormed.{namesRight}
 use Rattle.bridge.specs.Proper.{Has}
-use Rattle.demand.specs.Holds.{keptFor, markOf, shownBy}
-use Rattle.demand.specs.Delays.{isPlain, plain-kind, plain-rule0, plain-rule1}
+use Rattle.demand.specs.Holds.{keptFor, markOf}
+use Rattle.demand.specs.Delays.{isPlain, plain-rule0, plain-rule1}
 use Rattle.demand.specs.Fitting.{Deep, shown-fits, name-of, delayed-awaits}
 
 pub record Keeps (n : ℕ) (v : Shown) : Type 0 where
@@ -52,12 +52,12 @@ at-delayed = refl
 
 -- a value that shows no names
 keeps-plain : (n : ℕ) (v : Value) (w : Shown) → Keepable n v → (v ≡ Function → ⊥) → (v ≡ Delayed → ⊥) → keptFor w ≡ record { value = packOf v; name = 0; other = 0 }
-    → shownBy (record { value = packOf v; name = 0; other = 0 }) v ≡ w → Keeps n w
+    → shownAs 0 [] v ≡ w → Keeps n w
 unfolding namesRight
 keeps-plain n v w k nf nd e s =
     let a = packed-above v in
-    let f : isFunctionCell (packOf v) ≡ false = cell-not v Function functionCell (k .held) at-function nf in
-    let d : isDelayedCell (packOf v) ≡ false = cell-not v Delayed delayedCell (k .held) at-delayed nd in
+    let f : eqb (packOf v) functionCell ≡ false = cell-not v Function functionCell (k .held) at-function nf in
+    let d : eqb (packOf v) delayedCell ≡ false = cell-not v Delayed delayedCell (k .held) at-delayed nd in
     let z : eqb (packOf v) 0 ≡ false = ne-eqb (packOf v) 0 (λ q. omega arith) in
     let c : Cells = record { value = packOf v; name = 0; other = 0 } in
     let names : namesRight c ≡ true = rw (f, d) in
@@ -97,15 +97,12 @@ missing-fun (Missing r) h = refl
 abbrev NoFun : Value → Type 0
 NoFun v = isFun v ≡ false
 
-kind-fun : (b : Bool) (v : Value) → isPlain v ≡ true → NoFun (cond b v (Missing wrongKind))
-kind-fun b v p = plain-fun (cond b v (Missing wrongKind)) (plain-kind b v p)
-
 fun0 : (m : Member) (xs : List ℤ) (v : Value) → NoFun (apply0 m xs v)
 unfolding apply0
 fun0 m xs v =
     by-cond NoFun (isMissing v) v _ (missing-fun v)
     (λ _. by-cond NoFun (isDelayed v) Delayed _ (λ e. refl)
-    (λ _. kind-fun (isKind v (row m .receiver)) (rule0 m xs v) (plain-rule0 m xs v)))
+    (λ _. plain-fun (byRule0 (rule m) xs v) (plain-rule0 m xs v)))
 
 fun1 : (m : Member) (xs : List ℤ) (v w : Value) (run : ℤ → Value) → NoFun (apply1 m xs v w run)
 unfolding apply1
@@ -113,7 +110,7 @@ fun1 m xs v w run =
     by-cond NoFun (isMissing v) v _ (missing-fun v)
     (λ _. by-cond NoFun (isMissing w) w _ (missing-fun w)
     (λ _. by-cond NoFun (isDelayed v || isDelayed w) Delayed _ (λ e. refl)
-    (λ _. kind-fun (isKind v (row m .receiver) && isKind w (row m .argument)) (rule1 m xs v w run) (plain-rule1 m xs v w run))))
+    (λ _. plain-fun (byRule1 (rule m) xs v w run) (plain-rule1 m xs v w run))))
 
 function-name : (xs : List ℤ) (f : Form) → Deep f → isFun (valueOf (evaluate xs nowhere f)) ≡ true → isName (nameOf f) ≡ true
 unfolding evaluate valueOf lookup nameOf
@@ -153,7 +150,7 @@ keeps-function n x p k = record { names = rw p; packed = kept-passes n Function 
 -- what a proper form shows
 module _ (xs : List ℤ) (short : length xs ≤ tableReadings) (small : (i : ℕ) → i < length xs → mag (getD xs i (pos 0)) < 2147483648) (f : Form)
     (d : Deep f) where
-  by : (v : Value) → valueOf (evaluate xs nowhere f) ≡ v → Keepable (length xs) v → Keeps (length xs) (shownAs f v)
+  by : (v : Value) → valueOf (evaluate xs nowhere f) ≡ v → Keepable (length xs) v → Keeps (length xs) (shownAs (nameOf f) (awaited f) v)
   by (Number z) e k = keeps-plain (length xs) (Number z) (aNumber z) k (λ q. never (cc)) (λ q. never (cc)) refl refl
   by (Window s l) e k = keeps-plain (length xs) (Window s l) (aWindow s l) k (λ q. never (cc)) (λ q. never (cc)) refl refl
   by (Missing r) e k = keeps-plain (length xs) (Missing r) (aReason r) k (λ q. never (cc)) (λ q. never (cc)) refl refl

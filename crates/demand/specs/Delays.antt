@@ -4,12 +4,12 @@ use mathlib.Core.Bool.{Bool, true, false, _&&_, _||_, cond}
 use mathlib.Core.List.{List}
 use lib.IntN.{ℤ}
 use Rattle.language.specs.Cases.{impossible, split, by-cond}
-use Rattle.members.specs.Members.{row}
 use Rattle.members.specs.declared.Member.{Member}
 use Rattle.rules.specs.declared.Value.{Value}
 use Rattle.rules.specs.declared.Value.the-variants.{Number, Window, Function, Delayed, Missing}
 use Rattle.rules.specs.Values.{wrongKind}
-use Rattle.rules.specs.Apply.{isKind, isMissing, isDelayed, rule0, rule1, apply0, apply1}
+use Rattle.rules.specs.Rules.{rule}
+use Rattle.rules.specs.Apply.{isMissing, isDelayed, byRule0, byRule1, apply0, apply1}
 use Rattle.values.specs.KeepableLaws.{Closed, Given}
 use Rattle.values.specs.KeepableApply.{closed-rule0, closed-rule1}
 
@@ -34,10 +34,10 @@ given-plain Function = tt
 given-plain Delayed = tt
 given-plain (Missing r) = refl
 
-pub plain-rule0 : (m : Member) (xs : List ℤ) (v : Value) → isPlain (rule0 m xs v) ≡ true
+pub plain-rule0 : (m : Member) (xs : List ℤ) (v : Value) → isPlain (byRule0 (rule m) xs v) ≡ true
 plain-rule0 m xs v = closed-rule0 Plain plain m xs (λ i h. refl) v (given-plain v)
 
-pub plain-rule1 : (m : Member) (xs : List ℤ) (v w : Value) (run : ℤ → Value) → isPlain (rule1 m xs v w run) ≡ true
+pub plain-rule1 : (m : Member) (xs : List ℤ) (v w : Value) (run : ℤ → Value) → isPlain (byRule1 (rule m) xs v w run) ≡ true
 plain-rule1 m xs v w run = closed-rule1 Plain plain m xs (λ i h. refl) run (λ x h. given-plain (run x)) v w (given-plain v)
 
 -- a plain value is not delayed
@@ -55,13 +55,6 @@ missing-not Function h = impossible h
 missing-not Delayed h = impossible h
 missing-not (Missing r) h = refl
 
--- a plain value, or the reason for a wrong kind, is plain
-pub plain-kind : (b : Bool) (v : Value) → Plain v → Plain (cond b v (Missing wrongKind))
-plain-kind b v p = by-cond Plain b v (Missing wrongKind) (λ e. p) (λ e. refl)
-
-kind-not : (b : Bool) (v : Value) → Plain v → isDelayed (cond b v (Missing wrongKind)) ≡ false
-kind-not b v p = plain-not (cond b v (Missing wrongKind)) (plain-kind b v p)
-
 -- delayed: only by a dependency
 pub delayed0 : (m : Member) (xs : List ℤ) (v : Value) → isDelayed (apply0 m xs v) ≡ true → isDelayed v ≡ true
 unfolding apply0
@@ -70,7 +63,7 @@ delayed0 m xs v h =
     (λ e.
     split (isMissing v)
     (λ x. impossible (sym (missing-not v x) ∙ rw x at h))
-    (λ x. impossible (sym (kind-not (isKind v (row m .receiver)) (rule0 m xs v) (plain-rule0 m xs v)) ∙ rw (x, e) at h)))
+    (λ x. impossible (sym (plain-not (byRule0 (rule m) xs v) (plain-rule0 m xs v)) ∙ rw (x, e) at h)))
 
 pub delayed1 : (m : Member) (xs : List ℤ) (v w : Value) (run : ℤ → Value) → isDelayed (apply1 m xs v w run) ≡ true → (isDelayed v || isDelayed w) ≡ true
 unfolding apply1
@@ -82,6 +75,4 @@ delayed1 m xs v w run h =
     (λ x.
     split (isMissing w)
     (λ y. impossible (sym (missing-not w y) ∙ rw (x, y) at h))
-    (λ y.
-    let k = kind-not (isKind v (row m .receiver) && isKind w (row m .argument)) (rule1 m xs v w run) (plain-rule1 m xs v w run) in
-    impossible (sym k ∙ rw (x, y, e) at h))))
+    (λ y. impossible (sym (plain-not (byRule1 (rule m) xs v w run) (plain-rule1 m xs v w run)) ∙ rw (x, y, e) at h))))

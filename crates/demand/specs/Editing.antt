@@ -36,12 +36,16 @@ use Rattle.bridge.specs.Graphs.{nodes, graph-laws}
 use Rattle.bridge.specs.Recorded.{formIn, length-forms, decode-append, Unfolds, unfolds}
 use Rattle.bridge.specs.EntryForms.{formsOf}
 use Rattle.bridge.specs.FormulaLaws.{formula-laws}
-use Rattle.interface.specs.Calls.{held, boundTo, editedAs, editedMemory, readAnswer, readMemory, editAnswer, editMemory}
+use Rattle.interface.specs.Calls.{boundTo, editedAs, editedMemory, readAnswer, readMemory, editAnswer, editMemory}
 use Rattle.demand.specs.Holds.{withMarks, holds, Ok, Written}
 use Rattle.demand.specs.Bound.{relinkBy, relinks, asBound, all-same, forms-same, valid-same}
 use Rattle.binder.specs.AppendedLaws.{newEntry}
 use Rattle.demand.specs.Appended.{lengths, long-enough, entries-length, grown}
 use Rattle.demand.specs.Standing.{stands-placed, decoded, more, forms-joined, joined-append, size-held, count-nodes}
+
+-- the entries held, before a record is bound
+abbrev held : Memory → Bound
+held m = record { nodes = nodesOf (entriesOf m); numbers = [] }
 
 pub record Done (m : Memory) (o : Model.Outcome formulas) (x : Answer formulas) : Type 0 where
   pub answer : x ≡ o .answer

@@ -24,7 +24,8 @@ use Rattle.model.specs.Binder as Binder
 use Rattle.model.specs.Model.{holdAll}
 use Rattle.layout.specs.Memory.{Memory, Node, Entry, fits, entryCount, entriesOf, nodesOf}
 use Rattle.layout.specs.Nodes.{sameNode, build}
-use Rattle.table.specs.WellFormed.{hasNode, awaitedBy, awaitedAfter, wellFormed}
+use Rattle.table.specs.WellFormed.{hasNode, wellFormed}
+use Rattle.table.specs.Awaits.{awaitedBy, awaitedAfter}
 use Rattle.table.specs.Bind.{Bound, append, appendAll}
 use Rattle.table.specs.Right.{nodeRight}
 use Rattle.table.specs.CheckedLaws.{nodes-are as numbered-are}

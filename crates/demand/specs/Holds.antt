@@ -13,7 +13,7 @@ use Rattle.rules.specs.declared.Value.{Value}
 use Rattle.rules.specs.declared.Value.the-variants.{Number, Window, Function, Delayed, Missing}
 use Rattle.values.specs.Packing.{packOf, unpackOf}
 use Rattle.meaning.specs.Forms.{Form}
-use Rattle.meaning.specs.Evaluation.{Shown, aNumber, aWindow, aFunction, aDelay, aReason}
+use Rattle.meaning.specs.Evaluation.{Shown, aNumber, aWindow, aFunction, aDelay, aReason, shownAs}
 use Rattle.model.specs.Lists.{All, countIf}
 use Rattle.model.specs.Model as Model
 use Rattle.model.specs.Graph.{AllPlaced}
@@ -23,16 +23,9 @@ use Rattle.bridge.specs.Graphs.{nodes}
 use Rattle.bridge.specs.EntryForms.{formsOf}
 use Rattle.interface.specs.Answers.{namesOf}
 
--- what a kept result shows
-abbrev pub shownBy : Kept → Value → Shown
-shownBy k (Number z) = aNumber z
-shownBy k (Window s l) = aWindow s l
-shownBy k Function = aFunction (k .name)
-shownBy k Delayed = aDelay (namesOf (k .name) (k .other))
-shownBy k (Missing r) = aReason r
-
+-- what is kept of an entry shows
 abbrev pub shownIn : Kept → Shown
-shownIn k = shownBy k (unpackOf (k .value))
+shownIn k = shownAs (k .name) (namesOf (k .name) (k .other)) (unpackOf (k .value))
 
 -- the mark of an entry: nothing is kept where the value is 0
 abbrev pub markOf : Kept → Option Shown
@@ -49,11 +42,8 @@ abbrev pub holds : Memory → Model.State formulas
 holds m = record { recording = recordingOf m; entries = withMarks (formsOf (nodesOf (entriesOf m))) (entriesOf m) }
 
 -- 01, "Working out": the entries that previews worked out, which are those with a kept value, and how many there are
-abbrev pub isKept : Entry → Bool
-isKept e = leb 1 (e .kept .value)
-
 abbrev pub workedOut : Memory → ℕ
-workedOut m = countIf isKept (entriesOf m)
+workedOut m = countIf (λ (e : Entry). leb 1 (e .kept .value)) (entriesOf m)
 
 -- the cells of what is shown
 abbrev pub keptFor : Shown → Kept

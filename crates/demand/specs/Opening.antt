@@ -50,7 +50,7 @@ module _ (m : Memory) (r : List ℤ) (l : Lengths m) (short : length r ≤ table
   recorded : recordingOf n ≡ r
   recorded = take-at r (drop (length r) (m .readings)) (readingCount n) (sym count-readings)
 
-  opened-done : Done n (Model.openedWith formulas r) opened
+  opened-done : Done n (record { answer = opened; state = Model.start formulas r }) opened
   unfolding withMarks decodeFrom
   opened-done =
       let e = no-entries in
@@ -65,7 +65,7 @@ module _ (m : Memory) (r : List ℤ) (l : Lengths m) (short : length r ≤ table
       joined-none = rw no-entries
 
 -- the call
-pub opening : (m : Memory) (r : List ℤ) → fits m ≡ true → length r ≤ tableReadings → Done (openMemory m r) (Model.openedWith formulas r) (openAnswer m r)
+pub opening : (m : Memory) (r : List ℤ) → fits m ≡ true → length r ≤ tableReadings → Done (openMemory m r) (record { answer = opened; state = Model.start formulas r }) (openAnswer m r)
 unfolding openMemory openAnswer
 opening m r f h = let t = le-ltb tableReadings (length r) h in rw (t, f) (opened-done m r (lengths m f) h)
 

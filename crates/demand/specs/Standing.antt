@@ -14,8 +14,10 @@ use Rattle.meaning.specs.Forms.{Form, readings}
 use Rattle.model.specs.ListLaws.{nth-has, getD-nth}
 use Rattle.model.specs.Graph.{formAt, Placed, AllPlaced, Stands, decodes}
 use Rattle.model.specs.Model as Model
+use Rattle.layout.specs.Nodes.{sameNode}
 use Rattle.layout.specs.Memory.{Memory, Node, Entry, entryCount, entriesOf, nodesOf}
-use Rattle.table.specs.Bind.{find, relink, Bound, bindOne, bindAll}
+use Rattle.model.specs.Lists.{index}
+use Rattle.table.specs.Bind.{relink, Bound, bindOne, bindAll}
 use Rattle.formulas.specs.Formulas.{formulas}
 use Rattle.bridge.specs.Graphs.{nodes, graph-laws}
 use Rattle.bridge.specs.Recorded.{length-forms}
@@ -88,7 +90,7 @@ unfolding bindAll bindOne
 more b [] = record { new = []; is = sym (append-nil (b .nodes)) }
 more b (r ∷ rs) =
     let n = relink (b .numbers) r in
-    let u = more-if (ltb (find (b .nodes) n) (length (b .nodes))) (b .nodes) n in
+    let u = more-if (ltb (index sameNode n (b .nodes)) (length (b .nodes))) (b .nodes) n in
     let v = more (bindOne b r) rs in
     let e = u .is in
     record { new = u .new ++ v .new; is = v .is ∙ ap (λ (l : List Node). l ++ v .new) e ∙ append-assoc (b .nodes) (u .new) (v .new) }

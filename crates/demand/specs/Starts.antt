@@ -44,8 +44,8 @@ use Rattle.schedule.specs.declared.View.{View}
 use Rattle.schedule.specs.Works.{nameFor, otherFor, view, showOf}
 use Rattle.refine.specs.Shows.{slotNames, kept-shows}
 use Rattle.refine.specs.Views.{viewOf}
-use Rattle.interface.specs.Answers.{shownOf}
-use Rattle.demand.specs.Holds.{shownBy, shownIn, markOf, holds, keptFor, Ok}
+use Rattle.interface.specs.Answers.{namesOf, shownOf}
+use Rattle.demand.specs.Holds.{shownIn, markOf, holds, keptFor, Ok}
 use Rattle.demand.specs.Appended.{lengths}
 use Rattle.demand.specs.Cells.{name-some}
 use Rattle.demand.specs.Accepted.{accepted}
@@ -86,7 +86,7 @@ module _ (size : ℕ) (links cells : List ℕ) where
       from-at k 0 (replicate tableEntries 0) j (omega arith) (omega arith) (omega arith)
 
 -- the value kept is that of the form
-value-kept : (f : Form) (v : Value) → keptFor (shownAs f v) .value ≡ packOf v
+value-kept : (f : Form) (v : Value) → keptFor (shownAs (nameOf f) (awaited f) v) .value ≡ packOf v
 value-kept f (Number z) = refl
 value-kept f (Window s l) = refl
 value-kept f Function = refl
@@ -120,7 +120,7 @@ unfolding shows
 kept-cells cells i w xs f full names k h g =
     let v = valueOf (evaluate xs nowhere f) in
     let s = kept-shows (length xs) cells i w f full names v k h g in
-    let n = names-kept (shownAs f v) in
+    let n = names-kept (shownAs (nameOf f) (awaited f) v) in
     λ t.
     record {
       value = shown-value xs f t;
@@ -129,7 +129,7 @@ kept-cells cells i w xs f full names k h g =
     }
 
 -- a value's numbers with its names are what is shown
-shown-by : (k : Kept) (u : Value) → shownOf (view (shownNumbers u) (k .name) (k .other)) ≡ shownBy k u
+shown-by : (k : Kept) (u : Value) → shownOf (view (shownNumbers u) (k .name) (k .other)) ≡ shownAs (k .name) (namesOf (k .name) (k .other)) u
 unfolding shownOf
 shown-by k (Number z) = refl
 shown-by k (Window s l) = refl

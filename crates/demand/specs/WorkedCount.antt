@@ -7,8 +7,11 @@ use Prim.Native.Nat.{ℕ, zero, suc, _+_, _≤_, _<_}
 use native.Mathlib.Omega.{arith}
 use lib.Dec.{leb}
 use Rattle.model.specs.Lists.{countIf}
-use Rattle.layout.specs.Memory.{keptAt, entriesFrom}
-use Rattle.demand.specs.Holds.{isKept}
+use Rattle.layout.specs.Memory.{Entry, keptAt, entriesFrom}
+
+-- an entry with a kept value
+abbrev pub isKept : Entry → Bool
+isKept e = leb 1 (e .kept .value)
 
 module _ (links now then : List ℕ) where
   count-same : (p k : ℕ) → ((j : ℕ) → p ≤ j → keptAt then j ≡ keptAt now j) → countIf isKept (entriesFrom links then p k) ≡ countIf isKept (entriesFrom links now p k)

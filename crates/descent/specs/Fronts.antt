@@ -8,7 +8,7 @@ use lib.Dec.{leb, eqb}
 use Rattle.members.specs.Members.{memberOf, isUnknown, takes}
 use Rattle.grammar.specs.Tokens.{Token, kLet, kIn, kEquals, kLambda, kArrow, kDot, kOpen, kShut, kComma, word, number, other, when, Located}
 use Rattle.grammar.specs.Grammar.{Expression, letIn, lambda, name, literal, bracket, done, call, none, first, last, next}
-use Rattle.grammar.specs.Faults.{fine, Around, opened, inLet, inLambda, deep, markFault, lambdaFault, letNameFault, lambdaNameFault}
+use Rattle.grammar.specs.Faults.{fine, Around, opened, inLambda, deep, markFault, lambdaFault, letNameFault, lambdaNameFault}
 use Rattle.grammar.specs.Faults.{nameFault, literalFault, callFault, Note, note, fault, faultNumber, counted}
 use Rattle.grammar.specs.Reading.{Reading, refused}
 use Rattle.grammar.specs.Machine.{Frame, State, value, brackets, argument, at, Trees, finish, stepOver, stepExpression}
@@ -216,7 +216,7 @@ module _ (end : ℕ) (x : List ℕ) (d : Around) (F : List Frame) (h : Trees (at
   abbrev pub ValueFront : List Located → Type 0
   ValueFront rest =
       readOn end (at over (value x d ∷ F)) h c rest ≡
-      due inKind (readOn end (at (expression false (inLet x d)) F) (λ q. h (tt, q)) c (behindHead rest)) end rest
+      due inKind (readOn end (at (expression false (opened d)) F) (λ q. h (tt, q)) c (behindHead rest)) end rest
 
   at-value : (t : Token) (p : ℕ) (xs : List Located) → ValueFront (record { token = t; place = p } ∷ xs)
   unfolding readOn unlessAt judgeAt endedAt Rattle.grammar.specs.Machine.step finish headKind headWord headValue headPlace behindHead kindOf wordOf valueOf when fault faultNumber counted

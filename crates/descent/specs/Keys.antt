@@ -12,7 +12,7 @@ use Rattle.language.specs.Names.{packed, sameName, isData}
 use Rattle.language.specs.NamesLaws.{each-map, packed-word}
 use Rattle.language.specs.Cases.{by-cond}
 use Rattle.grammar.specs.Grammar.{Expression, Calls, Arguments, More, letIn, lambda, name, literal, bracket, done, call, none, first, last, next}
-use Rattle.grammar.specs.Faults.{Around, outermost, opened, inLet, inLambda}
+use Rattle.grammar.specs.Faults.{Around, outermost, opened, inLambda}
 use Rattle.grammar.specs.KeptLimits.{InRange, EverywhereE, EverywhereC, EverywhereA, EverywhereM}
 use Rattle.grammar.specs.SingleLimits.{ShortNames, SmallNumbers}
 use Rattle.grammar.specs.KeptLimitsLaws.{keeps-each}
@@ -23,7 +23,7 @@ use Rattle.grammar.specs.Words.{IsWord, word-bytes, Worded, text-worded}
 use Rattle.meaning.specs.Binding.{member}
 use Rattle.layout.specs.Memory.{Node, node}
 use Rattle.layout.specs.Nodes.{numberKind, readingsKind, functionKind, memberKind}
-use Rattle.records.specs.Records.{Named, stands, numberKey, Recorded, newRecord, recordName, recordScoped, linked, recordE, recordC, recordA, recordM, recordsOf}
+use Rattle.records.specs.Records.{Named, numberKey, Recorded, newRecord, recordName, recordScoped, linked, recordE, recordC, recordA, recordM, recordsOf}
 
 -- a number's key
 number-key : (z : ℤ) → InRange z → numberKey z < 2 ^ 32
@@ -54,7 +54,7 @@ small-scoped : (x : List ℕ) (Σ : List Named) (t : List Node) → packed x < 2
 unfolding recordScoped
 small-scoped x [] t l h = small-more t _ h l
 small-scoped x (e ∷ Σ) t l h =
-    by-cond (λ (R : Recorded). SmallKeys (R .records)) (sameName x (e .name)) _ _ (λ _. small-linked (e .link) x t l h) (λ _. small-scoped x Σ t l h)
+    by-cond (λ (R : Recorded). SmallKeys (R .records)) (sameName x (e .0)) _ _ (λ _. small-linked (e .1) x t l h) (λ _. small-scoped x Σ t l h)
 
 small-name : (x : List ℕ) (Σ : List Named) (t : List Node) → packed x < 2 ^ 64 → SmallKeys t → SmallKeys (recordName x Σ t .records)
 unfolding recordName
@@ -70,10 +70,10 @@ mutual
       → EverywhereE Worded e d → SmallKeys t → SmallKeys (recordE e Σ t .records)
   keys-E (letIn x a b) Σ t d s n w k =
       let A = recordE a Σ t in
-      keys-E b (stands x (suc (A .root)) ∷ Σ) (A .records) (inLet x d) (s .2) (n .2) (w .2) (keys-E a Σ t (opened d) (s .1) (n .1) (w .1) k)
+      keys-E b ((x, suc (A .root)) ∷ Σ) (A .records) (opened d) (s .2) (n .2) (w .2) (keys-E a Σ t (opened d) (s .1) (n .1) (w .1) k)
   keys-E (lambda x b) Σ t d s n w k =
-      let B = recordE b (stands x 0 ∷ Σ) t in
-      small-more (B .records) (node functionKind (packed x) (suc (B .root)) 0) (keys-E b (stands x 0 ∷ Σ) t (inLambda x d) (s .1) (n .1) (w .1) k)
+      let B = recordE b ((x, 0) ∷ Σ) t in
+      small-more (B .records) (node functionKind (packed x) (suc (B .root)) 0) (keys-E b ((x, 0) ∷ Σ) t (inLambda x d) (s .1) (n .1) (w .1) k)
       (name-key x (s .0) (w .0))
   keys-E (name x r) Σ t d s n w k =
       let N = recordName x Σ t in

@@ -12,7 +12,7 @@ use Rattle.grammar.specs.Grammar.{Expression, Calls, Arguments, More, letIn, la
 use Rattle.meaning.specs.Binding.{member}
 use Rattle.layout.specs.Memory.{Node, node}
 use Rattle.layout.specs.Nodes.{numberKind, readingsKind, memberKind}
-use Rattle.records.specs.Records.{Named, stands, numberKey, Recorded, newRecord, recordName, recordScoped, linked, recordE, recordC, recordA, recordM, recordsOf}
+use Rattle.records.specs.Records.{Named, numberKey, Recorded, newRecord, recordName, recordScoped, linked, recordE, recordC, recordA, recordM, recordsOf}
 
 -- record i: its kind, and its links, each 0 for none or one more than an earlier record's number
 pub record EarlierAt (i : ℕ) (n : Node) : Type 0 where
@@ -31,7 +31,7 @@ earlier-more (m ∷ ns) i n h k = let e : i + suc (length ns) ≡ suc i + length
 -- what names stand for lies among the first c records
 abbrev Below : List Named → ℕ → Type 0
 Below [] c = Unit {0}
-Below (e ∷ Σ) c = (e .link ≤ c) × Below Σ c
+Below (e ∷ Σ) c = (e .1 ≤ c) × Below Σ c
 
 below-more : (Σ : List Named) (c c' : ℕ) → c ≤ c' → Below Σ c → Below Σ c'
 below-more [] c c' l h = tt
@@ -59,7 +59,7 @@ good-scoped : (x : List ℕ) (Σ : List Named) (t : List Node) → Below Σ (len
 unfolding recordScoped
 good-scoped x [] t b h = good-new t _ _ h (lit< tt) (omega arith) (omega arith)
 good-scoped x (e ∷ Σ) t b h =
-    by-cond (Good t) (sameName x (e .name)) (linked (e .link) x t) (recordScoped x Σ t) (λ _. good-linked (e .link) x t h (b .0))
+    by-cond (Good t) (sameName x (e .0)) (linked (e .1) x t) (recordScoped x Σ t) (λ _. good-linked (e .1) x t h (b .0))
     (λ _. good-scoped x Σ t (b .1) h)
 
 good-name : (x : List ℕ) (Σ : List Named) (t : List Node) → Below Σ (length t) → Earlier 0 t → Good t (recordName x Σ t)
@@ -82,10 +82,10 @@ mutual
   good-E (letIn x a b) Σ t l h =
       let A = recordE a Σ t in
       let g = good-E a Σ t l h in
-      good-then t A _ _ g (good-E b (stands x (suc (A .root)) ∷ Σ) (A .records) (g .root, below-more Σ (length t) (length (A .records)) (g .grows) l) (g .earlier))
+      good-then t A _ _ g (good-E b ((x, suc (A .root)) ∷ Σ) (A .records) (g .root, below-more Σ (length t) (length (A .records)) (g .grows) l) (g .earlier))
   good-E (lambda x b) Σ t l h =
-      let B = recordE b (stands x 0 ∷ Σ) t in
-      let g = good-E b (stands x 0 ∷ Σ) t (omega arith, l) h in
+      let B = recordE b ((x, 0) ∷ Σ) t in
+      let g = good-E b ((x, 0) ∷ Σ) t (omega arith, l) h in
       good-then t B _ _ g (good-new (B .records) _ [] (g .earlier) (lit< tt) (g .root) (omega arith))
   good-E (name x r) Σ t l h =
       let N = recordName x Σ t in

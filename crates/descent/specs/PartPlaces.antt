@@ -11,7 +11,7 @@ use Rattle.grammar.specs.KeptLimits.{partsE, partsC, partsA, partsM}
 use Rattle.meaning.specs.Binding.{member}
 use Rattle.layout.specs.Memory.{Node, node}
 use Rattle.layout.specs.Nodes.{numberKind, readingsKind, memberKind}
-use Rattle.records.specs.Records.{Named, stands, numberKey, Recorded, newRecord, recordName, recordScoped, linked, recordE, recordC, recordA, recordM}
+use Rattle.records.specs.Records.{Named, numberKey, Recorded, newRecord, recordName, recordScoped, linked, recordE, recordC, recordA, recordM}
 
 linked-place : (j : ℕ) (x : List ℕ) (t : List Node) → length (linked j x t .places) ≡ 1
 linked-place zero x t = refl
@@ -21,8 +21,8 @@ scoped-place : (x : List ℕ) (Σ : List Named) (t : List Node) → length (reco
 unfolding recordScoped
 scoped-place x [] t = refl
 scoped-place x (e ∷ Σ) t =
-    by-cond (λ (R : Recorded). length (R .places) ≡ 1) (sameName x (e .name)) (linked (e .link) x t) (recordScoped x Σ t)
-    (λ _. linked-place (e .link) x t) (λ _. scoped-place x Σ t)
+    by-cond (λ (R : Recorded). length (R .places) ≡ 1) (sameName x (e .0)) (linked (e .1) x t) (recordScoped x Σ t)
+    (λ _. linked-place (e .1) x t) (λ _. scoped-place x Σ t)
 
 name-place : (x : List ℕ) (Σ : List Named) (t : List Node) → length (recordName x Σ t .places) ≡ 1
 unfolding recordName
@@ -36,8 +36,8 @@ mutual
   pub places-E : (e : Expression) (Σ : List Named) (t : List Node) → length (recordE e Σ t .places) ≡ partsE e
   places-E (letIn x a b) Σ t =
       let A = recordE a Σ t in
-      simp length-append (omega (arith, places-E a Σ t, places-E b (stands x (suc (A .root)) ∷ Σ) (A .records)))
-  places-E (lambda x b) Σ t = omega (arith, places-E b (stands x 0 ∷ Σ) t)
+      simp length-append (omega (arith, places-E a Σ t, places-E b ((x, suc (A .root)) ∷ Σ) (A .records)))
+  places-E (lambda x b) Σ t = omega (arith, places-E b ((x, 0) ∷ Σ) t)
   places-E (name x r) Σ t = let N = recordName x Σ t in simp length-append (omega (arith, name-place x Σ t, places-C r (N .root) Σ (N .records)))
   places-E (literal z r) Σ t = omega (arith, places-C r (length t) Σ (t ++ (node numberKind (numberKey z) 0 0 ∷ [])))
   places-E (bracket e r) Σ t = let E = recordE e Σ t in simp length-append (omega (arith, places-E e Σ t, places-C r (E .root) Σ (E .records)))

@@ -10,12 +10,12 @@ use lib.ListN.{length}
 use lib.Seq.{sets}
 use Rattle.language.specs.Names.{packed}
 use Rattle.grammar.specs.Grammar.{Expression, Calls, letIn, lambda, name, literal, bracket}
-use Rattle.grammar.specs.Faults.{opened, inLet, inLambda, markFault, lambdaFault, nameFault, literalFault, note}
+use Rattle.grammar.specs.Faults.{opened, inLambda, markFault, lambdaFault, nameFault, literalFault, note}
 use Rattle.grammar.specs.Reading.{Reading}
 use Rattle.grammar.specs.Machine.{Frame, value, brackets, at, Outer, expression, letName, lambdaName, calls}
 use Rattle.layout.specs.Memory.{Node, node}
 use Rattle.layout.specs.Nodes.{numberKind, functionKind}
-use Rattle.records.specs.Records.{Named, stands, newRecord, numberKey, recordName, recordE}
+use Rattle.records.specs.Records.{Named, newRecord, numberKey, recordName, recordE}
 use Rattle.descent.specs.Cursor.{letKind, inKind, lambdaKind, openKind, shutKind, wordKind, digitsKind}
 use Rattle.descent.specs.Cursor.{headWord, headValue, isAt, atBracket, atName, atNumber}
 use Rattle.descent.specs.Cursor.{pass, passPart, judge, need, letHead, lambdaHead}
@@ -36,7 +36,7 @@ module _ (end : ℕ) (R : List ℕ) (f : ℕ) (ih : Same end R f) (marks depth :
       (λ q. h (letIn (q .0 .0) (q .0 .1) (q .0 .2), q .1)) (suc (s .cursor .parts))
       → 2 * length (s .cursor .rest) < suc f
       → FitsAt (readLet end (run end f) w marks depth s) (Read end R (s .places) (s .cursor .parts) (λ e. recordE e Σ t) F (λ e o. h (e, o)) r) r
-  unfolding readLet recordE inLet opened bindersOf pass enter mark
+  unfolding readLet recordE opened bindersOf pass enter mark
   same-let w h b e l =
       let c = s .cursor in
       let H = letHead end w marks c in
@@ -54,8 +54,8 @@ module _ (end : ℕ) (R : List ℕ) (f : ℕ) (ih : Same end R f) (marks depth :
       let N = need end inKind (W .cursor) in
       let I = moved-need end inKind (W .cursor) (lit< tt) in
       let hb : Expression × Outer F → Expression = λ q. h (letIn x (v .tree) (q .0), q .1) in
-      at-then (moved W N) _ (λ a. r ≡ readOn end (at (expression false (inLet x D)) F) hb (a .cursor .parts) (a .cursor .rest)) _ r
-      (at-moved W N _ r (fits-need end inKind (W .cursor) (λ c. r ≡ readOn end (at (expression false (inLet x D)) F) hb (c .parts) (c .rest)) r _
+      at-then (moved W N) _ (λ a. r ≡ readOn end (at (expression false (opened D)) F) hb (a .cursor .parts) (a .cursor .rest)) _ r
+      (at-moved W N _ r (fits-need end inKind (W .cursor) (λ c. r ≡ readOn end (at (expression false (opened D)) F) hb (c .parts) (c .rest)) r _
       (v .onward ∙ front-value end x D F _ (W .cursor .parts) (W .cursor .rest)) (λ e. fits-here end (pass (W .cursor)) _ r y e))) (λ u e.
       let J = I .went u in
       let A = recordE (v .tree) Σ t in
@@ -66,11 +66,11 @@ module _ (end : ℕ) (R : List ℕ) (f : ℕ) (ih : Same end R f) (marks depth :
       let ready4 = ready-entered R Σ (A .records) (suc marks) depth (moved W N) ready3 x (H .name) (suc (W .cursor .root)) (suc (A .root)) (L .name)
       (ap suc (v .wrote .root)) (omega (arith, ready .few)) (omega (arith, L .few)) in
       let E' = inExpression false (suc marks) (suc depth) in
-      at-then (run end f E' four) _ _ _ r (ih .onExpression false (suc marks) (suc depth) four (stands x (suc (A .root)) ∷ Σ) (A .records) F hb r ready4 e (omega arith)) (λ n q.
+      at-then (run end f E' four) _ _ _ r (ih .onExpression false (suc marks) (suc depth) four ((x, suc (A .root)) ∷ Σ) (A .records) F hb r ready4 e (omega arith)) (λ n q.
       at-here (mark (s .cursor .parts) (run end f E' four)) _ r n
       (record {
         tree = letIn x (v .tree) (q .tree);
-        wrote = wrote-let R (s .places) (s .cursor .parts) (H .parts) (N .parts) A (recordE (q .tree) (stands x (suc (A .root)) ∷ Σ) (A .records)) W
+        wrote = wrote-let R (s .places) (s .cursor .parts) (H .parts) (N .parts) A (recordE (q .tree) ((x, suc (A .root)) ∷ Σ) (A .records)) W
             (run end f E' four) (omega arith) (omega arith) (v .wrote) (q .wrote);
         onward = q .onward;
       })))))
@@ -89,7 +89,7 @@ module _ (end : ℕ) (R : List ℕ) (f : ℕ) (ih : Same end R f) (marks depth :
       at-then one _ _ _ r (at-moved s H _ r (fits-lambda end marks depth Σ (s .scope) F c r w _ (ready .holds) (ready .number) e)) (λ z L.
       let G = M .went z in
       let x = L .x in
-      let Γ = stands x 0 ∷ Σ in
+      let Γ = (x, 0) ∷ Σ in
       let E = inExpression false (suc marks) (suc depth) in
       let two = enter depth (H .name) 0 one in
       let W = run end f E two in

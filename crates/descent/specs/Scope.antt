@@ -13,11 +13,11 @@ use Rattle.language.specs.Limits.{textParts}
 use Rattle.language.specs.Names.{packed, isLong, isData}
 use Rattle.grammar.specs.Tokens.{when}
 use Rattle.grammar.specs.Faults.{fine, badCall, tooMany, manyLambdas, longName, dataBound, reusedName, outOfRange, faultNumber, orMany}
-use Rattle.grammar.specs.Faults.{Around, Binder, byLet, byLambda, lambdasOf, lambdaNamed, deep, markFault, lambdaFault, letNameFault, lambdaNameFault}
+use Rattle.grammar.specs.Faults.{Around, isAmong, deep, markFault, lambdaFault, letNameFault, lambdaNameFault}
 use Rattle.grammar.specs.Faults.{nameFault, literalFault, callFault, note, fault}
 use Rattle.layout.specs.Memory.{Node, node}
 use Rattle.layout.specs.Nodes.{unboundKind}
-use Rattle.records.specs.Records.{Named, stands, Recorded, newRecord, linked, recordScoped}
+use Rattle.records.specs.Records.{Named, Recorded, newRecord, linked, recordScoped}
 use Rattle.descent.specs.Cursor.{binderName, binderLink, binderOf, lambdasIn, lambdaIn, isOutside}
 use Rattle.descent.specs.Cursor.{atPart, atLet, atLambda, atBracket, atName, atNumber}
 
@@ -26,7 +26,7 @@ abbrev pub Holds : List Named → ℕ → List ℕ → Type 0
 Holds [] zero scope = Unit {0}
 Holds [] (suc b) scope = ⊥
 Holds (e ∷ Σ) zero scope = ⊥
-Holds (e ∷ Σ) (suc b) scope = (binderName scope b ≡ packed (e .name)) × (binderLink scope b ≡ e .link) × Holds Σ b scope
+Holds (e ∷ Σ) (suc b) scope = (binderName scope b ≡ packed (e .0)) × (binderLink scope b ≡ e .1) × Holds Σ b scope
 
 pub holds-kept : (Σ : List Named) (depth : ℕ) (scope scope' : List ℕ) → ((i : ℕ) → i < 2 * depth → getD scope' i 0 ≡ getD scope i 0) → Holds Σ depth scope
     → Holds Σ depth scope'
@@ -37,7 +37,7 @@ holds-kept (e ∷ Σ) (suc b) scope scope' f h =
     (f (2 * b) (omega arith) ∙ h .0, f (2 * b + 1) (omega arith) ∙ h .1, holds-kept Σ b scope scope' (λ i l. f i (omega arith)) (h .2))
 
 pub holds-entered : (Σ : List Named) (depth : ℕ) (scope x : List ℕ) (j : ℕ) → 2 * depth + 1 < length scope → Holds Σ depth scope
-    → Holds (stands x j ∷ Σ) (suc depth) (set (set scope (2 * depth) (packed x)) (2 * depth + 1) j)
+    → Holds ((x, j) ∷ Σ) (suc depth) (set (set scope (2 * depth) (packed x)) (2 * depth + 1) j)
 holds-entered Σ depth scope x j l h =
     let one = set scope (2 * depth) (packed x) in
     let n : length one ≡ length scope = length-set scope (2 * depth) (packed x) in (
@@ -61,7 +61,7 @@ scoped-is x t (e ∷ Σ) zero scope h = absurd h
 scoped-is x t (e ∷ Σ) (suc b) scope h =
     let n = h .0 in
     let l = h .1 in
-    rw (n, ← l) (by (eqb (packed x) (packed (e .name))) (scoped-is x t Σ b scope (h .2)))
+    rw (n, ← l) (by (eqb (packed x) (packed (e .0))) (scoped-is x t Σ b scope (h .2)))
   where
     by : (q : Bool) → recordScoped x Σ t ≡ foundAt scope x t (binderOf scope (packed x) b)
         → cond q (linked (binderLink scope b) x t) (recordScoped x Σ t) ≡ foundAt scope x t (when q (λ _. suc b) (λ _. binderOf scope (packed x) b))
@@ -69,37 +69,37 @@ scoped-is x t (e ∷ Σ) (suc b) scope h =
     by false i = i
 
 -- the names as Faults has them
-abbrev binderAs : ℕ → List ℕ → Binder
-binderAs zero x = byLambda x
-binderAs (suc j) x = byLet x
+abbrev withBinder : ℕ → List ℕ → List (List ℕ) → List (List ℕ)
+withBinder zero x xs = x ∷ xs
+withBinder (suc j) x xs = xs
 
-unfoldable pub bindersOf : List Named → List Binder
+unfoldable pub bindersOf : List Named → List (List ℕ)
 bindersOf [] = []
-bindersOf (e ∷ Σ) = binderAs (e .link) (e .name) ∷ bindersOf Σ
+bindersOf (e ∷ Σ) = withBinder (e .1) (e .0) (bindersOf Σ)
 
 abbrev pub around : ℕ → List Named → Around
-around marks Σ = record { marks = marks; binders = bindersOf Σ }
+around marks Σ = record { marks = marks; lambdas = bindersOf Σ }
 
-lambdas-are : (Σ : List Named) (depth : ℕ) (scope : List ℕ) → Holds Σ depth scope → lambdasIn scope depth ≡ lambdasOf (bindersOf Σ)
-unfolding lambdasIn lambdasOf bindersOf
+lambdas-are : (Σ : List Named) (depth : ℕ) (scope : List ℕ) → Holds Σ depth scope → lambdasIn scope depth ≡ length (bindersOf Σ)
+unfolding lambdasIn bindersOf
 lambdas-are [] zero scope h = refl
 lambdas-are [] (suc b) scope h = absurd h
 lambdas-are (e ∷ Σ) zero scope h = absurd h
-lambdas-are (e ∷ Σ) (suc b) scope h = let l = h .1 in rw (l, lambdas-are Σ b scope (h .2)) (by (e .link))
+lambdas-are (e ∷ Σ) (suc b) scope h = let l = h .1 in rw (l, lambdas-are Σ b scope (h .2)) (by (e .1))
   where
-    by : (j : ℕ) → cond (eqb j 0) (suc (lambdasOf (bindersOf Σ))) (lambdasOf (bindersOf Σ)) ≡ lambdasOf (binderAs j (e .name) ∷ bindersOf Σ)
+    by : (j : ℕ) → cond (eqb j 0) (suc (length (bindersOf Σ))) (length (bindersOf Σ)) ≡ length (withBinder j (e .0) (bindersOf Σ))
     by zero = refl
     by (suc j) = rw (eqb·suc-zero j)
 
-lambda-is : (x : List ℕ) (Σ : List Named) (depth : ℕ) (scope : List ℕ) → Holds Σ depth scope → lambdaIn scope (packed x) depth ≡ lambdaNamed x (bindersOf Σ)
-unfolding lambdaIn lambdaNamed bindersOf
+lambda-is : (x : List ℕ) (Σ : List Named) (depth : ℕ) (scope : List ℕ) → Holds Σ depth scope → lambdaIn scope (packed x) depth ≡ isAmong x (bindersOf Σ)
+unfolding lambdaIn isAmong bindersOf
 lambda-is x [] zero scope h = refl
 lambda-is x [] (suc b) scope h = absurd h
 lambda-is x (e ∷ Σ) zero scope h = absurd h
-lambda-is x (e ∷ Σ) (suc b) scope h = let n = h .0 in let l = h .1 in rw (l, n, lambda-is x Σ b scope (h .2)) (by (e .link))
+lambda-is x (e ∷ Σ) (suc b) scope h = let n = h .0 in let l = h .1 in rw (l, n, lambda-is x Σ b scope (h .2)) (by (e .1))
   where
     by : (j : ℕ)
-        → cond (eqb j 0) (eqb (packed x) (packed (e .name)) || lambdaNamed x (bindersOf Σ)) (lambdaNamed x (bindersOf Σ)) ≡ lambdaNamed x (binderAs j (e .name) ∷ bindersOf Σ)
+        → cond (eqb j 0) (eqb (packed x) (packed (e .0)) || isAmong x (bindersOf Σ)) (isAmong x (bindersOf Σ)) ≡ isAmong x (withBinder j (e .0) (bindersOf Σ))
     by zero = refl
     by (suc j) = rw (eqb·suc-zero j)
 
@@ -130,7 +130,7 @@ module _ (c marks : ℕ) (Σ : List Named) where
   pub lambda-number : (w : Bool) (depth : ℕ) (scope : List ℕ) → Holds Σ depth scope
       → atLambda w (lambdasIn scope depth) marks c ≡ fault c (note (lambdaFault w (around marks Σ)) true)
   unfolding atLambda fault lambdaFault faultNumber
-  lambda-number w depth scope h = rw (part-number, lambdas-are Σ depth scope h) (by w (leb 2 (lambdasOf (bindersOf Σ))) (leb 16 marks))
+  lambda-number w depth scope h = rw (part-number, lambdas-are Σ depth scope h) (by w (leb 2 (length (bindersOf Σ))) (leb 16 marks))
     where
       by : (w l a : Bool)
           → cond w 9 (cond l 10 (cond a 12 (orMany 0 (leb textParts c))))
@@ -189,7 +189,7 @@ module _ (c marks : ℕ) (Σ : List Named) where
   pub lambda-name-number : (x : List ℕ) (depth : ℕ) (scope : List ℕ) → Holds Σ depth scope
       → cond (isLong x) 7 (cond (isData x) 8 (cond (lambdaIn scope (packed x) depth) 11 0)) ≡ fault c (note (lambdaNameFault x (around marks Σ)) false)
   unfolding fault lambdaNameFault faultNumber
-  lambda-name-number x depth scope h = rw (lambda-is x Σ depth scope h) (by (isLong x) (isData x) (lambdaNamed x (bindersOf Σ)))
+  lambda-name-number x depth scope h = rw (lambda-is x Σ depth scope h) (by (isLong x) (isData x) (isAmong x (bindersOf Σ)))
     where
       by : (l a n : Bool) → cond l 7 (cond a 8 (cond n 11 0)) ≡ orMany (faultNumber (cond l longName (cond a dataBound (cond n reusedName fine)))) false
       by true a n = refl

@@ -1,4 +1,4 @@
--- What stands in the arrays, in terms of Records: a state that is ready to read behind the records t with the names Σ around it, and a
+-- What (in, the) arrays, in terms of Records: a state that is ready to read behind the records t with the names Σ around it, and a
 -- state in which a tree's records and places have been written. Assumes nothing.
 use mathlib.Core.Path.{_≡_, refl, sym, _∙_}
 use mathlib.Core.Bool.{Bool, true, false, cond}
@@ -14,7 +14,7 @@ use Rattle.grammar.specs.Tokens.{when}
 use Rattle.grammar.specs.TokensLaws.{by-test}
 use Rattle.layout.specs.Memory.{Node, node}
 use Rattle.layout.specs.Nodes.{readingsKind}
-use Rattle.records.specs.Records.{Named, stands, Recorded, newRecord, linked, recordName, recordScoped, behind}
+use Rattle.records.specs.Records.{Named, Recorded, newRecord, linked, recordName, recordScoped, behind}
 use Rattle.descent.specs.Cursor.{Cursor, binderLink, binderOf}
 use Rattle.descent.specs.Descent.{State, moved, counted, rooted, put, link, mark, enter, putBound, putScoped, putName}
 use Rattle.descent.specs.Cells.{sets-append, put-before, words, put-word}
@@ -52,7 +52,7 @@ module _ (R : List ℕ) (Σ : List Named) (t : List Node) (marks depth : ℕ) (s
       record { number = z; count = w .count; records = w .records; holds = holds-kept Σ depth (s .scope) (s' .scope) (k .below) (h .holds); room = k .scope ∙ h .room; few = h .few }
 
   -- one binder more, where there is room
-  pub ready-entered : (x : List ℕ) (n i j : ℕ) → n ≡ packed x → i ≡ j → depth < marks → marks ≤ openMarks → Ready R (stands x j ∷ Σ) t marks (suc depth) (enter depth n i s)
+  pub ready-entered : (x : List ℕ) (n i j : ℕ) → n ≡ packed x → i ≡ j → depth < marks → marks ≤ openMarks → Ready R ((x, j) ∷ Σ) t marks (suc depth) (enter depth n i s)
   unfolding enter
   ready-entered x n i j e g l m =
       rw (e, g) (record {

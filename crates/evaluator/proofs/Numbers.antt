@@ -1,17 +1,16 @@
 -- A member on two numbers: whatever the member, it comes to onNumbers, which gives the wrong kind for a member that is used on windows. So
 -- a call on two cells that hold numbers tests no kinds. Assumes nothing.
 use mathlib.Core.Path.{_≡_, refl, sym, ap, _∙_}
-use mathlib.Core.Bool.{true, _&&_, cond, and-eq-true-iff}
+use mathlib.Core.Bool.{true, _&&_, and-eq-true-iff}
 use mathlib.Core.List.{List}
 use Prim.Native.Nat.{ℕ, _<_}
 use borrow.Author.Needs.{needs}
 use borrow.Author.Tests.{ltb-true}
-use lib.Dec.{eqb, ltb}
+use lib.Dec.{ltb}
 use lib.IntN.{ℤ}
 use mir.Syntax.{w32}
 use mir.Val.{SFits, toZ, ofZ}
 use mir.Facts.{toZ-ofZ}
-use Rattle.members.specs.Members.{kindNumber}
 use Rattle.members.specs.declared.Member.{Member}
 use Rattle.members.specs.declared.Found.{Found}
 use Rattle.members.specs.declared.Found.the-variants.{Is, Unknown}
@@ -19,8 +18,8 @@ use Rattle.rules.specs.declared.Value.{Value}
 use Rattle.rules.specs.declared.Value.the-variants.{Number, Missing}
 use Rattle.values.specs.declared.apply.Applied.the-variants.{Done}
 use Rattle.rules.specs.Rules.{Rule, twoNumbers, window, windowNumber, windowRuns, rule, byNumbers, onNumbers}
-use Rattle.rules.specs.RulesLaws.{receiverOf, argumentOf, receiver-kind, argument-kind}
-use Rattle.values.specs.Applied.{ruled1, applied1}
+use Rattle.rules.specs.Apply.{byRule1, apply1}
+use Rattle.values.specs.Applied.{applied1}
 use Rattle.values.specs.Packing.{windowCell}
 use Rattle.values.specs.PackingLaws.{numberIn, unpack-number}
 use Rattle.evaluator.specs.Applying.{boundedOf, callOf}
@@ -29,10 +28,10 @@ pub both-numbers : (a b : ℕ) → (ltb a windowCell && ltb b windowCell) ≡ tr
 both-numbers a b e = (ltb-true a windowCell (and-eq-true-iff _ (ltb b windowCell) .0 e .0), ltb-true b windowCell (and-eq-true-iff (ltb a windowCell) _ .0 e .1))
 
 pub two-numbers : (m : Member) (xs : List ℤ) (x y : ℤ) → applied1 m xs (Number x) (Number y) ≡ Done (onNumbers m x y)
-unfolding applied1 ruled1 onNumbers
-two-numbers m xs x y = rw (receiver-kind m, argument-kind m) (by (rule m))
+unfolding applied1 apply1 onNumbers
+two-numbers m xs x y = by (rule m)
   where
-    by : (r : Rule) → cond (eqb 1 (kindNumber (receiverOf r))) (cond (eqb 1 (kindNumber (argumentOf r))) (Done (byNumbers r x y)) (Done (Missing 2))) (Done (Missing 2)) ≡ Done (byNumbers r x y)
+    by : (r : Rule) → Done (byRule1 r xs (Number x) (Number y) (λ z. Missing 2)) ≡ Done (byNumbers r x y)
     by (twoNumbers f) = refl
     by (window f) = refl
     by (windowNumber f) = refl

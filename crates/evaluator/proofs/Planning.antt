@@ -21,6 +21,8 @@ use Rattle.values.specs.declared.runs.Tally.{Tally}
 use Rattle.rules.specs.Windows.{readingsIn}
 use Rattle.rules.specs.Apply.{apply0}
 use Rattle.values.specs.Applied.{applied1}
+use Rattle.values.specs.Tested.{tested0, tested1}
+use Rattle.values.specs.TestedLaws.{tested0-is, tested1-is}
 use Rattle.values.specs.Tallies.{stepped, finished, Steps}
 use Rattle.values.specs.Packing.{packOf, unpackOf, windowCell, wrongCell}
 use Rattle.layout.specs.Nodes.{functionKind, memberOfKind}
@@ -63,17 +65,17 @@ module _ (k r : Found) (f : r ≡ k) (xs : List ℤ) where
   unfolding askOf
   ask-none a e = rw (sym f ∙ e)
 
-  pub ask-is : (m : Member) (a c : ℕ) (u v : Value) → r ≡ Is m → u ≡ unpackOf a → v ≡ apply0 m xs u → c ≡ packOf v → c ≡ askOf k xs a
+  pub ask-is : (m : Member) (a c : ℕ) (u v : Value) → r ≡ Is m → u ≡ unpackOf a → v ≡ tested0 m xs u → c ≡ packOf v → c ≡ askOf k xs a
   unfolding askOf
-  ask-is m a c u v e p q s = rw (sym f ∙ e) (s ∙ ap packOf (q ∙ ap (apply0 m xs) p))
+  ask-is m a c u v e p q s = rw (sym f ∙ e) (s ∙ ap packOf (q ∙ tested0-is m xs u ∙ ap (apply0 m xs) p))
 
   pub call-none : (a b : ℕ) → r ≡ Unknown → Done (Missing 2) ≡ callOf k xs a b
   unfolding callOf
   call-none a b e = rw (sym f ∙ e)
 
-  pub call-is : (m : Member) (a b : ℕ) (d : Applied) (u v w : Value) → r ≡ Is m → u ≡ unpackOf a → Bounds u v → w ≡ unpackOf b → d ≡ applied1 m xs v w → d ≡ callOf k xs a b
+  pub call-is : (m : Member) (a b : ℕ) (d : Applied) (u v w : Value) → r ≡ Is m → u ≡ unpackOf a → Bounds u v → w ≡ unpackOf b → d ≡ tested1 m xs v w → d ≡ callOf k xs a b
   unfolding callOf
-  call-is m a b d u v w e p q o s = rw (sym f ∙ e) (s ∙ (λ i. applied1 m xs ((q .same ∙ ap boundedOf p) i) (o i)))
+  call-is m a b d u v w e p q o s = rw (sym f ∙ e) (s ∙ tested1-is m xs v w ∙ (λ i. applied1 m xs ((q .same ∙ ap boundedOf p) i) (o i)))
 
 module _ (k r : Found) (f : r ≡ k) (t : Tally) where
   pub conclude-none : r ≡ Unknown → wrongCell ≡ concludeOf k t

@@ -2,21 +2,21 @@
 -- what awaits its variable is worked out again. A function's body is judged with its own variable delayed, whatever a run around it has set.
 -- Assumes nothing: these are definitions. What they come to is in refine's Meaning.
 use mathlib.Core.Path.{_≡_}
-use mathlib.Core.Bool.{true, false, cond}
+use mathlib.Core.Bool.{true, false, cond, _&&_}
 use mathlib.Core.List.{List, [], _∷_}
 use Prim.Native.Nat.{ℕ, zero, suc, _+_, _-_, _≤_, _<_}
 use lib.Dec.{leb, ltb, eqb}
 use lib.IntN.{ℤ}
 use lib.ListN.{length, getD, set}
 use Rattle.language.specs.Limits.{tableEntries}
+use Rattle.members.specs.Members.{ifMember}
 use Rattle.members.specs.declared.Found.{Found}
-use Rattle.members.specs.declared.Found.the-variants.{Is, Unknown}
 use Rattle.rules.specs.declared.Value.{Value}
 use Rattle.rules.specs.declared.Value.the-variants.{Number, Window, Function, Delayed, Missing}
 use Rattle.values.specs.declared.apply.Applied.{Applied}
 use Rattle.values.specs.declared.apply.Applied.the-variants.{Done, Run}
 use Rattle.values.specs.declared.runs.Tally.{Tally}
-use Rattle.rules.specs.Values.{wrongKind}
+use Rattle.rules.specs.Values.{wrongKind, ifWindow}
 use Rattle.rules.specs.Windows.{readingsIn}
 use Rattle.rules.specs.Apply.{apply0}
 use Rattle.values.specs.Applied.{applied1}
@@ -41,20 +41,14 @@ graph links waits xs = record { links = links; waits = waits; xs = xs }
 
 -- a receiver: a window that ends beyond 16 bits, which no recording has, is of the wrong kind
 unfoldable pub boundedOf : Value → Value
-boundedOf (Window s l) = cond (leb (s + l) 65535) (Window s l) (Missing wrongKind)
-boundedOf (Number z) = Number z
-boundedOf Function = Function
-boundedOf Delayed = Delayed
-boundedOf (Missing r) = Missing r
+boundedOf v = ifWindow v v (λ s l. cond (leb (s + l) 65535) v (Missing wrongKind))
 
 -- a member with no argument, and with one
 unfoldable pub askOf : Found → List ℤ → ℕ → ℕ
-askOf (Is m) xs a = packOf (apply0 m xs (unpackOf a))
-askOf Unknown xs a = wrongCell
+askOf f xs a = ifMember wrongCell f (λ m. packOf (apply0 m xs (unpackOf a)))
 
 unfoldable pub callOf : Found → List ℤ → ℕ → ℕ → Applied
-callOf (Is m) xs a b = applied1 m xs (boundedOf (unpackOf a)) (unpackOf b)
-callOf Unknown xs a b = Done (Missing wrongKind)
+callOf f xs a b = ifMember (Done (Missing wrongKind)) f (λ m. applied1 m xs (boundedOf (unpackOf a)) (unpackOf b))
 
 -- what an entry asks for: it is done, with a value; or a body is to be worked out with a variable set, to judge a function (whose kind it
 -- has then) or to run it over a window
@@ -74,13 +68,9 @@ judgeOf waits frame i body a =
 -- the runs of the function that entry f is
 unfoldable pub runOf : List ℕ → List ℕ → ℕ → ℕ → ℕ → ℕ → Task
 runOf links waits f kind s l =
-    cond (eqb (kindAt links f) functionKind)
-    (cond (isBelow (firstAt links f) f)
-    (cond (leb (ownOf (getD waits (firstAt links f - 1) 0) (getD waits f 0)) tableEntries)
-    (taskOf kind s l (firstAt links f - 1) (ownOf (getD waits (firstAt links f - 1) 0) (getD waits f 0)))
-    (doneOf wrongCell))
-    (doneOf wrongCell))
-    (doneOf wrongCell)
+    let body : ℕ = firstAt links f - 1 in
+    let own : ℕ = ownOf (getD waits body 0) (getD waits f 0) in
+    cond (eqb (kindAt links f) functionKind && (isBelow (firstAt links f) f && leb own tableEntries)) (taskOf kind s l body own) (doneOf wrongCell)
 
 -- what a member with one argument asks for
 unfoldable pub followOf : List ℕ → List ℕ → ℕ → ℕ → Applied → Task
@@ -129,8 +119,7 @@ overOf go body list v frame t (z ∷ zs) =
 
 -- what the runs come to, by the member
 unfoldable pub concludeOf : Found → Tally → ℕ
-concludeOf (Is m) t = packOf (finished m t)
-concludeOf Unknown t = wrongCell
+concludeOf f t = ifMember wrongCell f (λ m. packOf (finished m t))
 
 -- what entry i comes to, once what it asks for is worked out
 unfoldable pub finishOf : Graph → Go → List ℕ → ℕ → Task → ℕ

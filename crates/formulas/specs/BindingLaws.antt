@@ -9,7 +9,7 @@ use Rattle.language.specs.Cases.{impossible, split, either, by-cond}
 use Rattle.grammar.specs.Grammar.{Expression, Calls, Arguments, More, letIn, lambda, name, literal, bracket, done, call, none, first, last, next}
 use Rattle.meaning.specs.Forms.{Form, number, variable, unbound, readings, ask, function, same, dependency}
 use Rattle.meaning.specs.FormsLaws.{same-eq, same-self}
-use Rattle.meaning.specs.Binding.{Meaning, means, lookUp, named, asLambda, member, formE, formC, formA, formM, called, placesE}
+use Rattle.meaning.specs.Binding.{Meaning, lookUp, named, asLambda, member, formE, formC, formA, formM, called, placesE}
 use Rattle.meaning.specs.Binding.{placesC, placesA, placesM, orderE, orderC, orderA, orderM, formOf, formsByPlace, formsInOrder}
 use Rattle.model.specs.Lists.{All, member as isIn}
 use Rattle.model.specs.Laws.{Ordered, Among}
@@ -46,7 +46,7 @@ based-leaf f fs h d e = impossible (sym (h d) ∙ e)
 
 -- every name stands for a form whose dependencies are in the list
 abbrev Grounded : List Meaning → List Form → Type 0
-Grounded Γ fs = All (λ (e : Meaning). Based (e .form) fs) Γ
+Grounded Γ fs = All (λ (e : Meaning). Based (e .1) fs) Γ
 
 grounded-sub : (Γ : List Meaning) (fs gs : List Form) → Sub fs gs → Grounded Γ fs → Grounded Γ gs
 grounded-sub [] fs gs s h = tt
@@ -56,7 +56,7 @@ based-lookup : (x : List ℕ) (Γ : List Meaning) (fs : List Form) → Grounded 
 unfolding lookUp dependency
 based-lookup x [] fs h = based-leaf (unbound (packed x)) fs (λ d. refl)
 based-lookup x (e ∷ Γ) fs h =
-    by-cond (λ (f : Form). Based f fs) (sameName x (e .name)) (e .form) (lookUp x Γ) (λ _. h .0) (λ _. based-lookup x Γ fs (h .1))
+    by-cond (λ (f : Form). Based f fs) (sameName x (e .0)) (e .1) (lookUp x Γ) (λ _. h .0) (λ _. based-lookup x Γ fs (h .1))
 
 based-named : (x : List ℕ) (Γ : List Meaning) (fs : List Form) → Grounded Γ fs → Based (named x Γ) fs
 unfolding named dependency
@@ -99,8 +99,8 @@ mutual
 
   orderedE : (e : Expression) (Γ : List Meaning) (u pre : List Form) → Grounded Γ pre → Then pre (formE e Γ) u → Ordered formulas pre (orderE e Γ u)
   orderedE (letIn x a b) Γ u pre g k =
-      orderedE a Γ (orderE b (means x (formE a Γ) ∷ Γ) u) pre g
-      (λ q s i h. orderedE b (means x (formE a Γ) ∷ Γ) u q (h, grounded-sub Γ pre q s g) (onward pre q _ u s k))
+      orderedE a Γ (orderE b ((x, formE a Γ) ∷ Γ) u) pre g
+      (λ q s i h. orderedE b ((x, formE a Γ) ∷ Γ) u q (h, grounded-sub Γ pre q s g) (onward pre q _ u s k))
   orderedE (lambda x b) Γ u pre g k =
       orderedE b (asLambda x Γ) (function (packed x) (formE b (asLambda x Γ)) ∷ u) pre (grounded-lambda x Γ pre g)
       (λ q s i h. emit q (function (packed x) (formE b (asLambda x Γ))) u (based-function (packed x) _ q i) (onward pre q _ u s k))
@@ -144,7 +144,7 @@ mutual
   unfolding orderE formE called
 
   restE : (e : Expression) (Γ : List Meaning) (u : List Form) → Sub u (orderE e Γ u)
-  restE (letIn x a b) Γ u f i = restE a Γ (orderE b (means x (formE a Γ) ∷ Γ) u) f (restE b (means x (formE a Γ) ∷ Γ) u f i)
+  restE (letIn x a b) Γ u f i = restE a Γ (orderE b ((x, formE a Γ) ∷ Γ) u) f (restE b ((x, formE a Γ) ∷ Γ) u f i)
   restE (lambda x b) Γ u f i = restE b (asLambda x Γ) _ f (in-more _ u f i)
   restE (name x r) Γ u f i = in-more (named x Γ) _ f (restC r (named x Γ) Γ u f i)
   restE (literal z r) Γ u f i = in-more (number z) _ f (restC r (number z) Γ u f i)
@@ -167,7 +167,7 @@ mutual
   unfolding orderE formE called
 
   wholeE : (e : Expression) (Γ : List Meaning) (u : List Form) → In (formE e Γ) (orderE e Γ u)
-  wholeE (letIn x a b) Γ u = restE a Γ _ _ (wholeE b (means x (formE a Γ) ∷ Γ) u)
+  wholeE (letIn x a b) Γ u = restE a Γ _ _ (wholeE b ((x, formE a Γ) ∷ Γ) u)
   wholeE (lambda x b) Γ u = restE b (asLambda x Γ) _ _ (in-self _ u)
   wholeE (name x r) Γ u = wholeC r (named x Γ) Γ u (named x Γ ∷ orderC r (named x Γ) Γ u) (in-more _ _) (in-self _ _)
   wholeE (literal z r) Γ u = wholeC r (number z) Γ u (number z ∷ orderC r (number z) Γ u) (in-more _ _) (in-self _ _)
@@ -206,8 +206,8 @@ mutual
   placedE : (e : Expression) (Γ : List Meaning) (u v l : List Form) → Sub (orderE e Γ u) l → AllIn l v → AllIn l (placesE e Γ v)
   placedE (letIn x a b) Γ u v l s h = (
     s _ (wholeE (letIn x a b) Γ u),
-    placedE a Γ (orderE b (means x (formE a Γ) ∷ Γ) u) _ l s
-        (placedE b (means x (formE a Γ) ∷ Γ) u v l (λ f i. s f (restE a Γ _ f i)) h),
+    placedE a Γ (orderE b ((x, formE a Γ) ∷ Γ) u) _ l s
+        (placedE b ((x, formE a Γ) ∷ Γ) u v l (λ f i. s f (restE a Γ _ f i)) h),
   )
   placedE (lambda x b) Γ u v l s h = (s _ (wholeE (lambda x b) Γ u), placedE b (asLambda x Γ) _ v l s h)
   placedE (name x r) Γ u v l s h = (s _ (in-self _ _), placedC r (named x Γ) Γ u v l (λ f i. s f (in-more _ _ f i)) h)

@@ -14,9 +14,9 @@ use lib.ListN.{length, getD}
 use lib.Signed.{ltZ, _≤ℤ_, ltZ-yes, ltZ-no, clashℤ}
 use Rattle.language.specs.Limits.{textParts, openMarks, openLambdas, nameBytes, leastNumber, mostNumber}
 use Rattle.language.specs.Names.{packed, sameName, isLong, isData, dataWord}
-use Rattle.grammar.specs.Faults.{Fault, fine, outOfRange, longName, dataBound, badCall, manyLambdas, reusedName, tooMany, faultNumber, Binder, byLet, byLambda, Around}
-use Rattle.grammar.specs.Faults.{lambdasOf, lambdaNamed, deep, markFault, lambdaFault, letNameFault, lambdaNameFault, nameFault, literalFault, callFault, note, orMany, fault}
-use Rattle.grammar.specs.KeptLimits.{NoLambdaNamed, NotData, InRange}
+use Rattle.grammar.specs.Faults.{Fault, fine, outOfRange, longName, dataBound, badCall, manyLambdas, reusedName, tooMany, faultNumber, Around}
+use Rattle.grammar.specs.Faults.{isAmong, deep, markFault, lambdaFault, letNameFault, lambdaNameFault, nameFault, literalFault, callFault, note, orMany, fault}
+use Rattle.grammar.specs.KeptLimits.{NotAmong, NotData, InRange}
 
 -- tests, as what they test
 pub is-false : (b : Bool) → (b ≡ false) ↔ (¬ (b ≡ true))
@@ -44,12 +44,11 @@ is-data x = eqb-iff (packed x) (packed dataWord)
 not-data : (x : List ℕ) → (isData x ≡ false) ↔ NotData x
 not-data x = Iff·trans (is-false (isData x)) (Iff·not (is-data x))
 
-new-name : (x : List ℕ) (bs : List Binder) → (lambdaNamed x bs ≡ false) ↔ NoLambdaNamed x bs
-unfolding lambdaNamed
+new-name : (x : List ℕ) (bs : List (List ℕ)) → (isAmong x bs ≡ false) ↔ NotAmong x bs
+unfolding isAmong
 new-name x [] = (λ h. tt, λ h. refl)
-new-name x (byLet y ∷ bs) = new-name x bs
-new-name x (byLambda y ∷ bs) =
-    Iff·trans (neither (sameName x y) (lambdaNamed x bs)) (Iff·and (Iff·trans (is-false (sameName x y)) (Iff·not (eqb-iff (packed x) (packed y)))) (new-name x bs))
+new-name x (y ∷ bs) =
+    Iff·trans (neither (sameName x y) (isAmong x bs)) (Iff·and (Iff·trans (is-false (sameName x y)) (Iff·not (eqb-iff (packed x) (packed y)))) (new-name x bs))
 
 not-less : (a b : ℤ) → (ltZ a b ≡ false) ↔ (b ≤ℤ a)
 not-less a b = (λ h. ltZ-no (rw h tt), λ h. is-false (ltZ a b) .1 (λ e. clashℤ (ltZ-yes (rw e tt)) h))
@@ -144,18 +143,18 @@ module _ (d : Around) where
   unfolding faultNumber markFault
   mark-fine w = Iff·trans (past w badCall (deep d) fine tt) (Iff·and Iff·rfl deep-fine)
 
-  pub lambda-fine : (w : Bool) → (lambdaFault w d ≡ fine) ↔ ((w ≡ false) × ((lambdasOf (d .binders) < openLambdas) × (d .marks < openMarks)))
+  pub lambda-fine : (w : Bool) → (lambdaFault w d ≡ fine) ↔ ((w ≡ false) × ((length (d .lambdas) < openLambdas) × (d .marks < openMarks)))
   unfolding faultNumber lambdaFault
   lambda-fine w =
       Iff·trans (past w badCall _ fine tt) (Iff·and Iff·rfl
-      (Iff·trans (past (leb openLambdas (lambdasOf (d .binders))) manyLambdas (deep d) fine tt) (Iff·and (not-leb-iff openLambdas (lambdasOf (d .binders))) deep-fine)))
+      (Iff·trans (past (leb openLambdas (length (d .lambdas))) manyLambdas (deep d) fine tt) (Iff·and (not-leb-iff openLambdas (length (d .lambdas))) deep-fine)))
 
-  pub lambda-name-fine : (x : List ℕ) → (lambdaNameFault x d ≡ fine) ↔ ((length x ≤ nameBytes) × (NotData x × NoLambdaNamed x (d .binders)))
+  pub lambda-name-fine : (x : List ℕ) → (lambdaNameFault x d ≡ fine) ↔ ((length x ≤ nameBytes) × (NotData x × NotAmong x (d .lambdas)))
   unfolding faultNumber lambdaNameFault
   lambda-name-fine x =
       Iff·trans (past (isLong x) longName _ fine tt) (Iff·and (short x)
       (Iff·trans (past (isData x) dataBound _ fine tt) (Iff·and (not-data x)
-      (Iff·trans (clear (lambdaNamed x (d .binders)) reusedName tt) (new-name x (d .binders))))))
+      (Iff·trans (clear (isAmong x (d .lambdas)) reusedName tt) (new-name x (d .lambdas))))))
 
 pub let-name-fine : (x : List ℕ) → (letNameFault x ≡ fine) ↔ ((length x ≤ nameBytes) × NotData x)
 unfolding faultNumber letNameFault
@@ -194,7 +193,7 @@ pub seven-lambda : (x : List ℕ) (d : Around) → (lambdaNameFault x d ≡ long
 unfolding faultNumber lambdaNameFault
 seven-lambda x d =
     Iff·trans (hit (isLong x) longName _ (lacks (isData x) dataBound _ longName tt
-    (misses (lambdaNamed x (d .binders)) reusedName longName tt tt))) (long x)
+    (misses (isAmong x (d .lambdas)) reusedName longName tt tt))) (long x)
 
 -- 8: data bound
 pub eight-let : (x : List ℕ) → (letNameFault x ≡ dataBound) ↔ ((length x ≤ nameBytes) × (packed x ≡ packed dataWord))
@@ -205,7 +204,7 @@ pub eight-lambda : (x : List ℕ) (d : Around) → (lambdaNameFault x d ≡ data
 unfolding faultNumber lambdaNameFault
 eight-lambda x d =
     Iff·trans (past (isLong x) longName _ dataBound tt) (Iff·and (short x)
-    (Iff·trans (hit (isData x) dataBound _ (misses (lambdaNamed x (d .binders)) reusedName dataBound tt tt)) (is-data x)))
+    (Iff·trans (hit (isData x) dataBound _ (misses (isAmong x (d .lambdas)) reusedName dataBound tt tt)) (is-data x)))
 
 -- 9: a member, ) or comma that is wrong, or an expression where a member takes no argument
 pub nine-call : (b : Bool) → (callFault b ≡ badCall) ↔ (b ≡ true)
@@ -219,7 +218,7 @@ nine-mark w d = hit w badCall (deep d) (misses (leb openMarks (d .marks)) tooMan
 pub nine-lambda : (w : Bool) (d : Around) → (lambdaFault w d ≡ badCall) ↔ (w ≡ true)
 unfolding faultNumber lambdaFault
 nine-lambda w d =
-    hit w badCall _ (lacks (leb openLambdas (lambdasOf (d .binders))) manyLambdas (deep d) badCall tt
+    hit w badCall _ (lacks (leb openLambdas (length (d .lambdas))) manyLambdas (deep d) badCall tt
     (misses (leb openMarks (d .marks)) tooMany badCall tt tt))
 
 pub nine-name : (w : Bool) (x : List ℕ) → (nameFault w x ≡ badCall) ↔ ((length x ≤ nameBytes) × (w ≡ true))
@@ -231,20 +230,20 @@ unfolding faultNumber literalFault
 nine-number w z = Iff·trans (past (outside z) outOfRange _ badCall tt) (Iff·and (in-range z) (only w badCall tt))
 
 -- 10: a third open \
-pub ten : (w : Bool) (d : Around) → (lambdaFault w d ≡ manyLambdas) ↔ ((w ≡ false) × (openLambdas ≤ lambdasOf (d .binders)))
+pub ten : (w : Bool) (d : Around) → (lambdaFault w d ≡ manyLambdas) ↔ ((w ≡ false) × (openLambdas ≤ length (d .lambdas)))
 unfolding faultNumber lambdaFault
 ten w d =
     Iff·trans (past w badCall _ manyLambdas tt) (Iff·and Iff·rfl
-    (Iff·trans (hit (leb openLambdas (lambdasOf (d .binders))) manyLambdas (deep d) (misses (leb openMarks (d .marks)) tooMany manyLambdas tt tt))
-    (leb-iff openLambdas (lambdasOf (d .binders)))))
+    (Iff·trans (hit (leb openLambdas (length (d .lambdas))) manyLambdas (deep d) (misses (leb openMarks (d .marks)) tooMany manyLambdas tt tt))
+    (leb-iff openLambdas (length (d .lambdas)))))
 
 -- 11: the name of a lambda around
-pub eleven : (x : List ℕ) (d : Around) → (lambdaNameFault x d ≡ reusedName) ↔ ((length x ≤ nameBytes) × (NotData x × (¬ NoLambdaNamed x (d .binders))))
+pub eleven : (x : List ℕ) (d : Around) → (lambdaNameFault x d ≡ reusedName) ↔ ((length x ≤ nameBytes) × (NotData x × (¬ NotAmong x (d .lambdas))))
 unfolding faultNumber lambdaNameFault
 eleven x d =
     Iff·trans (past (isLong x) longName _ reusedName tt) (Iff·and (short x)
     (Iff·trans (past (isData x) dataBound _ reusedName tt) (Iff·and (not-data x)
-    (Iff·trans (only (lambdaNamed x (d .binders)) reusedName tt) (true-not (lambdaNamed x (d .binders)) _ (new-name x (d .binders)))))))
+    (Iff·trans (only (isAmong x (d .lambdas)) reusedName tt) (true-not (isAmong x (d .lambdas)) _ (new-name x (d .lambdas)))))))
 
 -- 12: a 17th open mark; a 129th part is in number-means
 pub twelve : (d : Around) → (deep d ≡ tooMany) ↔ (openMarks ≤ d .marks)
@@ -255,8 +254,8 @@ pub twelve-mark : (w : Bool) (d : Around) → (markFault w d ≡ tooMany) ↔ ((
 unfolding faultNumber markFault
 twelve-mark w d = Iff·trans (past w badCall (deep d) tooMany tt) (Iff·and Iff·rfl (twelve d))
 
-pub twelve-lambda : (w : Bool) (d : Around) → (lambdaFault w d ≡ tooMany) ↔ ((w ≡ false) × ((lambdasOf (d .binders) < openLambdas) × (openMarks ≤ d .marks)))
+pub twelve-lambda : (w : Bool) (d : Around) → (lambdaFault w d ≡ tooMany) ↔ ((w ≡ false) × ((length (d .lambdas) < openLambdas) × (openMarks ≤ d .marks)))
 unfolding faultNumber lambdaFault
 twelve-lambda w d =
     Iff·trans (past w badCall _ tooMany tt) (Iff·and Iff·rfl
-    (Iff·trans (past (leb openLambdas (lambdasOf (d .binders))) manyLambdas (deep d) tooMany tt) (Iff·and (not-leb-iff openLambdas (lambdasOf (d .binders))) (twelve d))))
+    (Iff·trans (past (leb openLambdas (length (d .lambdas))) manyLambdas (deep d) tooMany tt) (Iff·and (not-leb-iff openLambdas (length (d .lambdas))) (twelve d))))

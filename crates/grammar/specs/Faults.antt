@@ -7,6 +7,7 @@ use mathlib.Core.List.{List, [], _∷_}
 use Prim.Native.Nat.{ℕ, zero, suc, _-_}
 use lib.Dec.{leb, eqb}
 use lib.IntN.{ℤ}
+use lib.ListN.{length}
 use lib.Signed.{ltZ}
 use Rattle.language.specs.Limits.{textParts, openMarks, openLambdas, leastNumber, mostNumber}
 use Rattle.language.specs.Names.{sameName, isLong, isData}
@@ -28,38 +29,24 @@ faultNumber manyLambdas = 10
 faultNumber reusedName = 11
 faultNumber tooMany = 12
 
--- where an expression stands: how many of let, \ and ( are open, and the names bound around it
-pub data Binder : Type 0 where
-  byLet : List ℕ → Binder
-  byLambda : List ℕ → Binder
-
+-- where an expression stands: how many of let, \ and ( are open, and the names of the lambdas around it, also where a let hides them
 pub record Around : Type 0 where
   pub marks : ℕ
-  pub binders : List Binder
+  pub lambdas : List (List ℕ)
 
 abbrev pub outermost : Around
-outermost = record { marks = 0; binders = [] }
+outermost = record { marks = 0; lambdas = [] }
 
 unfoldable pub opened : Around → Around
-opened d = record { marks = suc (d .marks); binders = d .binders }
-
-unfoldable pub inLet : List ℕ → Around → Around
-inLet x d = record { marks = suc (d .marks); binders = byLet x ∷ d .binders }
+opened d = record { marks = suc (d .marks); lambdas = d .lambdas }
 
 unfoldable pub inLambda : List ℕ → Around → Around
-inLambda x d = record { marks = suc (d .marks); binders = byLambda x ∷ d .binders }
+inLambda x d = record { marks = suc (d .marks); lambdas = x ∷ d .lambdas }
 
--- how many of them are lambdas
-unfoldable pub lambdasOf : List Binder → ℕ
-lambdasOf [] = 0
-lambdasOf (byLet x ∷ bs) = lambdasOf bs
-lambdasOf (byLambda x ∷ bs) = suc (lambdasOf bs)
-
--- the name of a lambda around, also where a let hides it
-unfoldable pub lambdaNamed : List ℕ → List Binder → Bool
-lambdaNamed x [] = false
-lambdaNamed x (byLet y ∷ bs) = lambdaNamed x bs
-lambdaNamed x (byLambda y ∷ bs) = sameName x y || lambdaNamed x bs
+-- one of the names is x
+unfoldable pub isAmong : List ℕ → List (List ℕ) → Bool
+isAmong x [] = false
+isAmong x (y ∷ ys) = sameName x y || isAmong x ys
 
 -- the faults of single tokens; refused: an expression begins where a member takes no argument
 abbrev pub deep : Around → Fault
@@ -69,13 +56,13 @@ unfoldable pub markFault : Bool → Around → Fault
 markFault refused d = cond refused badCall (deep d)
 
 unfoldable pub lambdaFault : Bool → Around → Fault
-lambdaFault refused d = cond refused badCall (cond (leb openLambdas (lambdasOf (d .binders))) manyLambdas (deep d))
+lambdaFault refused d = cond refused badCall (cond (leb openLambdas (length (d .lambdas))) manyLambdas (deep d))
 
 unfoldable pub letNameFault : List ℕ → Fault
 letNameFault x = cond (isLong x) longName (cond (isData x) dataBound fine)
 
 unfoldable pub lambdaNameFault : List ℕ → Around → Fault
-lambdaNameFault x d = cond (isLong x) longName (cond (isData x) dataBound (cond (lambdaNamed x (d .binders)) reusedName fine))
+lambdaNameFault x d = cond (isLong x) longName (cond (isData x) dataBound (cond (isAmong x (d .lambdas)) reusedName fine))
 
 unfoldable pub nameFault : Bool → List ℕ → Fault
 nameFault refused x = cond (isLong x) longName (cond refused badCall fine)
@@ -96,7 +83,7 @@ plain = note fine false
 -- the notes of a tree's tokens, at d, and then u
 unfoldable mutual
   pub notesE : Expression → Bool → Around → List Note → List Note
-  notesE (letIn x a b) w d u = note (markFault w d) true ∷ note (letNameFault x) false ∷ plain ∷ notesE a false (opened d) (plain ∷ notesE b false (inLet x d) u)
+  notesE (letIn x a b) w d u = note (markFault w d) true ∷ note (letNameFault x) false ∷ plain ∷ notesE a false (opened d) (plain ∷ notesE b false (opened d) u)
   notesE (lambda x b) w d u = note (lambdaFault w d) true ∷ note (lambdaNameFault x d) false ∷ plain ∷ notesE b false (inLambda x d) u
   notesE (name x r) w d u = note (nameFault w x) true ∷ notesC r d u
   notesE (literal z r) w d u = note (literalFault w z) true ∷ notesC r d u

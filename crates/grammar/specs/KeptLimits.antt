@@ -12,7 +12,7 @@ use Rattle.language.specs.Limits.{textParts, openMarks, openLambdas, nameBytes,
 use Rattle.language.specs.Names.{packed, dataWord}
 use Rattle.members.specs.Members.{memberOf, isUnknown, takes}
 use Rattle.grammar.specs.Grammar.{Expression, Calls, Arguments, More, letIn, lambda, name, literal, bracket, done, call, none, first, last, next}
-use Rattle.grammar.specs.Faults.{Binder, byLet, byLambda, Around, outermost, opened, inLet, inLambda, lambdasOf}
+use Rattle.grammar.specs.Faults.{Around, outermost, opened, inLambda}
 
 -- 01: a part is each let, \, ., name in use, and number; brackets make none
 unfoldable mutual
@@ -58,7 +58,7 @@ pub data Site : Type 0 where
 module _ (P : Site → Around → Type 0) where
   abbrev mutual
     pub EverywhereE : Expression → Around → Type 0
-    EverywhereE (letIn x a b) d = P (aLet x) d × EverywhereE a (opened d) × EverywhereE b (inLet x d)
+    EverywhereE (letIn x a b) d = P (aLet x) d × EverywhereE a (opened d) × EverywhereE b (opened d)
     EverywhereE (lambda x b) d = P (aLambda x) d × EverywhereE b (inLambda x d)
     EverywhereE (name x r) d = P (aName x) d × EverywhereC r d
     EverywhereE (literal z r) d = P (aNumber z) d × EverywhereC r d
@@ -76,11 +76,10 @@ module _ (P : Site → Around → Type 0) where
     EverywhereM (last r) d = EverywhereC r d
     EverywhereM (next e x) d = EverywhereE e (opened d) × EverywhereM x d
 
--- no lambda has the name of one around it, also where a let hides that one
-abbrev pub NoLambdaNamed : List ℕ → List Binder → Type 0
-NoLambdaNamed x [] = Unit {0}
-NoLambdaNamed x (byLet y ∷ bs) = NoLambdaNamed x bs
-NoLambdaNamed x (byLambda y ∷ bs) = (¬ (packed x ≡ packed y)) × NoLambdaNamed x bs
+-- none of the names is x
+abbrev pub NotAmong : List ℕ → List (List ℕ) → Type 0
+NotAmong x [] = Unit {0}
+NotAmong x (y ∷ ys) = (¬ (packed x ≡ packed y)) × NotAmong x ys
 
 -- data is not bound
 abbrev pub NotData : List ℕ → Type 0
@@ -95,7 +94,7 @@ InRange z = (leastNumber ≤ℤ z) × (z ≤ℤ mostNumber)
 abbrev pub Limited : Site → Around → Type 0
 Limited (aLet x) d = (d .marks < openMarks) × ((length x ≤ nameBytes) × NotData x)
 Limited (aLambda x) d =
-    ((lambdasOf (d .binders) < openLambdas) × (d .marks < openMarks)) × ((length x ≤ nameBytes) × (NotData x × NoLambdaNamed x (d .binders)))
+    ((length (d .lambdas) < openLambdas) × (d .marks < openMarks)) × ((length x ≤ nameBytes) × (NotData x × NotAmong x (d .lambdas)))
 Limited aBracket d = d .marks < openMarks
 Limited (aName x) d = length x ≤ nameBytes
 Limited (aNumber z) d = InRange z

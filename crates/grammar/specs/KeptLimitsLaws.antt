@@ -11,7 +11,7 @@ use lib.Dec.{leb, eqb}
 use Rattle.language.specs.Limits.{textParts}
 use Rattle.members.specs.Members.{memberOf, isUnknown, takes}
 use Rattle.grammar.specs.Grammar.{Expression, Calls, Arguments, More, letIn, lambda, name, literal, bracket, done, call, none, first, last, next}
-use Rattle.grammar.specs.Faults.{Fault, fine, faultNumber, Around, outermost, opened, inLet, inLambda}
+use Rattle.grammar.specs.Faults.{Fault, fine, faultNumber, Around, outermost, opened, inLambda}
 use Rattle.grammar.specs.Faults.{callFault, Note, note, plain, notesE, notesC, notesA, notesM, orMany, fault, counted, faults, faultsOf, Clean}
 use Rattle.grammar.specs.KeptLimits.{partsE, partsC, partsA, partsM, givenM, givenA, Site, aLet, aLambda, aBracket, aName, aNumber, aCall, EverywhereE, EverywhereC, EverywhereA, EverywhereM}
 use Rattle.grammar.specs.KeptLimits.{Limited, KeepsLimits}
@@ -59,8 +59,8 @@ mutual
 
   parts-E : (e : Expression) (w : Bool) (d : Around) (u : List Note) → partsIn (notesE e w d u) ≡ partsE e + partsIn u
   parts-E (letIn x a b) w d u =
-      let h = parts-E a false (opened d) (plain ∷ notesE b false (inLet x d) u) in
-      let k = parts-E b false (inLet x d) u in omega arith
+      let h = parts-E a false (opened d) (plain ∷ notesE b false (opened d) u) in
+      let k = parts-E b false (opened d) u in omega arith
   parts-E (lambda x b) w d u = let h = parts-E b false (inLambda x d) u in omega arith
   parts-E (name x r) w d u = let h = parts-C r d u in omega arith
   parts-E (literal z r) w d u = let h = parts-C r d u in omega arith
@@ -90,8 +90,8 @@ mutual
 
   fine-E : (e : Expression) (w : Bool) (d : Around) (u : List Note) → AllFine (notesE e w d u) ↔ ((w ≡ false) × EverywhereE Limited e d × AllFine u)
   fine-E (letIn x a b) w d u =
-      let A = fine-E a false (opened d) (plain ∷ notesE b false (inLet x d) u) in
-      let B = fine-E b false (inLet x d) u in (
+      let A = fine-E a false (opened d) (plain ∷ notesE b false (opened d) u) in
+      let B = fine-E b false (opened d) u in (
         λ h.
             let m = mark-fine d w .0 (h .0) in
             let p = A .0 (h .1 .1 .1) in
@@ -173,7 +173,7 @@ mutual
 module _ (P Q R : Site → Around → Type 0) (f : (s : Site) (d : Around) → P s d → Q s d → R s d) where
   mutual
     pub weave-E : (e : Expression) (d : Around) → EverywhereE P e d → EverywhereE Q e d → EverywhereE R e d
-    weave-E (letIn x a b) d p q = (f (aLet x) d (p .0) (q .0), weave-E a (opened d) (p .1) (q .1), weave-E b (inLet x d) (p .2) (q .2))
+    weave-E (letIn x a b) d p q = (f (aLet x) d (p .0) (q .0), weave-E a (opened d) (p .1) (q .1), weave-E b (opened d) (p .2) (q .2))
     weave-E (lambda x b) d p q = (f (aLambda x) d (p .0) (q .0), weave-E b (inLambda x d) (p .1) (q .1))
     weave-E (name x r) d p q = (f (aName x) d (p .0) (q .0), weave-C r d (p .1) (q .1))
     weave-E (literal z r) d p q = (f (aNumber z) d (p .0) (q .0), weave-C r d (p .1) (q .1))

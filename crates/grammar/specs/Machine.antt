@@ -10,7 +10,7 @@ use Rattle.members.specs.Members.{memberOf, isUnknown, takes}
 use Rattle.grammar.specs.Tokens.{Token, kLet, kIn, kEquals, kLambda, kArrow, kDot, kOpen, kShut, kComma, word, number, other}
 use Rattle.grammar.specs.Grammar.{Expression, Calls, Arguments, More, letIn, lambda, name, literal, bracket, done, call, none, first, last, next}
 use Rattle.grammar.specs.Grammar.{spellE, spellC, spellA, spellM}
-use Rattle.grammar.specs.Faults.{fine, Around, outermost, opened, inLet, inLambda, deep, markFault, lambdaFault, letNameFault, lambdaNameFault}
+use Rattle.grammar.specs.Faults.{fine, Around, outermost, opened, inLambda, deep, markFault, lambdaFault, letNameFault, lambdaNameFault}
 use Rattle.grammar.specs.Faults.{nameFault, literalFault, callFault, Note, note, plain, notesE, notesC, notesA, notesM, fault, counted}
 use Rattle.grammar.specs.Reading.{Reading, tree, refused, placeOf, tokensOf}
 
@@ -88,8 +88,8 @@ spell (at p F) q = spellOwn p (q .0) (spellOuter F (q .1))
 -- and their notes
 unfoldable pub notesOwn : (p : Phase) → Own p → List Note → List Note
 notesOwn (expression w d) q u = notesE q w d u
-notesOwn (letName d) q u = note (letNameFault (q .0)) false ∷ plain ∷ notesE (q .1) false (opened d) (plain ∷ notesE (q .2) false (inLet (q .0) d) u)
-notesOwn (letEquals x d) q u = plain ∷ notesE (q .0) false (opened d) (plain ∷ notesE (q .1) false (inLet x d) u)
+notesOwn (letName d) q u = note (letNameFault (q .0)) false ∷ plain ∷ notesE (q .1) false (opened d) (plain ∷ notesE (q .2) false (opened d) u)
+notesOwn (letEquals x d) q u = plain ∷ notesE (q .0) false (opened d) (plain ∷ notesE (q .1) false (opened d) u)
 notesOwn (lambdaName d) q u = note (lambdaNameFault (q .0) d) false ∷ plain ∷ notesE (q .1) false (inLambda (q .0) d) u
 notesOwn (lambdaArrow x d) q u = plain ∷ notesE q false (inLambda x d) u
 notesOwn (calls d) q u = notesC q d u
@@ -100,7 +100,7 @@ notesOwn over q u = u
 
 unfoldable pub notesOuter : (F : List Frame) → Outer F → List Note
 notesOuter [] o = []
-notesOuter (value x d ∷ F) o = plain ∷ notesE (o .0) false (inLet x d) (notesOuter F (o .1))
+notesOuter (value x d ∷ F) o = plain ∷ notesE (o .0) false (opened d) (notesOuter F (o .1))
 notesOuter (brackets d ∷ F) o = plain ∷ notesC (o .0) d (notesOuter F (o .1))
 notesOuter (argument k d ∷ F) o = notesM (o .0) k d (notesOuter F (o .1))
 
@@ -204,7 +204,7 @@ unfoldable pub stepOver : (F : List Frame) (t : Token) → Step (at over F) t
 unfolding spell notes
 stepOver F kLet = stop
 stepOver [] kIn = stop
-stepOver (value x d ∷ F) kIn = go plain (at (expression false (inLet x d)) F) (λ q. (tt, q)) (λ q. refl) (λ q. refl)
+stepOver (value x d ∷ F) kIn = go plain (at (expression false (opened d)) F) (λ q. (tt, q)) (λ q. refl) (λ q. refl)
 stepOver (brackets d ∷ F) kIn = stop
 stepOver (argument k d ∷ F) kIn = stop
 stepOver F kEquals = stop

@@ -26,7 +26,7 @@ scan-rises (b ∷ bs) (suc n) start end e = rises-sooner start end (scan n (suc 
 scan-rises (b ∷ bs) zero start end e =
     by-test (Rises start end) (isBlank b) _ _
     (λ _. rises-sooner start end (scan zero (suc start) bs) (scan-rises bs zero (suc start) end (omega arith)))
-    (λ _. (omega arith, scan-rises bs (tokenAt b bs .width - 1) (suc start) end (omega arith)))
+    (λ _. (omega arith, scan-rises bs (tokenAt b bs .1 - 1) (suc start) end (omega arith)))
 
 place-from : (start end : ℕ) (xs : List Located) (j : ℕ) → Rises start end xs → start ≤ placeIn xs end j
 unfolding placeIn

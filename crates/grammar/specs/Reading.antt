@@ -1,8 +1,8 @@
 -- 01, "When a call is declined", refusals 5 to 12: what it means that tokens, and a text, are read as a tree or refused at a place.
 -- Assumes nothing: these are definitions. That the reader of Machine does just this is in Theorems.
 use mathlib.Core.Path.{_≡_}
-use mathlib.Core.List.{List, [], _∷_, map}
-use Prim.Native.Nat.{ℕ, zero, suc}
+use mathlib.Core.List.{List, [], map}
+use Prim.Native.Nat.{ℕ, suc}
 use lib.ListN.{length, take, getD}
 use Rattle.grammar.specs.Tokens.{Token, Located, tokens}
 use Rattle.grammar.specs.Grammar.{Expression, spellE, Spells}
@@ -37,9 +37,7 @@ pub data Reading : Type 0 where
 
 -- the byte place of token j; the end's place is the text's length
 unfoldable pub placeIn : List Located → ℕ → ℕ → ℕ
-placeIn [] end j = end
-placeIn (x ∷ xs) end zero = x .place
-placeIn (x ∷ xs) end (suc j) = placeIn xs end j
+placeIn xs end j = getD (map (λ (x : Located). x .place) xs) j end
 
 abbrev pub placeOf : List ℕ → ℕ → ℕ
 placeOf text j = placeIn (tokens text) (length text) j

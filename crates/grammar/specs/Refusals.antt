@@ -19,9 +19,9 @@ use Rattle.grammar.specs.Machine.{readText}
 
 -- the reading of a text as a definition that computes
 unfoldable pub computed : List ℕ → Reading
-unfolding Names.bytes Names.packOnto Names.letWord Names.inWord! Names.dataWord Names.isData Members.row Members.sameBytes Members.namedIn
+unfolding Names.bytes Names.packOnto Names.letWord Names.inWord! Names.dataWord Names.isData Members.spelled Members.arguments Members.sameBytes Members.namedIn
     Members.memberOf Members.takes Tokens.when Tokens.leading Tokens.decimalOnto Tokens.wordToken Tokens.wordAt Tokens.digitsAt Tokens.minusAt
-    Tokens.markToken Tokens.tokenAt Tokens.scan Faults.faultNumber Faults.opened Faults.inLet Faults.inLambda Faults.lambdasOf Faults.lambdaNamed
+    Tokens.markToken Tokens.tokenAt Tokens.scan Faults.faultNumber Faults.opened Faults.inLambda Faults.isAmong
     Faults.markFault Faults.lambdaFault Faults.letNameFault Faults.lambdaNameFault Faults.nameFault Faults.literalFault Faults.callFault Faults.fault
     Faults.counted Reading.placeIn Machine.step Machine.finish Machine.further Machine.ended Machine.judge Machine.readFrom Machine.read Machine.readText
 computed t = readText t

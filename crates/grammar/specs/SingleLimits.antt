@@ -7,13 +7,13 @@ use lib.ListN.{length}
 use Rattle.language.specs.Limits.{openLambdas, nameBytes}
 use Rattle.members.specs.Members.{memberOf, isUnknown, takes}
 use Rattle.grammar.specs.Grammar.{Expression}
-use Rattle.grammar.specs.Faults.{Around, outermost, lambdasOf}
-use Rattle.grammar.specs.KeptLimits.{Site, aLet, aLambda, aBracket, aName, aNumber, aCall, EverywhereE, NoLambdaNamed, NotData, InRange}
+use Rattle.grammar.specs.Faults.{Around, outermost}
+use Rattle.grammar.specs.KeptLimits.{Site, aLet, aLambda, aBracket, aName, aNumber, aCall, EverywhereE, NotAmong, NotData, InRange}
 
 -- at most 2 of \ are open
 abbrev pub FewLambdas : Site → Around → Type 0
 FewLambdas (aLet x) d = Unit {0}
-FewLambdas (aLambda x) d = lambdasOf (d .binders) < openLambdas
+FewLambdas (aLambda x) d = length (d .lambdas) < openLambdas
 FewLambdas aBracket d = Unit {0}
 FewLambdas (aName x) d = Unit {0}
 FewLambdas (aNumber z) d = Unit {0}
@@ -22,7 +22,7 @@ FewLambdas (aCall m n) d = Unit {0}
 -- no lambda has the name of one around it, also where a let hides that one
 abbrev pub NewLambdas : Site → Around → Type 0
 NewLambdas (aLet x) d = Unit {0}
-NewLambdas (aLambda x) d = NoLambdaNamed x (d .binders)
+NewLambdas (aLambda x) d = NotAmong x (d .lambdas)
 NewLambdas aBracket d = Unit {0}
 NewLambdas (aName x) d = Unit {0}
 NewLambdas (aNumber z) d = Unit {0}

@@ -35,12 +35,8 @@ abbrev pub decimal : List ℕ → ℕ
 decimal ds = decimalOnto 0 ds
 
 -- a token, and how many bytes it has
-pub record Lexeme : Type 0 where
-  pub token : Token
-  pub width : ℕ
-
-abbrev pub lexeme : Token → ℕ → Lexeme
-lexeme t n = record { token = t; width = n }
+abbrev pub Lexeme : Type 0
+Lexeme = Token × ℕ
 
 -- let and in are never names or members
 unfoldable pub wordToken : List ℕ → Token
@@ -48,19 +44,19 @@ wordToken w = cond (sameBytes w letWord) kLet (cond (sameBytes w inWord!) kIn (w
 
 -- a word is a letter, then letters and digits
 unfoldable pub wordAt : List ℕ → Lexeme
-wordAt t = let n : ℕ = leading inWord t in lexeme (wordToken (take n t)) n
+wordAt t = let n : ℕ = leading inWord t in (wordToken (take n t), n)
 
 -- a number is decimal digits; leading zeros are allowed
 unfoldable pub digitsAt : List ℕ → Lexeme
-digitsAt t = let n : ℕ = leading isDigit t in lexeme (number (pos (decimal (take n t)))) n
+digitsAt t = let n : ℕ = leading isDigit t in (number (pos (decimal (take n t))), n)
 
 -- after a minus sign: digits directly behind it, or the rest of an arrow
 unfoldable pub minusAt : List ℕ → Lexeme
-minusAt [] = lexeme (other 45) 1
+minusAt [] = (other 45, 1)
 minusAt (b ∷ bs) =
     when (isDigit b)
-    (λ _. let n : ℕ = leading isDigit (b ∷ bs) in lexeme (number (negℤ (pos (decimal (take n (b ∷ bs)))))) (suc n))
-    (λ _. cond (eqb b 62) (lexeme kArrow 2) (lexeme (other 45) 1))
+    (λ _. let n : ℕ = leading isDigit (b ∷ bs) in (number (negℤ (pos (decimal (take n (b ∷ bs))))), suc n))
+    (λ _. cond (eqb b 62) (kArrow, 2) (other 45, 1))
 
 -- the tokens of one byte: = \ . ( ) ,
 unfoldable pub markToken : ℕ → Token
@@ -79,7 +75,7 @@ tokenAt b bs =
     when (isLetter b) (λ _. wordAt (b ∷ bs))
     (λ _. when (isDigit b) (λ _. digitsAt (b ∷ bs))
     (λ _. when (eqb b 45) (λ _. minusAt bs)
-    (λ _. lexeme (markToken b) 1)))
+    (λ _. (markToken b, 1))))
 
 -- a token and the place of its first byte
 pub record Located : Type 0 where
@@ -93,7 +89,7 @@ scan (suc n) at (b ∷ bs) = scan n (suc at) bs
 scan zero at (b ∷ bs) =
     when (isBlank b)
     (λ _. scan zero (suc at) bs)
-    (λ _. let x : Lexeme = tokenAt b bs in record { token = x .token; place = at } ∷ scan (x .width - 1) (suc at) bs)
+    (λ _. let x : Lexeme = tokenAt b bs in record { token = x .0; place = at } ∷ scan (x .1 - 1) (suc at) bs)
 
 -- of a whole text
 abbrev pub tokens : List ℕ → List Located

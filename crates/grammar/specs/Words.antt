@@ -15,7 +15,7 @@ use Rattle.grammar.specs.Tokens.{Lexeme, wordToken, wordAt, digitsAt, mi
 use Rattle.grammar.specs.TokensLaws.{by-test, leading-each}
 use Rattle.grammar.specs.Grammar.{Expression, Calls, Arguments, More, letIn, lambda, name, literal, bracket, done, call, none, first, last, next}
 use Rattle.grammar.specs.Grammar.{spellE, spellC, spellA, spellM}
-use Rattle.grammar.specs.Faults.{Around, outermost, opened, inLet, inLambda}
+use Rattle.grammar.specs.Faults.{Around, outermost, opened, inLambda}
 use Rattle.grammar.specs.KeptLimits.{Site, aLet, aLambda, aBracket, aName, aNumber, aCall, EverywhereE, EverywhereC, EverywhereA, EverywhereM}
 use Rattle.grammar.specs.Reading.{tree}
 use Rattle.grammar.specs.Machine.{readText}
@@ -63,7 +63,7 @@ word-token w b v e l r =
     (λ x. rw x tt)
     (λ x. rw x (split (sameBytes w inWord!) (λ y. rw y tt) (λ y. rw y (record { head = b; tail = v; is = e; letter = l; rest = r; no-let = x; no-in = y }))))
 
-word-at : (b : ℕ) (bs : List ℕ) → isLetter b ≡ true → WordToken (wordAt (b ∷ bs) .token)
+word-at : (b : ℕ) (bs : List ℕ) → isLetter b ≡ true → WordToken (wordAt (b ∷ bs) .0)
 unfolding wordAt leading when
 word-at b bs h =
     let q = letter-word b h in
@@ -76,15 +76,15 @@ mark-token b =
     (λ _. by-cond WordToken (eqb b 46) kDot _ (λ _. tt) (λ _. by-cond WordToken (eqb b 40) kOpen _ (λ _. tt)
     (λ _. by-cond WordToken (eqb b 41) kShut _ (λ _. tt) (λ _. by-cond WordToken (eqb b 44) kComma (other b) (λ _. tt) (λ _. tt))))))
 
-minus-at : (bs : List ℕ) → WordToken (minusAt bs .token)
+minus-at : (bs : List ℕ) → WordToken (minusAt bs .0)
 unfolding minusAt
 minus-at [] = tt
-minus-at (b ∷ bs) = by-test (λ (x : Lexeme). WordToken (x .token)) (isDigit b) _ _ (λ _. tt) (λ _. split (eqb b 62) (λ e. rw e tt) (λ e. rw e tt))
+minus-at (b ∷ bs) = by-test (λ (x : Lexeme). WordToken (x .0)) (isDigit b) _ _ (λ _. tt) (λ _. split (eqb b 62) (λ e. rw e tt) (λ e. rw e tt))
 
-token-at : (b : ℕ) (bs : List ℕ) → WordToken (tokenAt b bs .token)
+token-at : (b : ℕ) (bs : List ℕ) → WordToken (tokenAt b bs .0)
 unfolding tokenAt digitsAt
 token-at b bs =
-    let P : Lexeme → Type 0 = λ x. WordToken (x .token) in
+    let P : Lexeme → Type 0 = λ x. WordToken (x .0) in
     by-test P (isLetter b) _ _ (word-at b bs) (λ _.
     by-test P (isDigit b) _ _ (λ _. tt) (λ _. by-test P (eqb b 45) _ _ (λ _. minus-at bs) (λ _. mark-token b)))
 
@@ -94,7 +94,7 @@ scan-words [] inside at = tt
 scan-words (b ∷ bs) (suc n) at = scan-words bs n (suc at)
 scan-words (b ∷ bs) zero at =
     by-test (λ xs. WordTokens (map (λ (x : Located). x .token) xs)) (isBlank b) _ _ (λ _. scan-words bs zero (suc at))
-    (λ _. (token-at b bs, scan-words bs (tokenAt b bs .width - 1) (suc at)))
+    (λ _. (token-at b bs, scan-words bs (tokenAt b bs .1 - 1) (suc at)))
 
 -- the sites of a tree whose names are read as parts
 abbrev pub Worded : Site → Around → Type 0
@@ -111,7 +111,7 @@ mutual
   worded-E : (e : Expression) (d : Around) (u : List Token) → WordTokens (spellE e u) → EverywhereE Worded e d × WordTokens u
   worded-E (letIn x a b) d u h =
       let A = worded-E a (opened d) (kIn ∷ spellE b u) (h .1 .1 .1) in
-      let B = worded-E b (inLet x d) u (A .1 .1) in
+      let B = worded-E b (opened d) u (A .1 .1) in
       ((tt, A .0, B .0), B .1)
   worded-E (lambda x b) d u h = let B = worded-E b (inLambda x d) u (h .1 .1 .1) in ((h .1 .0, B .0), B .1)
   worded-E (name x r) d u h = let C = worded-C r d u (h .1) in ((h .0, C .0), C .1)

@@ -29,12 +29,8 @@ abbrev pub PreviewRefusal : (number : ℕ) → Type 0
 PreviewRefusal n = ((n ≡ 3) ⊎ (n ≡ 4)) ⊎ (n ≡ 14)
 
 -- the answer to an edit that was accepted
-pub record IsEdited (x : Reply) : Type 0 where
-  pub whole : ℕ
-  pub parts : ℕ
-  pub added : ℕ
-  pub numbers : List ℕ
-  pub is : x ≡ edited whole parts added numbers
+abbrev pub IsEdited : Reply → Type 0
+IsEdited x = (whole : ℕ) × (parts : ℕ) × (added : ℕ) × (numbers : List ℕ) × (x ≡ edited whole parts added numbers)
 
 -- none of 1, 3 and 4 comes up
 pub record Ready (m : Memory) (places text : List ℕ) : Type 0 where
@@ -51,15 +47,9 @@ pub record CanBind (m : Memory) (places text : List ℕ) : Type 0 where
   pub held : length (boundTo m (recordsOf expression) .nodes) ≤ tableEntries
 
 -- a text of the language: short enough, and its tokens are spelled by a tree that keeps the limits
-pub record InLanguage (text : List ℕ) : Type 0 where
-  pub short : length text ≤ textBytes
-  pub expression : Expression
-  pub spelled : Spells expression (tokensOf text)
-  pub kept : KeepsLimits expression
+abbrev pub InLanguage : (text : List ℕ) → Type 0
+InLanguage text = (length text ≤ textBytes) × ((e : Expression) × Spells e (tokensOf text) × KeepsLimits e)
 
 -- declined for its text: too long, or refused by the reader
-pub record TextDeclined (x : Reply) : Type 0 where
-  pub number : ℕ
-  pub place : ℕ
-  pub is : x ≡ refused number place
-  pub of-text : (number ≡ 1) ⊎ ((5 ≤ number) × (number ≤ 12))
+abbrev pub TextDeclined : Reply → Type 0
+TextDeclined x = (number : ℕ) × (place : ℕ) × (x ≡ refused number place) × ((number ≡ 1) ⊎ ((5 ≤ number) × (number ≤ 12)))

@@ -60,7 +60,7 @@ not-little m places text q c = sym q ∙ rw (c .whole, le-leb textParts (length 
 
 -- a refusal is no accepted edit
 not-edited : {x : Reply} {n at : ℕ} → x ≡ refused n at → IsEdited x → false ≡ true
-not-edited e h = let z = h .is in cc
+not-edited e h = let z = h .4 in cc
 
 -- what is read is one thing
 same-tree : (m : Memory) (text : List ℕ) (e e′ : Expression) → readText text ≡ tree e → readText text ≡ tree e′
@@ -97,27 +97,27 @@ edit-refusals m places text n at h = by (edit-outcome m places text)
     by (EditOutcome.taken t r u l e) = impossible (not-edited h e)
 
 read-in : (text : List ℕ) (e : Expression) → length text ≤ textBytes → readText text ≡ tree e → InLanguage text
-read-in text e l h = let r = text-read-plainly text e .0 h in record { short = l; expression = e; spelled = r .0; kept = r .1 }
+read-in text e l h = let r = text-read-plainly text e .0 h in (l, (e, r .0, r .1))
 
 not-read : (text : List ℕ) (n at : ℕ) → readText text ≡ refusedAt n at → ¬ InLanguage text
-not-read text n at h i = let z = text-read-plainly text (i .expression) .1 (i .spelled, i .kept) in impossible (cc)
+not-read text n at h i = let z = text-read-plainly text (i .1 .0) .1 (i .1 .1, i .1 .2) in impossible (cc)
 
 -- refusal 13 is none of the text's
 full-not : {x : Reply} → x ≡ refused 13 0 → ¬ TextDeclined x
-full-not e h = let z = h .is in let n : h .number ≡ 13 = cc in ⊎-elim (λ p. omega arith) (λ p. omega arith) (h .of-text)
+full-not e h = let z = h .2 in let n : h .0 ≡ 13 = cc in ⊎-elim (λ p. omega arith) (λ p. omega arith) (h .3)
 
 pub text-declined : (m : Memory) (places text : List ℕ) → fits m ≡ true → textParts ≤ length places → wellFormed m ≡ true
     → TextDeclined (editAnswer m places text) ↔ (¬ InLanguage text)
 text-declined m places text f room w = by (edit-outcome m places text)
   where
     by : EditOutcome m places text → TextDeclined (editAnswer m places text) ↔ (¬ InLanguage text)
-    by (EditOutcome.long l e) = (λ h i. let z = i .short in omega arith, λ h. record { number = 1; place = 0; is = e; of-text = inl refl })
+    by (EditOutcome.long l e) = (λ h i. let z = i .0 in omega arith, λ h. (1, 0, e, inl refl))
     by (EditOutcome.little q e) = impossible (sym q ∙ rw (f, le-leb textParts (length places) room))
     by (EditOutcome.ill v e) = impossible (sym v ∙ w)
     by (EditOutcome.unread n at r u e) =
-        (λ h. not-read text n at u, λ h. record { number = n; place = at; is = e; of-text = inr (unread-range text n at u .0) })
+        (λ h. not-read text n at u, λ h. (n, at, e, inr (unread-range text n at u .0)))
     by (EditOutcome.full t r u l e) = (λ h. absurd (full-not e h), λ h. absurd (h (read-in text t (r .short) u)))
-    by (EditOutcome.taken t r u l e) = (λ h. impossible (not-edited (h .is) e), λ h. absurd (h (read-in text t (r .short) u)))
+    by (EditOutcome.taken t r u l e) = (λ h. impossible (not-edited (h .2) e), λ h. absurd (h (read-in text t (r .short) u)))
 
 -- ---- preview
 

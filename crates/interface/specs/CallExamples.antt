@@ -17,6 +17,7 @@ use Rattle.layout.specs.Links
 use Rattle.layout.specs.Links.{valueAt}
 use Rattle.layout.specs.Memory
 use Rattle.layout.specs.Memory.{Memory}
+use Rattle.model.specs.Decoding
 use Rattle.layout.specs.Nodes
 use Rattle.table.specs.WellFormed
 use Rattle.table.specs.Waits
@@ -66,14 +67,14 @@ pub record Outcome : Type 0 where
 -- of entry n with an allowance, over a cache; then of an open with two readings
 unfoldable pub outcome : Memory → ℕ → ℕ → Outcome
 unfolding Calls.openMemory Calls.previewed Calls.previewMemory Calls.partOf Memory.fits Memory.nodeAt Memory.keptAt Memory.entriesFrom
-    Nodes.memberOfKind Members.memberAt Members.row Names.bytes Nodes.arity Nodes.kids Nodes.sameNode Nodes.wordNumber Nodes.isName
+    Nodes.memberOfKind Members.memberAt Members.spelled Members.arguments Names.bytes Nodes.arity Nodes.kids Nodes.sameNode Nodes.wordNumber Nodes.isName
     WellFormed.wellFormed WellFormed.every WellFormed.keyRight WellFormed.arityRight WellFormed.hasNode WellFormed.distinct
-    WellFormed.awaitedBy WellFormed.awaitedAfter WellFormed.doneAt WellFormed.allDone WellFormed.namesRight WellFormed.keptRight
+    Decoding.decodeFrom Nodes.build Evaluation.awaited WellFormed.doneAt WellFormed.allDone WellFormed.namesRight WellFormed.keptRight
     Packing.isPacked Evaluation.hasName Evaluation.joined Evaluation.without Works.worked Works.workFrom Works.chosen Works.needOf
     Works.needFrom Works.raised Works.nameFor Works.otherFor Works.showOf Waits.waitsFrom Waits.waitsAt Waits.joinedSlots
     Waits.withoutSlot Frames.startFrom Frames.startAt Frames.leafOf Links.keptWith Applying.applyAt Applying.planOf Applying.finishOf
-    Applying.askOf Applying.callOf Applying.followOf Applying.boundedOf Applied.applied1 Applied.ruled1 Applied.ruledWindow Apply.apply0
-    Apply.rule0 Rules.onWindow Rules.ofWindow Rules.rule Windows.total Values.ranged Packing.unpackOf
+    Applying.askOf Applying.callOf Applying.followOf Applying.boundedOf Applied.applied1 Apply.apply0 Apply.apply1
+    Rules.rule Windows.total Values.ranged Packing.unpackOf
 outcome m n a =
     let after : Memory = previewMemory m n a in
     let anew : Memory = openMemory after (pos 7 ∷ pos 8 ∷ []) in

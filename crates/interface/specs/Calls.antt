@@ -13,9 +13,9 @@ use Rattle.records.specs.Records.{Recorded, recordsOf}
 use Rattle.model.specs.Model.{refused, opened, edited, written}
 use Rattle.formulas.specs.Formulas.{formulas}
 use Rattle.rules.specs.declared.Value.{Value}
-use Rattle.rules.specs.declared.Value.the-variants.{Number, Window, Function, Delayed, Missing}
+use Rattle.rules.specs.Values.{ifWindow}
 use Rattle.values.specs.Packing.{unpackOf}
-use Rattle.layout.specs.Memory.{Memory, fits, entryCount, readingCount, recordingOf, entriesOf, nodesOf}
+use Rattle.layout.specs.Memory.{Memory, memory, fits, entryCount, readingCount, recordingOf, entriesOf, nodesOf}
 use Rattle.table.specs.WellFormed.{doneAt, wellFormed}
 use Rattle.table.specs.Bind.{Bound, bindAll, appendAll}
 use Rattle.evaluator.specs.Frames.{startAt}
@@ -29,23 +29,14 @@ unfoldable pub openAnswer : Memory → List ℤ → Reply
 openAnswer m r = cond (ltb tableReadings (length r)) (refused 2 0) (cond (fits m) opened (refused 3 0))
 
 abbrev pub openedMemory : Memory → List ℤ → Memory
-openedMemory m r =
-    record {
-      readings = r ++ drop (length r) (m .readings);
-      heads = set (set (m .heads) 0 0) 1 (length r);
-      links = m .links;
-      cells = m .cells;
-    }
+openedMemory m r = memory (r ++ drop (length r) (m .readings)) (set (set (m .heads) 0 0) 1 (length r)) (m .links) (m .cells)
 
 unfoldable pub openMemory : Memory → List ℤ → Memory
 openMemory m r = cond (not (ltb tableReadings (length r)) && fits m) (openedMemory m r) m
 
 -- Edit: the records of the text are bound to the entries held.
-abbrev pub held : Memory → Bound
-held m = record { nodes = nodesOf (entriesOf m); numbers = [] }
-
 abbrev pub boundTo : Memory → Recorded → Bound
-boundTo m R = bindAll (held m) (R .records)
+boundTo m R = bindAll (record { nodes = nodesOf (entriesOf m); numbers = [] }) (R .records)
 
 -- 01, refusal 13: entries held plus new forms exceed 512
 abbrev pub tooMany : Bound → Bool
@@ -94,7 +85,7 @@ abbrev pub workOn : Memory → ℕ → ℕ → Work
 workOn m n a = worked (recordingOf m) (m .links) (m .cells) n a
 
 abbrev pub workedMemory : Memory → Work → Memory
-workedMemory m w = record { readings = m .readings; heads = m .heads; links = m .links; cells = w .cells }
+workedMemory m w = memory (m .readings) (m .heads) (m .links) (w .cells)
 
 -- what the entry shows, unless some of the work is left
 abbrev pub previewedAs : Memory → ℕ → Work → Previewed
@@ -121,11 +112,7 @@ pub record Part : Type 0 where
   pub length : ℕ
 
 abbrev pub windowIn : Value → Part
-windowIn (Window s l) = record { start = s; length = l }
-windowIn (Number z) = record { start = 0; length = 0 }
-windowIn Function = record { start = 0; length = 0 }
-windowIn Delayed = record { start = 0; length = 0 }
-windowIn (Missing r) = record { start = 0; length = 0 }
+windowIn v = ifWindow {A = Part} (record { start = 0; length = 0 }) v (λ s l. record { start = s; length = l })
 
 -- 01, "Four calls": the empty part where the entry is not worked out or does not exist, or the cache is refused
 unfoldable pub partOf : Memory → ℕ → Part

@@ -8,13 +8,14 @@ use Prim.Native.Nat.{ℕ}
 use lib.IntN.{pos}
 use lib.ListN.{replicate, drop, length}
 use Rattle.language.specs.Names.{bytes, packOnto, letWord, inWord!, dataWord}
-use Rattle.members.specs.Members.{row, memberAt}
+use Rattle.members.specs.Members.{arguments, spelled, memberAt}
 use Rattle.values.specs.Packing.{delayedCell, isPacked}
-use Rattle.meaning.specs.Evaluation.{hasName, joined, without}
+use Rattle.meaning.specs.Evaluation.{hasName, joined, without, awaited}
+use Rattle.model.specs.Decoding.{decodeFrom}
 use Rattle.model.specs.Model.{refused}
 use Rattle.layout.specs.Memory.{Memory, fits, nodeAt, keptAt, entriesFrom}
-use Rattle.layout.specs.Nodes.{kindCount, memberOfKind, arity, kids, sameNode, wordNumber, isName}
-use Rattle.table.specs.WellFormed.{every, keyRight, arityRight, hasNode, distinct, awaitedBy, awaitedAfter, doneAt, allDone, namesRight, keptRight, wellFormed}
+use Rattle.layout.specs.Nodes.{kindCount, memberOfKind, arity, kids, sameNode, build, wordNumber, isName}
+use Rattle.table.specs.WellFormed.{every, keyRight, arityRight, hasNode, distinct, doneAt, allDone, namesRight, keptRight, wellFormed}
 use Rattle.interface.specs.Calls.{editAnswer, previewed, previewAnswer}
 
 -- links and cells of entries, in memory of the cache's size, over a recording of five readings
@@ -68,7 +69,7 @@ caches =
 
 pub caches-judged : map wellFormed caches ≡ true ∷ true ∷ true ∷ true ∷ replicate 13 false
 unfolding wellFormed every nodeAt keptAt entriesFrom memberOfKind memberAt arity kids sameNode wordNumber isName keyRight arityRight hasNode distinct
-    awaitedBy awaitedAfter doneAt allDone namesRight keptRight isPacked row bytes packOnto letWord inWord! dataWord hasName joined without
+    decodeFrom build awaited doneAt allDone namesRight keptRight isPacked spelled arguments bytes packOnto letWord inWord! dataWord hasName joined without
 caches-judged = refl
 
 -- the same cache, lent without its links
@@ -82,6 +83,6 @@ pub refusals-ordered :
     ∷ editAnswer itself (replicate 128 0) [] ∷ previewAnswer cut 9 1 ∷ previewAnswer itself 9 1 ∷ []
     ≡ refused 1 0 ∷ refused 3 0 ∷ refused 3 0 ∷ refused 4 0 ∷ refused 3 0 ∷ refused 4 0 ∷ []
 unfolding editAnswer previewed fits wellFormed every nodeAt keptAt entriesFrom memberOfKind memberAt arity kids sameNode wordNumber isName keyRight
-    arityRight hasNode distinct awaitedBy awaitedAfter doneAt allDone namesRight keptRight isPacked row bytes packOnto letWord inWord! dataWord
+    arityRight hasNode distinct decodeFrom build awaited doneAt allDone namesRight keptRight isPacked spelled arguments bytes packOnto letWord inWord! dataWord
     hasName joined without
 refusals-ordered = refl

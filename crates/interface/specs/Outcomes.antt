@@ -39,7 +39,7 @@ open-outcome m r =
 -- ---- edit
 
 pub is-edited : {x : Reply} {w p k : ℕ} {ns : List ℕ} → x ≡ edited w p k ns → IsEdited x
-is-edited {x} {w} {p} {k} {ns} e = record { whole = w; parts = p; added = k; numbers = ns; is = e }
+is-edited {x} {w} {p} {k} {ns} e = (w, p, k, ns, e)
 
 pub data EditOutcome (m : Memory) (places text : List ℕ) : Type 0 where
   long : textBytes < length text → editAnswer m places text ≡ refused 1 0 → EditOutcome m places text

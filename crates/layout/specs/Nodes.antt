@@ -7,10 +7,10 @@ use lib.IntN.{ℤ, pos, _-ℤ_}
 use lib.ListN.{length}
 use Rattle.language.specs.Limits.{nameBytes}
 use Rattle.language.specs.Names.{isLetter, inWord, byteBase, packed, letWord, inWord!, dataWord}
-use Rattle.members.specs.Members.{row, members, memberAt, memberNumber}
+use Rattle.members.specs.Members.{arguments, ifMember, members, memberAt, memberNumber}
 use Rattle.members.specs.declared.Member.{Member}
 use Rattle.members.specs.declared.Found.{Found}
-use Rattle.members.specs.declared.Found.the-variants.{Is, Unknown}
+use Rattle.members.specs.declared.Found.the-variants.{Unknown}
 use Rattle.meaning.specs.Forms.{Form, number, variable, unbound, readings, ask, call, function}
 use Rattle.layout.specs.Memory.{Node}
 
@@ -46,8 +46,7 @@ memberOfKind k = cond (ltb k firstMember) Unknown (memberAt (k - firstMember))
 
 -- receiver first, and then the arguments
 abbrev pub memberArity : Found → ℕ
-memberArity (Is m) = suc (row m .arguments)
-memberArity Unknown = 0
+memberArity f = ifMember 0 f (λ m. suc (arguments m))
 
 -- how many dependencies an entry of the kind has
 unfoldable pub arity : ℕ → ℕ
@@ -77,8 +76,7 @@ numberOfKey key = pos key -ℤ pos 2147483648
 
 -- a member with its dependencies, receiver first
 abbrev pub memberForm : Found → Form → Form → Form
-memberForm (Is m) f a = cond (eqb (row m .arguments) 0) (ask m f) (call m f a)
-memberForm Unknown f a = readings
+memberForm found f a = ifMember readings found (λ m. cond (eqb (arguments m) 0) (ask m f) (call m f a))
 
 -- the form of an entry, from the forms of its dependencies by number
 unfoldable pub build : Node → (ℕ → Form) → Form

@@ -11,7 +11,7 @@ use lib.Seq.{drop-cons, take-all, take-nil}
 use borrow.Author.Tests.{eq-eqb, ne-eqb}
 use Rattle.language.specs.Names.{isLetter, isDigit, inWord, isBlank, letWord, inWord!, bytes}
 use Rattle.members.specs.Members.{sameBytes}
-use Rattle.grammar.specs.Tokens.{Token, Lexeme, lexeme, kLet, kIn, word, when, leading, wordToken, wordAt, digitsAt, minusAt, markToken, tokenAt}
+use Rattle.grammar.specs.Tokens.{Token, Lexeme, kLet, kIn, word, when, leading, wordToken, wordAt, digitsAt, minusAt, markToken, tokenAt}
 use Rattle.lexer.specs.declared.tokens.Lexed.{Lexed}
 use Rattle.lexer.specs.Lexing.{tokenKind, placed, placeFrom, frontAt, lexAt, bytesAt}
 use Rattle.lexer.specs.Loops.{inClass, runEnd}
@@ -158,4 +158,4 @@ module _ (text : List ℕ) (at start : ℕ) (blanks : start ≡ runEnd 0 text at
           → record { kind = k; start = start; end = start + 1 } ≡ lexAt text at
       unfolding tokenAt when
       token-mark k t m e =
-          alike start e refl ∙ found (lexeme (markToken (getD text start 0)) 1) (rw (sym l ∙ no, sym d ∙ t, ne-eqb (getD text start 0) 45 m))
+          alike start e refl ∙ found (markToken (getD text start 0), 1) (rw (sym l ∙ no, sym d ∙ t, ne-eqb (getD text start 0) 45 m))

@@ -31,7 +31,7 @@ tokenKind (other b) = 12
 
 -- a token of some width at a place, and the end of a text of length n
 abbrev pub placed : ℕ → Lexeme → Lexed
-placed p x = record { kind = tokenKind (x .token); start = p; end = p + x .width }
+placed p x = record { kind = tokenKind (x .0); start = p; end = p + x .1 }
 
 abbrev pub ended : ℕ → Lexed
 ended n = record { kind = 0; start = n; end = n }

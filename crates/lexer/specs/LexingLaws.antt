@@ -58,12 +58,12 @@ behind zero at b bs h = absurd (omega arith)
 behind (suc n) at b bs h = rw less (inside n (suc at) bs ∙ ap (λ (k : ℕ). scan 0 k (drop n bs)) (omega arith))
 
 front : (at b : ℕ) (bs : List ℕ) → isBlank b ≡ false
-    → scan 0 at (b ∷ bs) ≡ record { token = tokenAt b bs .token; place = at } ∷ scan 0 (at + tokenAt b bs .width) (drop (tokenAt b bs .width) (b ∷ bs))
+    → scan 0 at (b ∷ bs) ≡ record { token = tokenAt b bs .0; place = at } ∷ scan 0 (at + tokenAt b bs .1) (drop (tokenAt b bs .1) (b ∷ bs))
 unfolding scan when
 front at b bs e =
     rw e
-    (ap (λ (l : List Located). record { token = tokenAt b bs .token; place = at } ∷ l)
-    (behind (tokenAt b bs .width) at b bs (token-spans b bs .some)))
+    (ap (λ (l : List Located). record { token = tokenAt b bs .0; place = at } ∷ l)
+    (behind (tokenAt b bs .1) at b bs (token-spans b bs .some)))
 
 -- ---- the token that lexAt finds
 -- a token stands at x, not before at: it is the next token of the text, and the others follow behind it
@@ -99,16 +99,16 @@ kind-some : (t : Token) → tokenKind t ≡ 0 → ⊥
 unfolding tokenFor
 kind-some t z = let c : _≡_ {A = ℕ} 12 0 = rw z at (kind-for t []) in omega arith
 
--- a lexeme that the bytes at place p begin with, as a token of the text
+-- a (that, the) bytes at place p begin with, as a token of the text
 module _ (text : List ℕ) (p b : ℕ) (bs : List ℕ) (q : drop p text ≡ b ∷ bs) (x : Lexeme) (f : Spans (b ∷ bs) x) where
-  end-within : p + x .width ≤ length text
+  end-within : p + x .1 ≤ length text
   end-within = omega (arith, length-drop p text, ap length q, f .some, f .within)
 
-  which : x .token ≡ tokenFor (tokenKind (x .token)) (bytesAt text p (p + x .width))
-  which = let n : p + x .width - p ≡ x .width = omega arith in rw (n, q) (sym (f .which))
+  which : x .0 ≡ tokenFor (tokenKind (x .0)) (bytesAt text p (p + x .1))
+  which = let n : p + x .1 - p ≡ x .1 = omega arith in rw (n, q) (sym (f .which))
 
-  rest : drop (x .width) (b ∷ bs) ≡ drop (p + x .width) text
-  rest = ap (λ (l : List ℕ). drop (x .width) l) (sym q) ∙ drop-drop (x .width) p text
+  rest : drop (x .1) (b ∷ bs) ≡ drop (p + x .1) text
+  rest = ap (λ (l : List ℕ). drop (x .1) l) (sym q) ∙ drop-drop (x .1) p text
 
 module _ (text : List ℕ) (at : ℕ) where
   moved : scan 0 at (drop at text) ≡ scan 0 (placeFrom text at) (drop (placeFrom text at) text)
@@ -134,10 +134,10 @@ module _ (text : List ℕ) (at : ℕ) where
         ahead = from;
         longer = omega (arith, f .some);
         within = end-within text p b bs q x f;
-        kind-is = kind-for (x .token) (bytesAt text p (p + x .width));
+        kind-is = kind-for (x .0) (bytesAt text p (p + x .1));
         next =
             moved ∙ ap (λ (l : List ℕ). scan 0 p l) q ∙ front p b bs (clear b bs q)
-            ∙ (λ i. record { token = which text p b bs q x f i; place = p } ∷ scan 0 (p + x .width) (rest text p b bs q x f i));
+            ∙ (λ i. record { token = which text p b bs q x f i; place = p } ∷ scan 0 (p + x .1) (rest text p b bs q x f i));
       }
 
   lexes : Lexes text at (lexAt text at)
@@ -147,7 +147,7 @@ module _ (text : List ℕ) (at : ℕ) where
       go : (l : List ℕ) → drop (placeFrom text at) text ≡ l → Lexes text at (frontAt (length text) (placeFrom text at) l)
       go [] q = record { none = λ _. (refl, moved ∙ ap (λ (l : List ℕ). scan 0 (placeFrom text at) l) q); some = λ n. absurd (n refl) }
       go (b ∷ bs) q =
-          record { none = λ z. absurd (kind-some (tokenAt b bs .token) z); some = λ _. stands b bs q }
+          record { none = λ z. absurd (kind-some (tokenAt b bs .0) z); some = λ _. stands b bs q }
 
 -- ---- for a reader: x is what `token` gave at a place
 module _ (text : List ℕ) (at : ℕ) (x : Lexed) (e : x ≡ lexAt text at) where

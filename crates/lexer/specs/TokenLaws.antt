@@ -12,14 +12,14 @@ use borrow.Author.Tests.{leb-true, eqb-true, ne-eqb}
 use Rattle.language.specs.Names.{isLetter, isDigit, inWord, letWord, inWord! }
 use Rattle.members.specs.Members.{sameBytes}
 use Rattle.grammar.specs.Tokens.{Token, kLet, kIn, kEquals, kLambda, kArrow, kDot, kOpen, kShut, kComma, word, number, other}
-use Rattle.grammar.specs.Tokens.{when, leading, decimal, Lexeme, lexeme, wordToken, wordAt, digitsAt, minusAt, markToken, tokenAt}
+use Rattle.grammar.specs.Tokens.{when, leading, decimal, Lexeme, wordToken, wordAt, digitsAt, minusAt, markToken, tokenAt}
 use Rattle.lexer.specs.Lexing.{tokenKind, valueOf, tokenFor}
 use Rattle.lexer.specs.LoopsLaws.{leading-more, leading-le}
 
 pub record Spans (l : List ℕ) (x : Lexeme) : Type 0 where
-  pub some : 1 ≤ x .width
-  pub within : x .width ≤ length l
-  pub which : tokenFor (tokenKind (x .token)) (take (x .width) l) ≡ x .token
+  pub some : 1 ≤ x .1
+  pub within : x .1 ≤ length l
+  pub which : tokenFor (tokenKind (x .0)) (take (x .1) l) ≡ x .0
 
 -- ---- words
 word-which : (w : List ℕ) → tokenFor (tokenKind (wordToken w)) w ≡ wordToken w
@@ -57,7 +57,7 @@ module _ (b : ℕ) (bs : List ℕ) where
       record { some = s; within = leading-le isDigit (b ∷ bs); which = ap number (digits-which e (leading isDigit (b ∷ bs)) s) }
 
   -- ---- marks
-  mark-spans : Spans (b ∷ bs) (lexeme (markToken b) 1)
+  mark-spans : Spans (b ∷ bs) (markToken b, 1)
   unfolding markToken tokenFor
   mark-spans =
       record {
@@ -88,7 +88,7 @@ minus-spans b e (c ∷ cs) = go (isDigit c) (eqb c 62)
     n = leading isDigit (c ∷ cs)
 
     go : (t u : Bool)
-        → Spans (b ∷ c ∷ cs) (when t (λ _. lexeme (number (negℤ (pos (decimal (take n (c ∷ cs)))))) (suc n)) (λ _. cond u (lexeme kArrow 2) (lexeme (other 45) 1)))
+        → Spans (b ∷ c ∷ cs) (when t (λ _. (number (negℤ (pos (decimal (take n (c ∷ cs))))), suc n)) (λ _. cond u (kArrow, 2) (other 45, 1)))
     go true u = record { some = omega arith; within = omega (arith, leading-le isDigit (c ∷ cs)); which = rw e }
     go false true = record { some = omega arith; within = omega arith; which = refl }
     go false false = record { some = omega arith; within = omega arith; which = ap other (eqb-true b 45 e) }
@@ -98,7 +98,7 @@ unfolding tokenAt when
 token-spans b bs = go (isLetter b) refl (isDigit b) refl (eqb b 45) refl
   where
     go : (t : Bool) → isLetter b ≡ t → (u : Bool) → isDigit b ≡ u → (v : Bool) → eqb b 45 ≡ v
-        → Spans (b ∷ bs) (when t (λ _. wordAt (b ∷ bs)) (λ _. when u (λ _. digitsAt (b ∷ bs)) (λ _. when v (λ _. minusAt bs) (λ _. lexeme (markToken b) 1))))
+        → Spans (b ∷ bs) (when t (λ _. wordAt (b ∷ bs)) (λ _. when u (λ _. digitsAt (b ∷ bs)) (λ _. when v (λ _. minusAt bs) (λ _. (markToken b, 1)))))
     go true e u f v g = word-spans b bs e
     go false e true f v g = digits-spans b bs f
     go false e false f true g = minus-spans b g bs

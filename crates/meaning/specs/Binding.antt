@@ -1,31 +1,25 @@
 -- 01, "Binding" and "The text": let elimination, the form of each part by place, and the order in which new entries are numbered.
--- A name means the innermost let or lambda around it that binds it; one that nothing binds is marked unbound. A let's name stands for
+-- A name (the, innermost) let or lambda around it that binds it; one that nothing binds is marked unbound. A let's name stands for
 -- the form of its value. That this is capture-avoiding substitution, where no lambda takes the name of one around it (refusal 11), is
 -- `lets-substituted` in SubstitutionLaws. Assumes nothing: these are definitions.
 use mathlib.Core.Bool.{cond}
 use mathlib.Core.List.{List, [], _∷_}
 use Prim.Native.Nat.{ℕ}
 use Rattle.language.specs.Names.{packed, sameName, isData}
-use Rattle.members.specs.Members.{memberOf}
+use Rattle.members.specs.Members.{ifMember, memberOf}
 use Rattle.members.specs.declared.Member.{Member}
 use Rattle.members.specs.declared.Member.the-variants.{Count}
-use Rattle.members.specs.declared.Found.{Found}
-use Rattle.members.specs.declared.Found.the-variants.{Is, Unknown}
 use Rattle.grammar.specs.Grammar.{Expression, Calls, Arguments, More, letIn, lambda, name, literal, bracket, done, call, none, first, last, next}
 use Rattle.meaning.specs.Forms.{Form, number, variable, unbound, readings, ask, function}
 
 -- a name and the form that it stands for
-pub record Meaning : Type 0 where
-  pub name : List ℕ
-  pub form : Form
-
-abbrev pub means : List ℕ → Form → Meaning
-means x f = record { name = x; form = f }
+abbrev pub Meaning : Type 0
+Meaning = List ℕ × Form
 
 -- an inner let or lambda hides an outer one; a name that none of them binds is unbound
 unfoldable pub lookUp : List ℕ → List Meaning → Form
 lookUp x [] = unbound (packed x)
-lookUp x (e ∷ Γ) = cond (sameName x (e .name)) (e .form) (lookUp x Γ)
+lookUp x (e ∷ Γ) = cond (sameName x (e .0)) (e .1) (lookUp x Γ)
 
 -- a name in use
 unfoldable pub named : List ℕ → List Meaning → Form
@@ -33,20 +27,16 @@ named x Γ = cond (isData x) readings (lookUp x Γ)
 
 -- in a lambda's body its name is a variable
 abbrev pub asLambda : List ℕ → List Meaning → List Meaning
-asLambda x Γ = means x (variable (packed x)) ∷ Γ
+asLambda x Γ = (x, variable (packed x)) ∷ Γ
 
 -- an unknown member is refused (9), so that what stands here for it does not matter
 unfoldable pub member : List ℕ → Member
-member m = known (memberOf m)
-  where
-    known : Found → Member
-    known (Is k) = k
-    known Unknown = Count
+member m = ifMember Count (memberOf m) (λ k. k)
 
 -- the form of an expression; of a receiver f with the calls behind it; of the call of m on f with these arguments, and what follows
 unfoldable mutual
   pub formE : Expression → List Meaning → Form
-  formE (letIn x a b) Γ = formE b (means x (formE a Γ) ∷ Γ)
+  formE (letIn x a b) Γ = formE b ((x, formE a Γ) ∷ Γ)
   formE (lambda x b) Γ = function (packed x) (formE b (asLambda x Γ))
   formE (name x r) Γ = formC r (named x Γ) Γ
   formE (literal z r) Γ = formC r (number z) Γ
@@ -73,7 +63,7 @@ called (first e x) m f Γ = Form.call (member m) f (formE e Γ)
 -- the forms of the parts, in the order of their marks, and then u
 unfoldable mutual
   pub placesE : Expression → List Meaning → List Form → List Form
-  placesE (letIn x a b) Γ u = formE (letIn x a b) Γ ∷ placesE a Γ (placesE b (means x (formE a Γ) ∷ Γ) u)
+  placesE (letIn x a b) Γ u = formE (letIn x a b) Γ ∷ placesE a Γ (placesE b ((x, formE a Γ) ∷ Γ) u)
   placesE (lambda x b) Γ u = formE (lambda x b) Γ ∷ placesE b (asLambda x Γ) u
   placesE (name x r) Γ u = named x Γ ∷ placesC r (named x Γ) Γ u
   placesE (literal z r) Γ u = number z ∷ placesC r (number z) Γ u
@@ -95,7 +85,7 @@ unfoldable mutual
 -- the same forms in the order of binding: a let's value before its body, a receiver before arguments, dependencies before what uses them
 unfoldable mutual
   pub orderE : Expression → List Meaning → List Form → List Form
-  orderE (letIn x a b) Γ u = orderE a Γ (orderE b (means x (formE a Γ) ∷ Γ) u)
+  orderE (letIn x a b) Γ u = orderE a Γ (orderE b ((x, formE a Γ) ∷ Γ) u)
   orderE (lambda x b) Γ u = orderE b (asLambda x Γ) (formE (lambda x b) Γ ∷ u)
   orderE (name x r) Γ u = named x Γ ∷ orderC r (named x Γ) Γ u
   orderE (literal z r) Γ u = number z ∷ orderC r (number z) Γ u

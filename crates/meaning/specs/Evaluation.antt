@@ -106,14 +106,14 @@ pub data Shown : Type 0 where
   aDelay : (names : List ℕ) → Shown
   aReason : ℕ → Shown
 
--- 01: a function shows its name
-abbrev pub shownAs : Form → Value → Shown
-shownAs f (Number z) = aNumber z
-shownAs f (Window s l) = aWindow s l
-shownAs f Function = aFunction (nameOf f)
-shownAs f Delayed = aDelay (awaited f)
-shownAs f (Missing r) = aReason r
+-- a value as it is shown: a function by its name, and a delay by the names that are awaited
+abbrev pub shownAs : ℕ → List ℕ → Value → Shown
+shownAs name names (Number z) = aNumber z
+shownAs name names (Window s l) = aWindow s l
+shownAs name names Function = aFunction name
+shownAs name names Delayed = aDelay names
+shownAs name names (Missing r) = aReason r
 
 -- what a form shows, from the form and the recording alone
 unfoldable pub shows : List ℤ → Form → Shown
-shows xs f = shownAs f (valueOf (evaluate xs nowhere f))
+shows xs f = shownAs (nameOf f) (awaited f) (valueOf (evaluate xs nowhere f))

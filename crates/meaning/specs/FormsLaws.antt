@@ -11,7 +11,7 @@ use Rattle.members.specs.MembersLaws.{number-injective}
 use Rattle.members.specs.declared.Member.{Member}
 use Rattle.rules.specs.Values.{sameℤ}
 use Rattle.meaning.specs.Forms.{IsDependency, ofAsk, receiver, argument, body, AtOrBelow, itself, through}
-use Rattle.meaning.specs.Forms.{Form, number, variable, unbound, readings, ask, call, function, sameMember, shapeOf, integerOf, nameOf, memberOf, firstOf, secondOf, same, dependency, within}
+use Rattle.meaning.specs.Forms.{Form, number, variable, unbound, readings, ask, call, function, sameMember, shapeOf, integerOf, nameOf, memberOf, firstOf, secondOf, same, dependency, within, works}
 
 -- pieces
 sameℤ-eq : (a b : ℤ) → sameℤ a b ≡ true → a ≡ b
@@ -226,3 +226,24 @@ lies _ _ (through f d g p q) = within-trans f d g (lies f d p) (dependency-withi
 
 pub within-exactly : (f g : Form) → (within f g ≡ true) ↔ AtOrBelow f g
 within-exactly f g = (is-below f g, lies f g)
+
+-- the forms that are worked out are those that have a dependency
+has-dependency : (f : Form) → works f ≡ true → (d : Form) × IsDependency d f
+unfolding works
+has-dependency (number z) h = impossible h
+has-dependency (variable x) h = impossible h
+has-dependency (unbound x) h = impossible h
+has-dependency readings h = impossible h
+has-dependency (ask m f) h = (f, ofAsk m f)
+has-dependency (call m f a) h = (f, receiver m f a)
+has-dependency (function x b) h = (b, body x b)
+
+dependent-works : (d f : Form) → IsDependency d f → works f ≡ true
+unfolding works
+dependent-works _ _ (ofAsk m f) = refl
+dependent-works _ _ (receiver m f a) = refl
+dependent-works _ _ (argument m f a) = refl
+dependent-works _ _ (body x b) = refl
+
+pub works-exactly : (f : Form) → (works f ≡ true) ↔ ((d : Form) × IsDependency d f)
+works-exactly f = (has-dependency f, λ p. dependent-works (p .0) f (p .1))

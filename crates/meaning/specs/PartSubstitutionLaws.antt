@@ -5,15 +5,15 @@ use mathlib.Core.List.{List, [], _∷_, map}
 use Prim.Native.Nat.{ℕ}
 use lib.IntN.{pos}
 use Rattle.language.specs.Names.{bytes, packed, packOnto, dataWord, isData}
-use Rattle.members.specs.Members.{row, sameBytes, namedIn, memberOf}
+use Rattle.members.specs.Members.{arguments, spelled, sameBytes, namedIn, memberOf}
 use Rattle.members.specs.declared.Member.the-variants.{Add}
 use Rattle.grammar.specs.Grammar.{Expression, Calls, Arguments, More, letIn, lambda, name, literal, bracket, done, call, none, first, last, next}
-use Rattle.grammar.specs.Faults.{Around, outermost, opened, inLet, inLambda}
+use Rattle.grammar.specs.Faults.{Around, outermost, opened, inLambda}
 use Rattle.grammar.specs.KeptLimits.{EverywhereE, EverywhereC, EverywhereA, EverywhereM, KeepsLimits}
 use Rattle.grammar.specs.SingleLimits.{NewLambdas}
 use Rattle.grammar.specs.KeptLimitsLaws.{keeps-each}
 use Rattle.meaning.specs.Forms.{Form, number}
-use Rattle.meaning.specs.Binding.{Meaning, means, lookUp, named, asLambda, member, formE, called, placesE, placesC, placesA, placesM}
+use Rattle.meaning.specs.Binding.{Meaning, lookUp, named, asLambda, member, formE, called, placesE, placesC, placesA, placesM}
 use Rattle.meaning.specs.Substitution.{hole, fill, NoneFree, AtLetsE, AtLetsC, AtLetsA, AtLetsM, NonzeroNames}
 use Rattle.meaning.specs.SubstitutionLaws.{Forms, of-name, fillAll, fill-named, fill-E, Whole, whole-variable, fill-whole, whole-E}
 use Rattle.meaning.specs.SubstitutionLaws.{not-variable, not-free-E, Scoped, Clear, whole-clear, Within, clear-E}
@@ -39,8 +39,8 @@ module _ (f : Form) where
     parts-E (letIn x a b) Γ d u n =
         rw (
           fill-E f (letIn x a b) Γ d n,
-          parts-E a Γ (opened d) (placesE b (means x (formE a Γ) ∷ Γ) u) (n .1),
-          parts-E b (means x (formE a Γ) ∷ Γ) (inLet x d) u (n .2),
+          parts-E a Γ (opened d) (placesE b ((x, formE a Γ) ∷ Γ) u) (n .1),
+          parts-E b ((x, formE a Γ) ∷ Γ) (opened d) u (n .2),
           fill-E f a Γ (opened d) (n .1),
         )
     parts-E (lambda x b) Γ d u n = rw (fill-E f (lambda x b) Γ d n, parts-E b (asLambda x Γ) (inLambda x d) u (n .1))
@@ -78,7 +78,7 @@ module _ (f : Form) where
   clear-called (first e x) m g Γ d i n h c = λ ys k. (c ys k, clear-E f e Γ (opened d) i (n .0) h ys k)
 
   mutual
-    unfolding formE opened inLet inLambda
+    unfolding formE opened inLambda
 
     avoids-E : (e : Expression) (ys : List ℕ) (Γ : List Meaning) (d : Around)
         → Within f d → EverywhereE NewLambdas e d → Forms (Clear f) Γ → Free ys
@@ -86,7 +86,7 @@ module _ (f : Form) where
     avoids-E (letIn x a b) ys Γ d i n h k = (
       clear-E f (letIn x a b) Γ d i n h ys k,
       avoids-E a ys Γ (opened d) i (n .1) h k,
-      avoids-E b ys (means x (formE a Γ) ∷ Γ) (inLet x d) i (n .2) (clear-E f a Γ (opened d) i (n .1) h, h) k,
+      avoids-E b ys ((x, formE a Γ) ∷ Γ) (opened d) i (n .2) (clear-E f a Γ (opened d) i (n .1) h, h) k,
     )
     avoids-E (lambda x b) ys Γ d i n h k = (
       clear-E f (lambda x b) Γ d i n h ys k,
@@ -122,18 +122,18 @@ module _ (f : Form) where
 -- ---- every let
 
 parts-of : (x : List ℕ) (a b : Expression) (Γ : List Meaning) (d : Around)
-    → Forms Whole Γ → Within (formE a Γ) d → EverywhereE NewLambdas b (inLet x d)
-    → EverywhereE NonzeroNames b (inLet x d) → PartsSubstituted x a b Γ
-unfolding fill fillAll inLet
+    → Forms Whole Γ → Within (formE a Γ) d → EverywhereE NewLambdas b (opened d)
+    → EverywhereE NonzeroNames b (opened d) → PartsSubstituted x a b Γ
+unfolding fill fillAll opened
 parts-of x a b Γ d w i l n =
     let f = formE a Γ in
     record {
-      filled = sym (parts-E f b (means x hole ∷ Γ) (inLet x d) [] n ∙ rw (fill-whole f Γ w));
-      avoids = avoids-E f b [] (means x hole ∷ Γ) (inLet x d) i l (λ ys k e. k, whole-clear f Γ w) tt;
+      filled = sym (parts-E f b ((x, hole) ∷ Γ) (opened d) [] n ∙ rw (fill-whole f Γ w));
+      avoids = avoids-E f b [] ((x, hole) ∷ Γ) (opened d) i l (λ ys k e. k, whole-clear f Γ w) tt;
     }
 
 mutual
-  unfolding opened inLet inLambda
+  unfolding opened inLambda
 
   every-E : (e : Expression) (Γ : List Meaning) (d : Around) → Forms Whole Γ → Scoped Γ d → EverywhereE NewLambdas e d → EverywhereE NonzeroNames e d
       → AtLetsE PartsSubstituted e Γ
@@ -141,7 +141,7 @@ mutual
       let i : Within (formE a Γ) d = λ y o. not-free-E (packed y) a Γ (s y o) in (
         parts-of x a b Γ d w i (l .2) (n .2),
         every-E a Γ (opened d) w s (l .1) (n .1),
-        every-E b (means x (formE a Γ) ∷ Γ) (inLet x d) (whole-E Γ w a (opened d) (n .1), w) (λ y o. (i y o, s y o)) (l .2) (n .2),
+        every-E b ((x, formE a Γ) ∷ Γ) (opened d) (whole-E Γ w a (opened d) (n .1), w) (λ y o. (i y o, s y o)) (l .2) (n .2),
       )
   every-E (lambda x b) Γ d w s l n =
       every-E b (asLambda x Γ) (inLambda x d) (whole-variable (packed x), w) (λ y o. (not-variable (packed y) (packed x) (o .0), s y (o .1))) (l .1) (n .1)
@@ -169,6 +169,6 @@ parts-substituted e k n = every-E e [] outermost tt (λ y o. tt) (keeps-each e k
 
 -- in `let x = 2 in let u = x.add(1) in 6` the body's parts with a hole for x: the let's own form has none, and the parts of u's value have it
 unused-value : placesE (letIn (bytes "u") (name (bytes "x") (call (bytes "add") (first (literal (pos 1) done) (last done)))) (literal (pos 6) done))
-    (means (bytes "x") hole ∷ []) [] ≡ number (pos 6) ∷ hole ∷ Form.call Add hole (number (pos 1)) ∷ number (pos 1) ∷ number (pos 6) ∷ []
-unfolding placesE formE called named lookUp member memberOf namedIn sameBytes row bytes packOnto isData dataWord
+    ((bytes "x", hole) ∷ []) [] ≡ number (pos 6) ∷ hole ∷ Form.call Add hole (number (pos 1)) ∷ number (pos 1) ∷ number (pos 6) ∷ []
+unfolding placesE formE called named lookUp member memberOf namedIn sameBytes spelled arguments bytes packOnto isData dataWord
 unused-value = refl

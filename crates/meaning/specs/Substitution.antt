@@ -1,4 +1,4 @@
--- 01, "Binding": capture-avoiding substitution, and what it means that every let of a tree is replaced by it.
+-- 01, "Binding": capture-avoiding substitution, and what it (that, every) let of a tree is replaced by it.
 -- In the let-free form of a let's body a hole is put for the let's name. The form of the let is that form with the form of the let's value
 -- in place of every hole, and no function around a hole has a name that is free in what is put there. An inner let or lambda hides the
 -- let's name, as looking a name up takes the innermost. That let elimination does this is in SubstitutionLaws.
@@ -13,7 +13,7 @@ use Rattle.grammar.specs.Grammar.{Expression, Calls, Arguments, More, letIn, la
 use Rattle.grammar.specs.Faults.{Around}
 use Rattle.grammar.specs.KeptLimits.{Site, aLet, aLambda, aBracket, aName, aNumber, aCall}
 use Rattle.meaning.specs.Forms.{Form, number, variable, unbound, readings, ask, function}
-use Rattle.meaning.specs.Binding.{Meaning, means, asLambda, formE}
+use Rattle.meaning.specs.Binding.{Meaning, asLambda, formE}
 use Rattle.meaning.specs.Evaluation.{hasName, awaited}
 
 -- no name packs to 0, so that the unbound name 0 stands for nothing else
@@ -30,14 +30,10 @@ fill f (ask m g) = ask m (fill f g)
 fill f (Form.call m g a) = Form.call m (fill f g) (fill f a)
 fill f (function x b) = function x (fill f b)
 
--- the name is not free in the form
-abbrev pub NotFree : ℕ → Form → Type 0
-NotFree y f = hasName y (awaited f) ≡ false
-
--- none of the names is
+-- none of the names is free in the form
 abbrev pub NoneFree : List ℕ → Form → Type 0
 NoneFree [] f = Unit {0}
-NoneFree (y ∷ ys) f = NotFree y f × NoneFree ys f
+NoneFree (y ∷ ys) f = (hasName y (awaited f) ≡ false) × NoneFree ys f
 
 -- filling g with f captures nothing: at each hole no function around, of g or of those named ys, has a name that is free in f
 abbrev pub Avoids : Form → List ℕ → Form → Type 0
@@ -51,14 +47,14 @@ Avoids f ys (function y b) = Avoids f (y ∷ ys) b
 
 -- the let's name is replaced by its value's form, and nothing is captured
 pub record Substituted (x : List ℕ) (a b : Expression) (Γ : List Meaning) : Type 0 where
-  pub filled : formE (letIn x a b) Γ ≡ fill (formE a Γ) (formE b (means x hole ∷ Γ))
-  pub avoids : Avoids (formE a Γ) [] (formE b (means x hole ∷ Γ))
+  pub filled : formE (letIn x a b) Γ ≡ fill (formE a Γ) (formE b ((x, hole) ∷ Γ))
+  pub avoids : Avoids (formE a Γ) [] (formE b ((x, hole) ∷ Γ))
 
 -- P holds of every let of a tree, in the environment that let elimination has there
 module _ (P : List ℕ → (a b : Expression) → List Meaning → Type 0) where
   abbrev mutual
     pub AtLetsE : Expression → List Meaning → Type 0
-    AtLetsE (letIn x a b) Γ = P x a b Γ × AtLetsE a Γ × AtLetsE b (means x (formE a Γ) ∷ Γ)
+    AtLetsE (letIn x a b) Γ = P x a b Γ × AtLetsE a Γ × AtLetsE b ((x, formE a Γ) ∷ Γ)
     AtLetsE (lambda x b) Γ = AtLetsE b (asLambda x Γ)
     AtLetsE (name x r) Γ = AtLetsC r Γ
     AtLetsE (literal z r) Γ = AtLetsC r Γ

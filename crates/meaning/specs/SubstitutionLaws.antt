@@ -13,14 +13,18 @@ use Rattle.language.specs.Names.{packOnto, packed, sameName, isData}
 use Rattle.language.specs.NamesLaws.{Each, NameByte, packed-injective}
 use Rattle.language.specs.Cases.{split, by-cond}
 use Rattle.grammar.specs.Grammar.{Expression, Calls, Arguments, More, letIn, lambda, name, literal, bracket, done, call, none, first, last, next}
-use Rattle.grammar.specs.Faults.{Around, outermost, opened, inLet, inLambda}
-use Rattle.grammar.specs.KeptLimits.{EverywhereE, EverywhereC, EverywhereA, EverywhereM, NoLambdaNamed, KeepsLimits}
+use Rattle.grammar.specs.Faults.{Around, outermost, opened, inLambda}
+use Rattle.grammar.specs.KeptLimits.{EverywhereE, EverywhereC, EverywhereA, EverywhereM, NotAmong, KeepsLimits}
 use Rattle.grammar.specs.SingleLimits.{NewLambdas}
 use Rattle.grammar.specs.KeptLimitsLaws.{keeps-each}
 use Rattle.meaning.specs.Forms.{Form, number, variable, unbound, readings, ask, function}
-use Rattle.meaning.specs.Binding.{Meaning, means, lookUp, named, asLambda, member, formE, formC, formA, formM}
+use Rattle.meaning.specs.Binding.{Meaning, lookUp, named, asLambda, member, formE, formC, formA, formM}
 use Rattle.meaning.specs.Evaluation.{hasName, joined, without, awaited}
-use Rattle.meaning.specs.Substitution.{hole, fill, NotFree, NoneFree, Avoids, Substituted, AtLetsE, AtLetsC, AtLetsA, AtLetsM, NonzeroNames}
+use Rattle.meaning.specs.Substitution.{hole, fill, NoneFree, Avoids, Substituted, AtLetsE, AtLetsC, AtLetsA, AtLetsM, NonzeroNames}
+
+-- the name is not free in the form
+abbrev pub NotFree : ℕ → Form → Type 0
+NotFree y f = hasName y (awaited f) ≡ false
 
 -- no word packs to 0
 pub word-nonzero : (b : ℕ) (w : List ℕ) → Each NameByte (b ∷ w) → ¬ (packed (b ∷ w) ≡ 0)
@@ -32,12 +36,12 @@ word-nonzero b w h e = let q : (b ∷ w) ≡ [] = packed-injective (b ∷ w) [] 
 -- P holds of each form that a name stands for
 abbrev pub Forms : (Form → Type 0) → List Meaning → Type 0
 Forms P [] = Unit {0}
-Forms P (e ∷ Γ) = P (e .form) × Forms P Γ
+Forms P (e ∷ Γ) = P (e .1) × Forms P Γ
 
 looked-up : (P : Form → Type 0) (x : List ℕ) (Γ : List Meaning) → P (unbound (packed x)) → Forms P Γ → P (lookUp x Γ)
 unfolding lookUp
 looked-up P x [] u h = u
-looked-up P x (e ∷ Γ) u h = by-cond P (sameName x (e .name)) (e .form) (lookUp x Γ) (λ _. h .0) (λ _. looked-up P x Γ u (h .1))
+looked-up P x (e ∷ Γ) u h = by-cond P (sameName x (e .0)) (e .1) (lookUp x Γ) (λ _. h .0) (λ _. looked-up P x Γ u (h .1))
 
 pub of-name : (P : Form → Type 0) (x : List ℕ) (Γ : List Meaning) → P readings → P (unbound (packed x)) → Forms P Γ → P (named x Γ)
 unfolding named
@@ -48,7 +52,7 @@ of-name P x Γ r u h = by-cond P (isData x) readings (lookUp x Γ) (λ _. r) (λ
 module _ (f : Form) where
   unfoldable pub fillAll : List Meaning → List Meaning
   fillAll [] = []
-  fillAll (e ∷ Γ) = means (e .name) (fill f (e .form)) ∷ fillAll Γ
+  fillAll (e ∷ Γ) = (e .0, fill f (e .1)) ∷ fillAll Γ
 
   fill-pick : (t : Bool) (g h : Form) → fill f (cond t g h) ≡ cond t (fill f g) (fill f h)
   fill-pick true g h = refl
@@ -57,7 +61,7 @@ module _ (f : Form) where
   fill-lookup : (x : List ℕ) (Γ : List Meaning) → ¬ (packed x ≡ 0) → fill f (lookUp x Γ) ≡ lookUp x (fillAll Γ)
   unfolding fill lookUp fillAll
   fill-lookup x [] n = rw (ne-eqb (packed x) 0 n)
-  fill-lookup x (e ∷ Γ) n = fill-pick (sameName x (e .name)) (e .form) (lookUp x Γ) ∙ rw (fill-lookup x Γ n)
+  fill-lookup x (e ∷ Γ) n = fill-pick (sameName x (e .0)) (e .1) (lookUp x Γ) ∙ rw (fill-lookup x Γ n)
 
   pub fill-named : (x : List ℕ) (Γ : List Meaning) → ¬ (packed x ≡ 0) → fill f (named x Γ) ≡ named x (fillAll Γ)
   unfolding fill named
@@ -67,7 +71,7 @@ module _ (f : Form) where
     unfolding fill fillAll formE
 
     pub fill-E : (e : Expression) (Γ : List Meaning) (d : Around) → EverywhereE NonzeroNames e d → fill f (formE e Γ) ≡ formE e (fillAll Γ)
-    fill-E (letIn x a b) Γ d n = fill-E b (means x (formE a Γ) ∷ Γ) (inLet x d) (n .2) ∙ rw (fill-E a Γ (opened d) (n .1))
+    fill-E (letIn x a b) Γ d n = fill-E b ((x, formE a Γ) ∷ Γ) (opened d) (n .2) ∙ rw (fill-E a Γ (opened d) (n .1))
     fill-E (lambda x b) Γ d n = ap (function (packed x)) (fill-E b (asLambda x Γ) (inLambda x d) (n .1))
     fill-E (name x r) Γ d n = fill-C r (named x Γ) Γ d (n .1) ∙ rw (fill-named x Γ (n .0))
     fill-E (literal z r) Γ d n = fill-C r (number z) Γ d (n .1)
@@ -104,11 +108,11 @@ module _ (Γ : List Meaning) (w : Forms Whole Γ) where
   whole-E e d n f = fill-E f e Γ d n ∙ ap (formE e) (fill-whole f Γ w)
 
   let-filled : (x : List ℕ) (a b : Expression) (d : Around) → EverywhereE NonzeroNames b d
-      → formE (letIn x a b) Γ ≡ fill (formE a Γ) (formE b (means x hole ∷ Γ))
+      → formE (letIn x a b) Γ ≡ fill (formE a Γ) (formE b ((x, hole) ∷ Γ))
   unfolding fill fillAll formE
   let-filled x a b d n =
       let f = formE a Γ in
-      sym (fill-E f b (means x hole ∷ Γ) d n ∙ ap (λ (Δ : List Meaning). formE b (means x f ∷ Δ)) (fill-whole f Γ w))
+      sym (fill-E f b ((x, hole) ∷ Γ) d n ∙ ap (λ (Δ : List Meaning). formE b ((x, f) ∷ Δ)) (fill-whole f Γ w))
 
 -- ---- a name that is free in the form of a tree is free in a form of its environment
 
@@ -145,7 +149,7 @@ module _ (y : ℕ) where
     unfolding formE awaited hasName
 
     pub not-free-E : (e : Expression) (Γ : List Meaning) → Forms (NotFree y) Γ → NotFree y (formE e Γ)
-    not-free-E (letIn x a b) Γ h = not-free-E b (means x (formE a Γ) ∷ Γ) (not-free-E a Γ h, h)
+    not-free-E (letIn x a b) Γ h = not-free-E b ((x, formE a Γ) ∷ Γ) (not-free-E a Γ h, h)
     not-free-E (lambda x b) Γ h = not-without y (packed x) _ (λ n. not-free-E b (asLambda x Γ) (not-variable y (packed x) n, h))
     not-free-E (name x r) Γ h = not-free-C r (named x Γ) Γ h (of-name (NotFree y) x Γ refl refl h)
     not-free-E (literal z r) Γ h = not-free-C r (number z) Γ h refl
@@ -167,7 +171,7 @@ module _ (y : ℕ) where
 
 -- what is free in a form of the environment is the name of a lambda around
 abbrev pub Scoped : List Meaning → Around → Type 0
-Scoped Γ d = (y : List ℕ) → NoLambdaNamed y (d .binders) → Forms (NotFree (packed y)) Γ
+Scoped Γ d = (y : List ℕ) → NotAmong y (d .lambdas) → Forms (NotFree (packed y)) Γ
 
 module _ (f : Form) where
   -- a form without holes captures nothing
@@ -187,17 +191,17 @@ module _ (f : Form) where
 
   pub whole-clear : (Γ : List Meaning) → Forms Whole Γ → Forms Clear Γ
   whole-clear [] w = tt
-  whole-clear (e ∷ Γ) w = (λ ys h. whole-avoids (e .form) (w .0) ys, whole-clear Γ (w .1))
+  whole-clear (e ∷ Γ) w = (λ ys h. whole-avoids (e .1) (w .0) ys, whole-clear Γ (w .1))
 
   -- what is free in f is the name of a lambda around
   abbrev pub Within : Around → Type 0
-  Within d = (y : List ℕ) → NoLambdaNamed y (d .binders) → NotFree (packed y) f
+  Within d = (y : List ℕ) → NotAmong y (d .lambdas) → NotFree (packed y) f
 
   mutual
-    unfolding formE opened inLet inLambda
+    unfolding formE opened inLambda
 
     pub clear-E : (e : Expression) (Γ : List Meaning) (d : Around) → Within d → EverywhereE NewLambdas e d → Forms Clear Γ → Clear (formE e Γ)
-    clear-E (letIn x a b) Γ d i n h = clear-E b (means x (formE a Γ) ∷ Γ) (inLet x d) i (n .2) (clear-E a Γ (opened d) i (n .1) h, h)
+    clear-E (letIn x a b) Γ d i n h = clear-E b ((x, formE a Γ) ∷ Γ) (opened d) i (n .2) (clear-E a Γ (opened d) i (n .1) h, h)
     clear-E (lambda x b) Γ d i n h = λ ys k.
         clear-E b (asLambda x Γ) (inLambda x d) (λ y o. i y (o .1)) (n .1) (λ zs l. tt, h) (packed x ∷ ys) (i x (n .0), k)
     clear-E (name x r) Γ d i n h = clear-C r (named x Γ) Γ d i (n .1) h (of-name Clear x Γ (λ ys k. tt) (λ ys k e. k) h)
@@ -220,18 +224,18 @@ module _ (f : Form) where
 -- ---- every let
 
 mutual
-  unfolding opened inLet inLambda
+  unfolding opened inLambda
 
   every-E : (e : Expression) (Γ : List Meaning) (d : Around) → Forms Whole Γ → Scoped Γ d → EverywhereE NewLambdas e d → EverywhereE NonzeroNames e d → AtLetsE Substituted e Γ
   every-E (letIn x a b) Γ d w s l n =
       let f = formE a Γ in
       let i : Within f d = λ y o. not-free-E (packed y) a Γ (s y o) in (
         record {
-          filled = let-filled Γ w x a b (inLet x d) (n .2);
-          avoids = clear-E f b (means x hole ∷ Γ) (inLet x d) i (l .2) (λ ys k e. k, whole-clear f Γ w) [] tt;
+          filled = let-filled Γ w x a b (opened d) (n .2);
+          avoids = clear-E f b ((x, hole) ∷ Γ) (opened d) i (l .2) (λ ys k e. k, whole-clear f Γ w) [] tt;
         },
         every-E a Γ (opened d) w s (l .1) (n .1),
-        every-E b (means x f ∷ Γ) (inLet x d) (whole-E Γ w a (opened d) (n .1), w) (λ y o. (i y o, s y o)) (l .2) (n .2),
+        every-E b ((x, f) ∷ Γ) (opened d) (whole-E Γ w a (opened d) (n .1), w) (λ y o. (i y o, s y o)) (l .2) (n .2),
       )
   every-E (lambda x b) Γ d w s l n =
       every-E b (asLambda x Γ) (inLambda x d) (whole-variable (packed x), w) (λ y o. (not-variable (packed y) (packed x) (o .0), s y (o .1))) (l .1) (n .1)

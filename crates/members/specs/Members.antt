@@ -1,10 +1,10 @@
 -- 01, "Members", and 02, T-01: the table of the members, a row for each, in the papers' order. Assumes nothing: these are definitions.
 use mathlib.Core.Bool.{Bool, true, false, _&&_, cond}
-use mathlib.Core.List.{List, [], _∷_, _++_}
-use Prim.Native.Nat.{ℕ, zero, suc, _-_}
+use mathlib.Core.List.{List, [], _∷_, _++_, map}
+use Prim.Native.Nat.{ℕ, _-_}
 use Prim.Native.String.{String}
 use lib.Dec.{eqb}
-use lib.ListN.{length, replicate}
+use lib.ListN.{length, getD, replicate}
 use Rattle.language.specs.Names.{bytes}
 use Rattle.members.specs.declared.Member.{Member}
 use Rattle.members.specs.declared.Member.the-variants.{Add, Sub, Mul, Div, Gt, Eq, Skip, Take, Count, Sum, Min, Max, At, CountWhere, LongestRun, SumBy, BestSum, BestAt}
@@ -37,11 +37,62 @@ listed SumBy = (15, "sumBy", WindowFunction)
 listed BestSum = (16, "bestSum", WindowNumber)
 listed BestAt = (17, "bestAt", WindowNumber)
 
+-- its name, and how many arguments it takes
+unfoldable pub spelled : Member → List ℕ
+spelled m = bytes (listed m .1)
+
 abbrev pub argumentsOf : Signature → ℕ
 argumentsOf Numbers = 1
 argumentsOf Window = 0
 argumentsOf WindowNumber = 1
 argumentsOf WindowFunction = 1
+
+unfoldable pub arguments : Member → ℕ
+arguments m = argumentsOf (listed m .2)
+
+abbrev pub members : List Member
+members = Add ∷ Sub ∷ Mul ∷ Div ∷ Gt ∷ Eq ∷ Skip ∷ Take ∷ Count ∷ Sum ∷ Min ∷ Max ∷ At ∷ CountWhere ∷ LongestRun ∷ SumBy ∷ BestSum ∷ BestAt ∷ []
+
+abbrev pub memberNumber : Member → ℕ
+memberNumber m = listed m .0
+
+-- by what was found: what is given for none, and what becomes of a member
+abbrev pub ifMember : {A : Type 0} → A → Found → (Member → A) → A
+ifMember other (Is m) f = f m
+ifMember other Unknown f = other
+
+-- the member of a number
+unfoldable pub memberAt : ℕ → Found
+memberAt n = getD (map Is members) n Unknown
+
+-- the two lists of bytes are equal
+unfoldable pub sameBytes : List ℕ → List ℕ → Bool
+sameBytes [] [] = true
+sameBytes [] (b ∷ w) = false
+sameBytes (a ∷ v) [] = false
+sameBytes (a ∷ v) (b ∷ w) = eqb a b && sameBytes v w
+
+unfoldable pub namedIn : List Member → List ℕ → Found
+namedIn [] w = Unknown
+namedIn (m ∷ ms) w = cond (sameBytes w (spelled m)) (Is m) (namedIn ms w)
+
+-- the member of a name
+unfoldable pub memberOf : List ℕ → Found
+memberOf w = namedIn members w
+
+-- its name, and no bytes where there is none
+abbrev pub nameOf : Found → List ℕ
+nameOf (Is m) = spelled m
+nameOf Unknown = []
+
+abbrev pub isUnknown : Found → Bool
+isUnknown f = ifMember true f (λ m. false)
+
+-- how many arguments it takes
+unfoldable pub takes : Found → ℕ
+takes f = ifMember 0 f arguments
+
+-- ---- as the code has them: the kinds of what a member is used on and with, each with a number
 
 abbrev pub receiverOf : Signature → Kind
 receiverOf Numbers = Kinds.Number
@@ -57,62 +108,11 @@ argumentOf WindowNumber = Kinds.Number
 argumentOf WindowFunction = Kinds.Function
 
 pub record Row : Type 0 where
-  pub name : List ℕ
-  pub arguments : ℕ
   pub receiver : Kind
   pub argument : Kind
 
 unfoldable pub row : Member → Row
-row m = record {
-  name = bytes (listed m .1);
-  arguments = argumentsOf (listed m .2);
-  receiver = receiverOf (listed m .2);
-  argument = argumentOf (listed m .2);
-}
-
-abbrev pub members : List Member
-members = Add ∷ Sub ∷ Mul ∷ Div ∷ Gt ∷ Eq ∷ Skip ∷ Take ∷ Count ∷ Sum ∷ Min ∷ Max ∷ At ∷ CountWhere ∷ LongestRun ∷ SumBy ∷ BestSum ∷ BestAt ∷ []
-
-abbrev pub memberNumber : Member → ℕ
-memberNumber m = listed m .0
-
-abbrev pub foundIn : List Member → ℕ → Found
-foundIn [] n = Unknown
-foundIn (m ∷ ms) zero = Is m
-foundIn (m ∷ ms) (suc n) = foundIn ms n
-
--- the member of a number
-unfoldable pub memberAt : ℕ → Found
-memberAt n = foundIn members n
-
--- the two lists of bytes are equal
-unfoldable pub sameBytes : List ℕ → List ℕ → Bool
-sameBytes [] [] = true
-sameBytes [] (b ∷ w) = false
-sameBytes (a ∷ v) [] = false
-sameBytes (a ∷ v) (b ∷ w) = eqb a b && sameBytes v w
-
-unfoldable pub namedIn : List Member → List ℕ → Found
-namedIn [] w = Unknown
-namedIn (m ∷ ms) w = cond (sameBytes w (row m .name)) (Is m) (namedIn ms w)
-
--- the member of a name
-unfoldable pub memberOf : List ℕ → Found
-memberOf w = namedIn members w
-
--- its name, and no bytes where there is none
-abbrev pub nameOf : Found → List ℕ
-nameOf (Is m) = row m .name
-nameOf Unknown = []
-
-abbrev pub isUnknown : Found → Bool
-isUnknown (Is m) = false
-isUnknown Unknown = true
-
--- how many arguments it takes
-unfoldable pub takes : Found → ℕ
-takes (Is m) = row m .arguments
-takes Unknown = 0
+row m = record { receiver = receiverOf (listed m .2); argument = argumentOf (listed m .2) }
 
 -- a kind by its number
 abbrev pub kindNumber : Kind → ℕ
@@ -123,4 +123,4 @@ kindNumber Kinds.Function = 3
 
 -- a name as the code has it: with zeros up to 12 bytes, and its length
 unfoldable pub padded : Member → Name
-padded m = (row m .name ++ replicate (12 - length (row m .name)) 0, length (row m .name))
+padded m = (spelled m ++ replicate (12 - length (spelled m)) 0, length (spelled m))

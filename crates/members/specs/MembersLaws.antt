@@ -14,7 +14,7 @@ use lib.ListN.{length, getD, take, drop, replicate, drop-of-length-le, length-ta
 use lib.Seq.{take-at, getD-take, ext-getD}
 use borrow.Author.Tests.{ne-eqb, eqb-true, eq-eqb, leb-true}
 use Rattle.language.specs.Names.{bytes}
-use Rattle.members.specs.Members.{row, members, memberNumber, foundIn, memberAt, sameBytes, namedIn, memberOf, nameOf, padded}
+use Rattle.members.specs.Members.{arguments, spelled, row, members, memberNumber, memberAt, sameBytes, namedIn, memberOf, nameOf, padded}
 use Rattle.members.specs.declared.Member.{Member}
 use Rattle.members.specs.declared.Member.the-variants.{Add, Sub, Mul, Div, Gt, Eq, Skip, Take, Count, Sum, Min, Max, At, CountWhere, LongestRun, SumBy, BestSum, BestAt}
 use Rattle.members.specs.declared.Name.{Name}
@@ -76,6 +76,10 @@ number-at m n e = sym (number-found m) ∙ ap memberAt (sym e)
 pub number-injective : (m k : Member) → memberNumber m ≡ memberNumber k → m ≡ k
 number-injective m k e = cc (number-found m, number-found k)
 
+-- the member of a number, in a list of members
+abbrev pub foundIn : List Member → ℕ → Found
+foundIn ms n = getD (map Is ms) n Unknown
+
 found-inside : (ms : List Member) (n : ℕ) (m : Member) → foundIn ms n ≡ Is m → (n < length ms) × (getD ms n Add ≡ m)
 found-inside [] n m e = let z : _≡_ {A = ℕ} 0 1 = cc in absurd (omega arith)
 found-inside (k ∷ ms) zero m e = (omega arith, cc)
@@ -103,9 +107,9 @@ pub each : (p : Member → Bool) → passes (λ i m. p m) 0 members ≡ true →
 each p t m = rw (number-row m) at (passes-at (λ i k. p k) Add members t (memberNumber m) (number-below m))
 
 -- no member takes more than one argument
-pub few-arguments : (m : Member) → row m .arguments ≤ 1
-unfolding row
-few-arguments m = leb-true (row m .arguments) 1 (each (λ k. leb (row k .arguments) 1) refl m)
+pub few-arguments : (m : Member) → arguments m ≤ 1
+unfolding arguments spelled
+few-arguments m = leb-true (arguments m) 1 (each (λ k. leb (arguments k) 1) refl m)
 
 -- ---- names
 
@@ -138,20 +142,20 @@ unfolding isMember
 is-member m (Is k) e = ap Is (number-injective k m (eqb-true (memberNumber k) (memberNumber m) e))
 is-member m Unknown e = cc
 
-pub name-found : (m : Member) → memberOf (row m .name) ≡ Is m
-unfolding isMember memberOf namedIn sameBytes row bytes
-name-found m = is-member m (memberOf (row m .name)) (each (λ k. isMember k (memberOf (row k .name))) refl m)
+pub name-found : (m : Member) → memberOf (spelled m) ≡ Is m
+unfolding isMember memberOf namedIn sameBytes arguments spelled bytes
+name-found m = is-member m (memberOf (spelled m)) (each (λ k. isMember k (memberOf (spelled k))) refl m)
 
-picked : (b : Bool) (k m : Member) (f : Found) (w : List ℕ) → sameBytes w (row k .name) ≡ b → (f ≡ Is m → w ≡ row m .name) → cond b (Is k) f ≡ Is m → w ≡ row m .name
-picked true k m f w s h e = cc (same-equal w (row k .name) s)
+picked : (b : Bool) (k m : Member) (f : Found) (w : List ℕ) → sameBytes w (spelled k) ≡ b → (f ≡ Is m → w ≡ spelled m) → cond b (Is k) f ≡ Is m → w ≡ spelled m
+picked true k m f w s h e = cc (same-equal w (spelled k) s)
 picked false k m f w s h e = h e
 
-named-in : (ms : List Member) (w : List ℕ) (m : Member) → namedIn ms w ≡ Is m → w ≡ row m .name
+named-in : (ms : List Member) (w : List ℕ) (m : Member) → namedIn ms w ≡ Is m → w ≡ spelled m
 unfolding namedIn
 named-in [] w m e = cc
-named-in (k ∷ ms) w m e = picked (sameBytes w (row k .name)) k m (namedIn ms w) w refl (named-in ms w m) e
+named-in (k ∷ ms) w m e = picked (sameBytes w (spelled k)) k m (namedIn ms w) w refl (named-in ms w m) e
 
-pub name-own : (w : List ℕ) (m : Member) → memberOf w ≡ Is m → w ≡ row m .name
+pub name-own : (w : List ℕ) (m : Member) → memberOf w ≡ Is m → w ≡ spelled m
 unfolding memberOf
 name-own w m e = named-in members w m e
 
@@ -180,20 +184,20 @@ row-none n w h = rw (drop-of-length-le members h)
 -- ---- the names as the code has them
 
 pub name-short : (m : Member) → padded m .1 ≤ 12
-unfolding padded row bytes
-name-short m = leb-true (length (row m .name)) 12 (each (λ k. leb (length (row k .name)) 12) refl m)
+unfolding padded arguments spelled bytes
+name-short m = leb-true (length (spelled m)) 12 (each (λ k. leb (length (spelled k)) 12) refl m)
 
 pub name-full : (m : Member) → length (padded m .0) ≡ 12
 unfolding padded
 name-full m =
     let short = name-short m in
-    let a = length-append (row m .name) (replicate (12 - length (row m .name)) 0) in
-    let r = length-replicate {A = ℕ} (12 - length (row m .name)) 0 in
+    let a = length-append (spelled m) (replicate (12 - length (spelled m)) 0) in
+    let r = length-replicate {A = ℕ} (12 - length (spelled m)) 0 in
     omega arith
 
-name-taken : (m : Member) → take (padded m .1) (padded m .0) ≡ row m .name
+name-taken : (m : Member) → take (padded m .1) (padded m .0) ≡ spelled m
 unfolding padded
-name-taken m = take-at (row m .name) (replicate (12 - length (row m .name)) 0) (length (row m .name)) refl
+name-taken m = take-at (spelled m) (replicate (12 - length (spelled m)) 0) (length (spelled m)) refl
 
 no-bytes : (w : List ℕ) → sameBytes w [] ≡ eqb (length w) 0
 unfolding sameBytes

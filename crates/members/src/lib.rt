@@ -2,7 +2,7 @@
 ghost use mathlib.Core.Path.{_≡_};
 ghost use Prim.Native.Nat.{_≤_};
 ghost use lib.ListN.{length, take};
-ghost use Rattle.members.specs.Members.{listed, argumentsOf, receiverOf, argumentOf, row, memberNumber, memberAt, sameBytes, memberOf, nameOf, padded};
+ghost use Rattle.members.specs.Members.{listed, argumentsOf, receiverOf, argumentOf, arguments, row, memberNumber, memberAt, sameBytes, memberOf, nameOf, padded};
 
 pub enum Member {
     Add,
@@ -193,7 +193,7 @@ fn signature_argument(f: Signature) -> Kind
 
 // How many arguments a member takes.
 pub fn arguments(m: Member) -> u8
-    ensures { λ r. ⌜ r ≡ row m .arguments ⌝ }
+    ensures { λ r. ⌜ r ≡ arguments m ⌝ }
 {
     signature_arguments(signature_of(m))
 }

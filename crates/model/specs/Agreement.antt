@@ -2,6 +2,7 @@
 use mathlib.Core.Path.{_≡_, refl, sym, ap, _∙_}
 use mathlib.Core.Bool.{true, false, cond}
 use mathlib.Core.List.{List, [], _∷_, _++_, map}
+use mathlib.Core.Option.{orElse}
 use Prim.Native.Nat.{ℕ, zero, suc, _≤_}
 use borrow.Author.Tests.{ltb-true, ltb-false}
 use lib.Dec.{ltb}
@@ -9,14 +10,15 @@ use lib.ListN.{length}
 use Rattle.language.specs.Cases.{impossible, split}
 use Rattle.language.specs.Limits.{tableReadings}
 use Rattle.model.specs.Language.{Language}
-use Rattle.model.specs.Model.{Request, Open, Edit, Preview, Answer, opened, placesAfter, start, onOpen, onRequest, respond, answer, next}
-use Rattle.model.specs.Since.{isOpening, SoundRequest, Sendable}
+use Rattle.model.specs.Model.{Request, Open, Edit, Preview, Answer, opened, placesAfter, start, onOpen, onRequest, respond, said}
+use Rattle.model.specs.Responses.{answer, next}
+use Rattle.model.specs.Since.{SoundRequest, Sendable}
 use Rattle.model.specs.Runs.{model, newlyMarked, answers, placesLeft, after, workLog, inTheEnd}
 use Rattle.model.specs.Laws.{Laws}
 use Rattle.model.specs.Invariant.{Invariant}
 use Rattle.model.specs.Steps.{accepts-open, declines-open, short-next}
 use Rattle.model.specs.Preserved.{invariant-start, invariant-next}
-use Rattle.model.specs.Engine.{Engine, says, fills, leaves, Sent, told, machine}
+use Rattle.model.specs.Engine.{Engine, Sent, told, machine}
 use Rattle.model.specs.Implements.{Agrees, Implements}
 
 module _ (L : Language) (H : Laws L) (E : Engine L) (I : Implements L H E) where
@@ -24,7 +26,7 @@ module _ (L : Language) (H : Laws L) (E : Engine L) (I : Implements L H E) where
   open Engine E using (Memory)
 
   -- an open is accepted only over memory of the cache's size, and with no more readings than allowed
-  pub accepted : (m : Memory) (r : List Reading) → E .openAnswer m r ≡ opened → (E .fits m ≡ true) × (length r ≤ tableReadings)
+  pub accepted : (m : Memory) (r : List Reading) → E .says m (Open r) ≡ opened → (E .fits m ≡ true) × (length r ≤ tableReadings)
   accepted m r e =
       split (E .fits m)
       (λ f. (f, split (ltb tableReadings (length r)) (λ p. let z = I .long m r f (ltb-true _ _ p) .0 in impossible (cc)) (λ p. ltb-false _ _ p)))
@@ -41,7 +43,7 @@ module _ (L : Language) (H : Laws L) (E : Engine L) (I : Implements L H E) where
     pub invariant : Invariant L H (E .holds m)
 
   pub opens : (m : Memory) (r : List Reading) → E .fits m ≡ true → length r ≤ tableReadings → Sound r
-      → Cache (E .openMemory m r) × (E .holds (E .openMemory m r) ≡ start L r)
+      → Cache (E .leaves m (Open r)) × (E .holds (E .leaves m (Open r)) ≡ start L r)
   opens m r f h sound = let o = I .opening m r f h sound in let e = o .holds in (record { ok = o .ok; invariant = rw e (invariant-start L H r h sound) }, e)
 
   -- One call.
@@ -52,7 +54,7 @@ module _ (L : Language) (H : Laws L) (E : Engine L) (I : Implements L H E) where
 
   -- over a cache
   agree-on : (m : Memory) (q : Request L) → SoundRequest L q → Cache m
-      → Agrees E (I .Ok) (respond L (E .holds m) (record { enough = true; request = q })) (says E m q) (leaves E m q)
+      → Agrees E (I .Ok) (respond L (E .holds m) (record { enough = true; request = q })) (E .says m q) (E .leaves m q)
   agree-on m (Open r) sound k =
       let f = I .kept-fits m (k .ok) in
       split (ltb tableReadings (length r))
@@ -68,8 +70,8 @@ module _ (L : Language) (H : Laws L) (E : Engine L) (I : Implements L H E) where
   -- over what is lent of a cache
   abbrev AgreesLent : Memory → Memory → Request L → Type 0
   AgreesLent n m q =
-      Agrees E (I .Ok) (respond L (E .holds m) (record { enough = E .fits n; request = q })) (says E (E .lend n m) q)
-      (E .back m (leaves E (E .lend n m) q))
+      Agrees E (I .Ok) (respond L (E .holds m) (record { enough = E .fits n; request = q })) (E .says (E .lend n m) q)
+      (E .back m (E .leaves (E .lend n m) q))
 
   agree-lent : (n m : Memory) (q : Request L) → SoundRequest L q → Cache m → AgreesLent n m q
   agree-lent n m q sound k = split (E .fits n) enough short
@@ -81,7 +83,7 @@ module _ (L : Language) (H : Laws L) (E : Engine L) (I : Implements L H E) where
           let one = agree-on (E .lend n m) q sound (record { ok = given .ok; invariant = rw h (k .invariant) }) in
           let o = one .holds in
           let i = invariant-next L H (E .holds (E .lend n m)) (record { enough = true; request = q }) sound (rw h (k .invariant)) in
-          let r = I .returned m (leaves E (E .lend n m) q) (k .ok) (one .ok) (rw o i) in
+          let r = I .returned m (E .leaves (E .lend n m) q) (k .ok) (one .ok) (rw o i) in
           rw f (record { answer = rw h at (one .answer); ok = r .ok; holds = r .holds ∙ rw h at o })
 
       short : E .fits n ≡ false → AgreesLent n m q
@@ -106,11 +108,6 @@ module _ (L : Language) (H : Laws L) (E : Engine L) (I : Implements L H E) where
         cache = record { ok = x .ok; invariant = rw h (invariant-next L H (E .holds m) (told E c) sound (k .invariant)) };
       }
 
-  filled : (m : Memory) (q : Request L) → fills E m q ≡ placesAfter L q (says E m q)
-  filled m (Open r) = refl
-  filled m (Edit ps t) = I .places m ps t
-  filled m (Preview n a) = refl
-
   -- A run of calls.
   pub record Carried (m : Memory) (cs : List (Sent E)) : Type 0 where
     pub answers : answers (machine E) m cs ≡ answers (model L) (E .holds m) (map (told E) cs)
@@ -125,7 +122,7 @@ module _ (L : Language) (H : Laws L) (E : Engine L) (I : Implements L H E) where
       let one = agree m c (sent .0) k in
       let h = one .holds in
       let s = one .answer in
-      let f = filled (E .lend (c .lent) m) (c .request) in
+      let f = I .places (E .lend (c .lent) m) (c .request) in
       let more = carry (machine E .next m c) cs (sent .1) (one .cache) in
       record {
         answers = rw s (ap (λ (l : List (Answer L)). answer L (E .holds m) (told E c) ∷ l) (rw h at (more .answers)));
@@ -142,13 +139,13 @@ module _ (L : Language) (H : Laws L) (E : Engine L) (I : Implements L H E) where
       let one = agree m c (sent .0) k in
       let h = one .holds in
       let s = one .answer in
-      carry-log (cond (isOpening L (machine E .answer m c)) [] (fs ++ newlyMarked L (E .holds m .entries) (E .holds (machine E .next m c) .entries)))
+      carry-log (cond (said L (machine E .answer m c) .opening) [] (fs ++ newlyMarked L (E .holds m .entries) (E .holds (machine E .next m c) .entries)))
       (machine E .next m c) cs (sent .1) (one .cache)
       ∙ rw (s, h)
 
   pub carry-end : (times : ℕ) (m : Memory) (c : Sent E) → SoundRequest L (c .request) → Cache m
       → inTheEnd (machine E) times m c ≡ inTheEnd (model L) times (E .holds m) (told E c)
-  unfolding inTheEnd
+  unfolding inTheEnd orElse
   carry-end zero m c sound k = refl
   carry-end (suc times) m c sound k =
       let one = agree m c sound k in

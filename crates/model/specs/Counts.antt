@@ -11,8 +11,9 @@ use Rattle.language.specs.Limits.{tableReadings}
 use Rattle.model.specs.Lists.{countIf, firsts, onFirsts, occurrences}
 use Rattle.model.specs.ListLaws.{count-append}
 use Rattle.model.specs.Language.{Language}
-use Rattle.model.specs.Model.{Entry, State, marked, start, Call, unmarked, holdAll, pending, workOut, answer, next}
-use Rattle.model.specs.Since.{isOpening, workedIn, total, Sendable}
+use Rattle.model.specs.Model.{Entry, State, marked, start, Call, Answer, unmarked, holdAll, pending, workOut, said}
+use Rattle.model.specs.Responses.{answer, next}
+use Rattle.model.specs.Since.{total, Sendable}
 use Rattle.model.specs.Runs.{model, marks, newlyMarked, answers, after, workLog}
 use Rattle.model.specs.Laws.{Laws}
 use Rattle.model.specs.Entries.{marksOf, extends, marks-holdAll, marksOf-holdAll, is-pending, worked, length-worked, marks-workOut, marksOf-workOut, marksOf-one}
@@ -52,10 +53,10 @@ module _ (L : Language) where
 
   -- One call: the rise in marked entries is the count in its answer, form by form.
   pub record Counted (s : State L) (c : Call L) : Type 0 where
-    pub rise : marks L (next L s c .entries) ≡ cond (isOpening L (answer L s c)) 0 (marks L (s .entries) + workedIn L (answer L s c))
+    pub rise : marks L (next L s c .entries) ≡ cond (said L (answer L s c) .opening) 0 (marks L (s .entries) + said L (answer L s c) .worked)
     pub each : (f : Form) → marksOf L f (next L s c .entries)
-        ≡ cond (isOpening L (answer L s c)) 0 (marksOf L f (s .entries) + occurrences same f (newlyMarked L (s .entries) (next L s c .entries)))
-    pub size : isOpening L (answer L s c) ≡ false → length (newlyMarked L (s .entries) (next L s c .entries)) ≡ workedIn L (answer L s c)
+        ≡ cond (said L (answer L s c) .opening) 0 (marksOf L f (s .entries) + occurrences same f (newlyMarked L (s .entries) (next L s c .entries)))
+    pub size : said L (answer L s c) .opening ≡ false → length (newlyMarked L (s .entries) (next L s c .entries)) ≡ said L (answer L s c) .worked
 
   counted : (H : Laws L) (s : State L) (c : Call L) → Counted s c
   unfolding countIf
@@ -80,10 +81,10 @@ module _ (L : Language) where
           record {
             rise =
                 rw (e, answer, next)
-                (rw (of-preview L (isOpening L) false _ _ _ refl refl, of-preview L (workedIn L) _ _ _ _ refl refl)
+                (rw (of-preview L (λ (x : Answer L). said L x .opening) false _ _ _ refl refl, of-preview L (λ (x : Answer L). said L x .worked) _ _ _ _ refl refl)
                 (marks-workOut L r a f (s .entries)));
-            each = λ g. rw (e, answer, next) (rw (of-preview L (isOpening L) false _ _ _ refl refl, u) (marksOf-workOut L r a f g (s .entries)));
-            size = λ o. rw (e, answer, next) (rw (of-preview L (workedIn L) _ _ _ _ refl refl, u) (length-worked L r a f (s .entries)));
+            each = λ g. rw (e, answer, next) (rw (of-preview L (λ (x : Answer L). said L x .opening) false _ _ _ refl refl, u) (marksOf-workOut L r a f g (s .entries)));
+            size = λ o. rw (e, answer, next) (rw (of-preview L (λ (x : Answer L). said L x .worked) _ _ _ _ refl refl, u) (length-worked L r a f (s .entries)));
           }
 
   module _ (H : Laws L) where
@@ -92,17 +93,17 @@ module _ (L : Language) where
     unfolding total answers after
     totals-run s k [] e = e
     totals-run s k (c ∷ cs) e =
-        totals-run (next L s c) (cond (isOpening L (answer L s c)) 0 (k + workedIn L (answer L s c))) cs (rw e (sym (counted H s c .rise)))
+        totals-run (next L s c) (cond (said L (answer L s c) .opening) 0 (k + said L (answer L s c) .worked)) cs (rw e (sym (counted H s c .rise)))
 
     -- the forms worked out, with one call more
     abbrev logged : List Form → State L → Call L → List Form
-    logged fs s c = cond (isOpening L (answer L s c)) [] (fs ++ newlyMarked L (s .entries) (next L s c .entries))
+    logged fs s c = cond (said L (answer L s c) .opening) [] (fs ++ newlyMarked L (s .entries) (next L s c .entries))
 
     log-marks : (f : Form) (fs : List Form) (s : State L) (cs : List (Call L)) → occurrences same f fs ≡ marksOf L f (s .entries)
         → occurrences same f (workLog (model L) fs s cs) ≡ marksOf L f (after (model L) s cs .entries)
     unfolding workLog after
     log-marks f fs s [] e = e
-    log-marks f fs s (c ∷ cs) e = log-marks f (logged fs s c) (next L s c) cs (now (isOpening L (answer L s c)) ∙ sym (counted H s c .each f))
+    log-marks f fs s (c ∷ cs) e = log-marks f (logged fs s c) (next L s c) cs (now (said L (answer L s c) .opening) ∙ sym (counted H s c .each f))
       where
         now : (b : Bool) → occurrences same f (cond b [] (fs ++ newlyMarked L (s .entries) (next L s c .entries)))
             ≡ cond b 0 (marksOf L f (s .entries) + occurrences same f (newlyMarked L (s .entries) (next L s c .entries)))
@@ -115,9 +116,9 @@ module _ (L : Language) where
     log-total fs s [] = refl
     log-total fs s (c ∷ cs) = log-total (logged fs s c) (next L s c) cs ∙ ap (λ (k : ℕ). total L k (answers (model L) (next L s c) cs)) now
       where
-        now : length (logged fs s c) ≡ cond (isOpening L (answer L s c)) 0 (length fs + workedIn L (answer L s c))
+        now : length (logged fs s c) ≡ cond (said L (answer L s c) .opening) 0 (length fs + said L (answer L s c) .worked)
         now =
-            split (isOpening L (answer L s c)) (λ p. rw p)
+            split (said L (answer L s c) .opening) (λ p. rw p)
             (λ p. rw p (length-append fs (newlyMarked L (s .entries) (next L s c .entries)) ∙ ap (λ (k : ℕ). length fs + k) (counted H s c .size p)))
 
     -- After a run of calls from an opening.

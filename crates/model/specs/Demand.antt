@@ -10,14 +10,14 @@ use lib.ListN.{length, getElem?}
 use Rattle.language.specs.Limits.{textParts, tableEntries}
 use Rattle.model.specs.Lists.{All, occurrences}
 use Rattle.model.specs.Language.{Language}
-use Rattle.model.specs.Model.{Entry, forms, start, Edit, Preview, Call, Answer, refused, opened, finished, left}
-use Rattle.model.specs.Since.{Part, numbersIn, partsGiven, noOpening, lastRecording, total, previewsOf, Sendable}
+use Rattle.model.specs.Model.{Entry, forms, start, Open, Edit, Preview, Call, Answer, refused, opened, finished, left, said}
+use Rattle.model.specs.Since.{Part, partsGiven, noOpening, lastRecording, total, previewsOf, Sendable}
 use Rattle.model.specs.Runs.{model, marks, rounds, answers, placesLeft, after, workLog, inTheEnd}
 use Rattle.model.specs.Engine.{Engine, Sent, told, machine}
 
 module _ (L : Language) (E : Engine L) where
   open Language L using (Form, Shown, Reading, same, works, shows)
-  open Engine E using (Memory, fits, openAnswer, openMemory, holds, KeepsNone)
+  open Engine E using (Memory, fits, says, leaves, holds, KeepsNone)
 
   -- The engine's answer to a call where m is the cache, and the cache that it leaves; edits and previews with what they are lent.
   abbrev pub reply : Memory → Sent E → Answer L
@@ -33,11 +33,8 @@ module _ (L : Language) (E : Engine L) where
   preview lent n a = record { lent = lent; request = Preview n a }
 
   -- Call c to memory m is a preview of number n that is finished and shows v.
-  pub record Finishes (m : Memory) (c : Sent E) (n : ℕ) (v : Shown) : Type 0 where
-    pub allowance : ℕ
-    pub asks : c .request ≡ Preview n allowance
-    pub worked : ℕ
-    pub answers : reply m c ≡ finished worked v
+  abbrev pub Finishes : Memory → Sent E → ℕ → Shown → Type 0
+  Finishes m c n v = (allowance : ℕ) × (worked : ℕ) × (c .request ≡ Preview n allowance) × (reply m c ≡ finished worked v)
 
   -- The calls ds are sent to memory m, and none of them is an opening.
   pub record Follow (m : Memory) (ds : List (Sent E)) : Type 0 where
@@ -47,11 +44,11 @@ module _ (L : Language) (E : Engine L) where
   -- Memory n, of any contents, is opened with r, and lent as l to an edit of x's text. Both are accepted, the part at x's place gets a number,
   -- and its preview, repeated with allowance a, shows v in the end.
   pub record Anew (n l : Memory) (r : List Reading) (x : Part L) (places : List ℕ) (a : ℕ) (v : Shown) : Type 0 where
-    pub opened : openAnswer n r ≡ opened
+    pub opened : says n (Open r) ≡ opened
     pub number : ℕ
-    pub given : getElem? (numbersIn L (reply (openMemory n r) (edit l places (x .text)))) (x .place) ≡ some number
+    pub given : getElem? (said L (reply (leaves n (Open r)) (edit l places (x .text))) .numbers) (x .place) ≡ some number
     pub times : ℕ
-    pub shown : inTheEnd (machine E) times (memoryAfter (openMemory n r) (edit l places (x .text))) (preview l number a) ≡ some v
+    pub shown : inTheEnd (machine E) times (memoryAfter (leaves n (Open r)) (edit l places (x .text))) (preview l number a) ≡ some v
 
   -- Memory m, of any contents, is opened with r, and then the calls cs are sent.
   module _ (m : Memory) (r : List Reading) (cs : List (Sent E)) where
@@ -60,14 +57,14 @@ module _ (L : Language) (E : Engine L) where
     calls = map (told E) cs
 
     abbrev pub replies : List (Answer L)
-    replies = answers (machine E) (openMemory m r) cs
+    replies = answers (machine E) (leaves m (Open r)) cs
 
     abbrev pub last : Memory
-    last = after (machine E) (openMemory m r) cs
+    last = after (machine E) (leaves m (Open r)) cs
 
     -- the forms worked out since the last opening
     abbrev pub log : List Form
-    log = workLog (machine E) [] (openMemory m r) cs
+    log = workLog (machine E) [] (leaves m (Open r)) cs
 
     -- x is a part with the number that an edit since the last opening gave it
     abbrev pub Given : Part L → Type 0
@@ -78,7 +75,7 @@ module _ (L : Language) (E : Engine L) where
       -- Each call gets the model's answer and leaves the lent places as the model says, and the last memory holds what the model holds: the
       -- recording, the forms by number, and the marks with what their forms show. Number 4 never comes up.
       pub answered : replies ≡ answers (model L) (start L r) calls
-      pub placed : placesLeft (machine E) (openMemory m r) cs ≡ placesLeft (model L) (start L r) calls
+      pub placed : placesLeft (machine E) (leaves m (Open r)) cs ≡ placesLeft (model L) (start L r) calls
       pub held : holds last ≡ after (model L) (start L r) calls
       pub recording : holds last .recording ≡ lastRecording L r calls replies
       pub never-four : All (λ (x : Answer L). (place : ℕ) → x ≡ refused 4 place → ⊥) replies

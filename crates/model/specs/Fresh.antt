@@ -2,7 +2,7 @@
 use mathlib.Core.Path.{_≡_}
 use mathlib.Core.Bool.{true, false}
 use mathlib.Core.List.{List, [], List·Memᴰ}
-use mathlib.Core.Option.{some}
+use mathlib.Core.Option.{some, orElse}
 use Prim.Native.Nat.{ℕ, zero, suc, _-_, _≤_, _<_}
 use native.Mathlib.Omega.{arith}
 use borrow.Author.Tests.{eqb-false}
@@ -13,8 +13,9 @@ use Rattle.language.specs.Limits.{textParts}
 use Rattle.model.specs.Lists.{member}
 use Rattle.model.specs.ListLaws.{nth-map, member-tail, member-nth, nth-index, insertAll-has}
 use Rattle.model.specs.Language.{Language}
-use Rattle.model.specs.Model.{State, forms, start, Edit, Preview, Call, finished, holdAll, numberOf, left, workOut, previewed, answer, next}
-use Rattle.model.specs.Since.{Part, numbersIn, partsGiven}
+use Rattle.model.specs.Model.{State, forms, start, Edit, Preview, Call, finished, holdAll, numberOf, left, workOut, previewed, said}
+use Rattle.model.specs.Responses.{answer, next}
+use Rattle.model.specs.Since.{Part, partsGiven}
 use Rattle.model.specs.Runs.{model, answers, after, inTheEnd}
 use Rattle.model.specs.Laws.{Laws}
 use Rattle.model.specs.Entries.{forms-holdAll, length-holdAll, forms-workOut, left-workOut}
@@ -28,7 +29,7 @@ module _ (L : Language) where
   -- a preview repeated often enough shows in the end what its form shows
   ends : (times : ℕ) (s : State L) (n a : ℕ) (f : Form) → getElem? (forms L (s .entries)) n ≡ some f → 1 ≤ a → left L f (s .entries) < times
       → inTheEnd (model L) times s (previewing L n a) ≡ some (shows (s .recording) f)
-  unfolding inTheEnd
+  unfolding inTheEnd orElse
   ends zero s n a f e h m = absurd (omega arith)
   ends (suc times) s n a f e h m =
       let z = accepts-preview L s n a f e in
@@ -51,7 +52,7 @@ module _ (L : Language) where
     pub record Afresh (r : List Reading) (x : Part L) (ps : List ℕ) (a : ℕ) (v : Shown) : Type 0 where
       pub number : ℕ
       pub times : ℕ
-      pub given : getElem? (numbersIn L (answer L (start L r) (editing ps (x .text)))) (x .place) ≡ some number
+      pub given : getElem? (said L (answer L (start L r) (editing ps (x .text))) .numbers) (x .place) ≡ some number
       pub shown : inTheEnd (model L) times (next L (start L r) (editing ps (x .text))) (previewing L number a) ≡ some v
 
     afresh : (r : List Reading) (fs : List Form) (x : Part L) (ps : List ℕ) (a : ℕ) → Known L fs x → textParts ≤ length ps → 1 ≤ a

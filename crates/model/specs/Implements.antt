@@ -7,10 +7,11 @@ use Prim.Native.Nat.{ℕ, _≤_, _<_}
 use lib.ListN.{length, getElem?}
 use Rattle.language.specs.Limits.{tableReadings}
 use Rattle.model.specs.Language.{Language}
-use Rattle.model.specs.Model.{Entry, State, Request, Answer, refused, written, Outcome, openedWith, onEdit, onPreview, answer}
+use Rattle.model.specs.Model.{Entry, State, Request, Open, Edit, Preview, Answer, refused, opened, placesAfter, Outcome, start, onEdit, onPreview}
+use Rattle.model.specs.Responses.{answer}
 use Rattle.model.specs.Laws.{Laws}
 use Rattle.model.specs.Invariant.{Invariant}
-use Rattle.model.specs.Engine.{Engine, says, leaves}
+use Rattle.model.specs.Engine.{Engine}
 
 module _ {L : Language} (E : Engine L) (Ok : E .Memory → Type 0) where
   -- an answer and a memory that agree with an outcome of the model
@@ -38,17 +39,17 @@ pub record Implements (L : Language) (H : Laws L) (E : Engine L) : Type 1 where
   pub restored : (n m : E .Memory) → E .fits m ≡ true → E .back m (E .lend n m) ≡ m
   -- memory under the cache's size: the call is declined, whatever the model holds, and the memory stays
   pub short-answer : (m : E .Memory) (q : Request L) (s : State L) → E .fits m ≡ false
-      → says E m q ≡ answer L s (record { enough = false; request = q })
-  pub short-memory : (m : E .Memory) (q : Request L) → E .fits m ≡ false → leaves E m q ≡ m
+      → E .says m q ≡ answer L s (record { enough = false; request = q })
+  pub short-memory : (m : E .Memory) (q : Request L) → E .fits m ≡ false → E .leaves m q ≡ m
   -- open, over memory of any contents
   pub long : (m : E .Memory) (r : List (L .Reading)) → E .fits m ≡ true → tableReadings < length r
-      → (E .openAnswer m r ≡ refused 2 0) × (E .openMemory m r ≡ m)
+      → (E .says m (Open r) ≡ refused 2 0) × (E .leaves m (Open r) ≡ m)
   pub opening : (m : E .Memory) (r : List (L .Reading)) → E .fits m ≡ true → length r ≤ tableReadings → L .Sound r
-      → Agrees E Ok (openedWith L r) (E .openAnswer m r) (E .openMemory m r)
+      → Agrees E Ok (record { answer = opened; state = start L r }) (E .says m (Open r)) (E .leaves m (Open r))
   -- edit and preview, over a cache that was opened and kept
   pub edit : (m : E .Memory) (places text : List ℕ) → Ok m → Invariant L H (E .holds m)
-      → Agrees E Ok (onEdit L (E .holds m) true places text) (E .editAnswer m places text) (E .editMemory m places text)
+      → Agrees E Ok (onEdit L (E .holds m) true places text) (E .says m (Edit places text)) (E .leaves m (Edit places text))
   pub preview : (m : E .Memory) (n a : ℕ) → Ok m → Invariant L H (E .holds m)
-      → Agrees E Ok (onPreview L (E .holds m) true n a) (E .previewAnswer m n a) (E .previewMemory m n a)
+      → Agrees E Ok (onPreview L (E .holds m) true n a) (E .says m (Preview n a)) (E .leaves m (Preview n a))
   -- an edit's lent places, over every memory
-  pub places : (m : E .Memory) (places text : List ℕ) → E .editPlaces m places text ≡ written L (E .editAnswer m places text) places
+  pub places : (m : E .Memory) (q : Request L) → E .fills m q ≡ placesAfter L q (E .says m q)

@@ -2,6 +2,7 @@
 pub mod Lists
 pub mod Language
 pub mod Model
+pub mod Responses
 pub mod Since
 pub mod Runs
 -- What is asked of a language, and the theory of the model alone.

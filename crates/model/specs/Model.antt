@@ -1,6 +1,6 @@
 -- The reference model (01: the plain book): what it holds, and what each call answers and leaves. The tests of a call stand in the order in
 -- which they are made, each with its number of 'When a call is declined'. Assumes nothing.
-use mathlib.Core.Bool.{Bool, cond, not, _&&_, _||_}
+use mathlib.Core.Bool.{Bool, true, false, cond, not, _&&_, _||_}
 use mathlib.Core.List.{List, [], _∷_, _++_, map}
 use mathlib.Core.Option.{Option, none, some}
 use Prim.Native.Nat.{ℕ, _-_, min}
@@ -48,13 +48,25 @@ module _ (L : Language) where
     notYet : (worked : ℕ) → Answer
     finished : (worked : ℕ) (shown : Shown) → Answer
 
+  -- What an answer says: whether it is an opening, which is an accepted open; the parts' numbers by place that an accepted edit gives; whether it is
+  -- an accepted preview; how many this marked, and what it shows if it is finished.
+  pub record Said : Type 0 where
+    pub opening : Bool
+    pub numbers : List ℕ
+    pub preview : Bool
+    pub worked : ℕ
+    pub shown : Option Shown
+
+  abbrev pub said : Answer → Said
+  said (refused n at) = record { opening = false; numbers = []; preview = false; worked = 0; shown = none }
+  said opened = record { opening = true; numbers = []; preview = false; worked = 0; shown = none }
+  said (edited w p k ns) = record { opening = false; numbers = ns; preview = false; worked = 0; shown = none }
+  said (notYet k) = record { opening = false; numbers = []; preview = true; worked = k; shown = none }
+  said (finished k v) = record { opening = false; numbers = []; preview = true; worked = k; shown = some v }
+
   -- The lent places after an edit's answer: an accepted edit writes its parts' numbers to the first, and all others keep their contents.
   unfoldable pub written : Answer → List ℕ → List ℕ
-  written (refused n at) places = places
-  written opened places = places
-  written (edited w p k numbers) places = numbers ++ drop (length numbers) places
-  written (notYet k) places = places
-  written (finished k v) places = places
+  written x places = said x .numbers ++ drop (length (said x .numbers)) places
 
   abbrev pub placesAfter : Request → Answer → List ℕ
   placesAfter (Open r) x = []
@@ -77,11 +89,8 @@ module _ (L : Language) where
   abbrev pub start : List Reading → State
   start r = record { recording = r; entries = [] }
 
-  abbrev pub openedWith : List Reading → Outcome
-  openedWith r = record { answer = opened; state = start r }
-
   unfoldable pub onOpen : State → Bool → List Reading → Outcome
-  onOpen s enough r = refuseIf (ltb tableReadings (length r)) 2 s (refuseIf (not enough) 3 s (openedWith r))
+  onOpen s enough r = refuseIf (ltb tableReadings (length r)) 2 s (refuseIf (not enough) 3 s (record { answer = opened; state = start r }))
 
   -- Edit: each of the parts' forms that is not yet held takes the next number, unmarked.
   abbrev pub unmarked : Form → Entry
@@ -158,9 +167,3 @@ module _ (L : Language) where
 
   abbrev pub respond : State → Call → Outcome
   respond s c = onRequest s (c .enough) (c .request)
-
-  abbrev pub answer : State → Call → Answer
-  answer s c = respond s c .answer
-
-  abbrev pub next : State → Call → State
-  next s c = respond s c .state

@@ -12,8 +12,9 @@ use Rattle.language.specs.Limits.{textBytes}
 use Rattle.model.specs.Lists.{All, member, index, insertAll}
 use Rattle.model.specs.ListLaws.{all-append, all-in, member-tail, member-nth, nth-index, index-one, member-insertAll, insertAll-has, index-insertAll}
 use Rattle.model.specs.Language.{Language, parts}
-use Rattle.model.specs.Model.{State, forms, start, Request, Open, Edit, Preview, Call, Answer, notYet, finished, refused, holdAll, answer, next}
-use Rattle.model.specs.Since.{isOpening, Part, partsFrom, formsByPlace, numbersIn, partsIn, partsGiven}
+use Rattle.model.specs.Model.{State, forms, start, Request, Open, Edit, Preview, Call, Answer, notYet, finished, refused, holdAll, said}
+use Rattle.model.specs.Responses.{answer, next}
+use Rattle.model.specs.Since.{Part, partsFrom, formsByPlace, partsIn, partsGiven}
 use Rattle.model.specs.Runs.{model, answers, after}
 use Rattle.model.specs.Laws.{Laws}
 use Rattle.model.specs.Entries.{forms-holdAll, forms-workOut}
@@ -28,7 +29,7 @@ module _ (L : Language) where
   of-preview g x true k v p q = p
   of-preview g x false k v p q = q
 
-  no-parts : (q : Request L) (x : Answer L) → numbersIn L x ≡ [] → partsIn L q x ≡ []
+  no-parts : (q : Request L) (x : Answer L) → said L x .numbers ≡ [] → partsIn L q x ≡ []
   unfolding partsFrom
   no-parts (Open r) x e = refl
   no-parts (Edit ps t) x e = rw e (empty (formsByPlace L (read t)))
@@ -81,7 +82,7 @@ module _ (L : Language) where
         )
 
     abbrev since : State L → Call L → List (Part L) → List (Part L)
-    since s c xs = cond (isOpening L (answer L s c)) [] (partsIn L (c .request) (answer L s c) ++ xs)
+    since s c xs = cond (said L (answer L s c) .opening) [] (partsIn L (c .request) (answer L s c) ++ xs)
 
     known-step : (s : State L) (c : Call L) (xs : List (Part L)) → All (Known (forms L (s .entries))) xs
         → All (Known (forms L (next L s c .entries))) (since s c xs)
@@ -105,7 +106,7 @@ module _ (L : Language) where
             )))
             (rw fh (known-more order (forms L (s .entries)) xs k))))
         go (previews n a f q z e) =
-            rw (e, q, answer, next) (rw (of-preview (isOpening L) false _ _ _ refl refl) (rw (forms-workOut L (s .recording) a f (s .entries)) k))
+            rw (e, q, answer, next) (rw (of-preview (λ (x : Answer L). said L x .opening) false _ _ _ refl refl) (rw (forms-workOut L (s .recording) a f (s .entries)) k))
 
     known-run : (s : State L) (xs : List (Part L)) (cs : List (Call L)) → All (Known (forms L (s .entries))) xs
         → All (Known (forms L (after (model L) s cs .entries))) (partsGiven L xs cs (answers (model L) s cs))

@@ -11,7 +11,8 @@ use Rattle.language.specs.Limits.{textBytes, tableReadings, tableEntries}
 use Rattle.model.specs.Lists.{All, member}
 use Rattle.model.specs.ListLaws.{distinct-insertAll, all-insertAll}
 use Rattle.model.specs.Language.{Language, parts}
-use Rattle.model.specs.Model.{State, forms, start, Call, Answer, refused, holdAll, left, workOut, answer, next}
+use Rattle.model.specs.Model.{State, forms, start, Call, Answer, refused, holdAll, left, workOut}
+use Rattle.model.specs.Responses.{answer, next}
 use Rattle.model.specs.Since.{SoundRequest, Sendable}
 use Rattle.model.specs.Runs.{model, answers, after}
 use Rattle.model.specs.Laws.{Laws}

@@ -12,8 +12,9 @@ use lib.ListN.{getElem?}
 use Rattle.language.specs.Cases.{impossible, split}
 use Rattle.model.specs.ListLaws.{member-nth, nth-insertAll}
 use Rattle.model.specs.Language.{Language}
-use Rattle.model.specs.Model.{State, forms, Preview, Call, Answer, finished, Outcome, left, workOut, answer, next}
-use Rattle.model.specs.Since.{isOpening, noOpening, isPreview, asks, previewsOf, Sendable}
+use Rattle.model.specs.Model.{State, forms, Preview, Call, Answer, finished, Outcome, left, workOut, said}
+use Rattle.model.specs.Responses.{answer, next}
+use Rattle.model.specs.Since.{noOpening, asks, previewsOf, Sendable}
 use Rattle.model.specs.Runs.{model, rounds, answers, after}
 use Rattle.model.specs.Laws.{Laws}
 use Rattle.model.specs.Invariant.{Invariant}
@@ -51,10 +52,10 @@ module _ (L : Language) where
       pub fewer : left L f (s′ .entries) ≤ left L f (s .entries) - k * a
 
     abbrev turn : ℕ → ℕ → Call L → Answer L → ℕ
-    turn n a c x = cond (isPreview L x && asks L n a (c .request)) 1 0
+    turn n a c x = cond (said L x .preview && asks L n a (c .request)) 1 0
 
     later-step : (n a : ℕ) (f : Form) (s : State L) (c : Call L) → Invariant L H s → getElem? (forms L (s .entries)) n ≡ some f
-        → isOpening L (answer L s c) ≡ false
+        → said L (answer L s c) .opening ≡ false
         → Later n a f s (next L s c) (turn n a c (answer L s c))
     later-step n a f s c i e o = go (step L H s c)
       where
@@ -92,7 +93,7 @@ module _ (L : Language) where
               recording = rw (x, next);
               fewer =
                   rw (x, q, answer, next)
-                  (rw (of-preview L (isPreview L) true _ _ _ refl refl)
+                  (rw (of-preview L (λ (x : Answer L). said L x .preview) true _ _ _ refl refl)
                   (split (eqb n m && eqb a b)
                   (λ p. rw p (rw one-of (matched m b g z p)))
                   (λ p. rw p (rw none-of (let u = left-other L (s .recording) b g f (s .entries) in omega arith)))));
@@ -104,7 +105,7 @@ module _ (L : Language) where
     unfolding after answers previewsOf noOpening
     later-run n a f s [] sent i e q = record { form = e; recording = refl; fewer = let z : 0 * a ≡ 0 = omega arith in omega arith }
     later-run n a f s (c ∷ cs) sent i e q =
-        split (isOpening L (answer L s c)) (λ p. impossible (rw p at q))
+        split (said L (answer L s c) .opening) (λ p. impossible (rw p at q))
         (λ p.
         let one = later-step n a f s c i e p in
         let more = later-run n a f (next L s c) cs (sent .1) (invariant-next L H s c (sent .0) i) (one .form) (rw p at q) in

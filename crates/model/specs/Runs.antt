@@ -2,12 +2,11 @@
 -- preview shows in the end. Assumes nothing.
 use mathlib.Core.Bool.{cond, not, _&&_}
 use mathlib.Core.List.{List, [], _∷_, _++_}
-use mathlib.Core.Option.{Option, none}
+use mathlib.Core.Option.{Option, none, orElse}
 use Prim.Native.Nat.{ℕ, zero, suc, _+_, _-_, _/_, max}
 use Rattle.model.specs.Lists.{countIf}
 use Rattle.model.specs.Language.{Language}
-use Rattle.model.specs.Model.{Entry, State, marked, Call, Answer, placesAfter, answer, next}
-use Rattle.model.specs.Since.{isOpening, shownOr}
+use Rattle.model.specs.Model.{Entry, State, marked, Call, Answer, placesAfter, said, respond}
 
 -- Something that is sent calls: to each it gives an answer and leaves the lent places and its memory, which holds a state of the model.
 pub record Machine (L : Language) : Type 1 where
@@ -24,9 +23,9 @@ model L =
     record {
       Memory = State L;
       Sent = Call L;
-      answer = answer L;
-      places = λ s c. placesAfter L (c .request) (answer L s c);
-      next = next L;
+      answer = λ s c. respond L s c .answer;
+      places = λ s c. placesAfter L (c .request) (respond L s c .answer);
+      next = λ s c. respond L s c .state;
       holds = λ s. s;
     }
 
@@ -59,12 +58,13 @@ module _ {L : Language} (M : Machine L) where
   unfoldable pub workLog : List (L .Form) → M .Memory → List (M .Sent) → List (L .Form)
   workLog fs m [] = fs
   workLog fs m (c ∷ cs) =
-      workLog (cond (isOpening L (M .answer m c)) [] (fs ++ newlyMarked L (M .holds m .entries) (M .holds (M .next m c) .entries))) (M .next m c) cs
+      workLog (cond (said L (M .answer m c) .opening) [] (fs ++ newlyMarked L (M .holds m .entries) (M .holds (M .next m c) .entries)))
+      (M .next m c) cs
 
   -- What the first finished preview shows when a call is sent again and again, at most so many times (01: in the end).
   unfoldable pub inTheEnd : ℕ → M .Memory → M .Sent → Option (L .Shown)
   inTheEnd zero m c = none
-  inTheEnd (suc times) m c = shownOr L (M .answer m c) (inTheEnd times (M .next m c) c)
+  inTheEnd (suc times) m c = orElse (said L (M .answer m c) .shown) (inTheEnd times (M .next m c) c)
 
 -- How many previews with allowance a it takes where k are left: ⌈k/a⌉, and at least one.
 unfoldable pub rounds : ℕ → ℕ → ℕ

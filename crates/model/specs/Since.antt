@@ -2,15 +2,14 @@
 -- Assumes nothing.
 use mathlib.Core.Bool.{Bool, true, false, cond, not, _&&_}
 use mathlib.Core.List.{List, [], _∷_, _++_}
-use mathlib.Core.Option.{Option, some}
 use Prim.Native.Nat.{ℕ, suc, _+_}
 use lib.Dec.{eqb}
 use Rattle.model.specs.Lists.{All}
 use Rattle.model.specs.Language.{Language, Parsed, rejected, parts}
-use Rattle.model.specs.Model.{Request, Open, Edit, Preview, Call, Answer, refused, opened, edited, notYet, finished}
+use Rattle.model.specs.Model.{Request, Open, Edit, Preview, Call, Answer, said}
 
 module _ (L : Language) where
-  open Language L using (Form, Shown, Reading, Sound, read)
+  open Language L using (Form, Reading, Sound, read)
 
   -- Any text, places and numbers can be sent, and readings that a recording can hold.
   abbrev pub SoundRequest : Request L → Type 0
@@ -21,17 +20,10 @@ module _ (L : Language) where
   abbrev pub Sendable : List (Call L) → Type 0
   Sendable = All (λ (c : Call L). SoundRequest (c .request))
 
-  -- An opening is an accepted open.
-  abbrev pub isOpening : Answer L → Bool
-  isOpening (refused n at) = false
-  isOpening opened = true
-  isOpening (edited w p k ns) = false
-  isOpening (notYet k) = false
-  isOpening (finished k v) = false
-
+  -- None of the answers is an opening.
   unfoldable pub noOpening : List (Answer L) → Bool
   noOpening [] = true
-  noOpening (x ∷ xs) = not (isOpening x) && noOpening xs
+  noOpening (x ∷ xs) = not (said L x .opening) && noOpening xs
 
   -- The recording of the last opening.
   abbrev pub recordingOf : List Reading → Request L → List Reading
@@ -42,7 +34,7 @@ module _ (L : Language) where
   unfoldable pub lastRecording : List Reading → List (Call L) → List (Answer L) → List Reading
   lastRecording r [] xs = r
   lastRecording r (c ∷ cs) [] = r
-  lastRecording r (c ∷ cs) (x ∷ xs) = lastRecording (cond (isOpening x) (recordingOf r (c .request)) r) cs xs
+  lastRecording r (c ∷ cs) (x ∷ xs) = lastRecording (cond (said L x .opening) (recordingOf r (c .request)) r) cs xs
 
   -- The part at a place of a text, its let-free form, and the number that an accepted edit gave at that place.
   pub record Part : Type 0 where
@@ -62,45 +54,24 @@ module _ (L : Language) where
   formsByPlace (rejected n at) = []
   formsByPlace (parts order places whole) = places
 
-  abbrev pub numbersIn : Answer L → List ℕ
-  numbersIn (refused n at) = []
-  numbersIn opened = []
-  numbersIn (edited w p k ns) = ns
-  numbersIn (notYet k) = []
-  numbersIn (finished k v) = []
-
   -- The parts that a call numbers.
   abbrev pub partsIn : Request L → Answer L → List Part
   partsIn (Open r) x = []
-  partsIn (Edit ps t) x = partsFrom t 0 (formsByPlace (read t)) (numbersIn x)
+  partsIn (Edit ps t) x = partsFrom t 0 (formsByPlace (read t)) (said L x .numbers)
   partsIn (Preview n a) x = []
 
   -- The parts numbered since the last opening.
   unfoldable pub partsGiven : List Part → List (Call L) → List (Answer L) → List Part
   partsGiven ps [] xs = ps
   partsGiven ps (c ∷ cs) [] = ps
-  partsGiven ps (c ∷ cs) (x ∷ xs) = partsGiven (cond (isOpening x) [] (partsIn (c .request) x ++ ps)) cs xs
+  partsGiven ps (c ∷ cs) (x ∷ xs) = partsGiven (cond (said L x .opening) [] (partsIn (c .request) x ++ ps)) cs xs
 
   -- The sum of the counts answered since the last opening.
-  abbrev pub workedIn : Answer L → ℕ
-  workedIn (refused n at) = 0
-  workedIn opened = 0
-  workedIn (edited w p k ns) = 0
-  workedIn (notYet k) = k
-  workedIn (finished k v) = k
-
   unfoldable pub total : ℕ → List (Answer L) → ℕ
   total k [] = k
-  total k (x ∷ xs) = total (cond (isOpening x) 0 (k + workedIn x)) xs
+  total k (x ∷ xs) = total (cond (said L x .opening) 0 (k + said L x .worked)) xs
 
   -- The accepted previews of number n with allowance a.
-  abbrev pub isPreview : Answer L → Bool
-  isPreview (refused n at) = false
-  isPreview opened = false
-  isPreview (edited w p k ns) = false
-  isPreview (notYet k) = true
-  isPreview (finished k v) = true
-
   abbrev pub asks : ℕ → ℕ → Request L → Bool
   asks n a (Open r) = false
   asks n a (Edit ps t) = false
@@ -109,12 +80,4 @@ module _ (L : Language) where
   unfoldable pub previewsOf : ℕ → ℕ → List (Call L) → List (Answer L) → ℕ
   previewsOf n a [] xs = 0
   previewsOf n a (c ∷ cs) [] = 0
-  previewsOf n a (c ∷ cs) (x ∷ xs) = cond (isPreview x && asks n a (c .request)) 1 0 + previewsOf n a cs xs
-
-  -- What a finished preview shows; of any other answer, what is given.
-  abbrev pub shownOr : Answer L → Option Shown → Option Shown
-  shownOr (refused n at) v = v
-  shownOr opened v = v
-  shownOr (edited w p k ns) v = v
-  shownOr (notYet k) v = v
-  shownOr (finished k u) v = some u
+  previewsOf n a (c ∷ cs) (x ∷ xs) = cond (said L x .preview && asks n a (c .request)) 1 0 + previewsOf n a cs xs

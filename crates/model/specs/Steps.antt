@@ -12,7 +12,8 @@ use lib.ListN.{length, getElem?}
 use Rattle.language.specs.Cases.{split}
 use Rattle.language.specs.Limits.{textBytes, textParts, tableReadings, tableEntries}
 use Rattle.model.specs.Language.{Language, Parsed, rejected, parts}
-use Rattle.model.specs.Model.{State, forms, Request, Open, Edit, Preview, Call, refuse, openedWith, onOpen, holdAll, editedTo, bind, onEdit, previewed, look, onPreview, onRequest, respond, next}
+use Rattle.model.specs.Model.{State, forms, Request, Open, Edit, Preview, Call, opened, refuse, start, onOpen, holdAll, editedTo, bind, onEdit, previewed, look, onPreview, onRequest, respond}
+use Rattle.model.specs.Responses.{next}
 use Rattle.model.specs.Laws.{Laws}
 
 module _ (L : Language) where
@@ -20,7 +21,7 @@ module _ (L : Language) where
 
   pub data Step (s : State L) (c : Call L) : Type 0 where
     declines : (n at : ℕ) → (n ≡ 4 → ⊥) → respond L s c ≡ refuse L n at s → Step s c
-    opens : (r : List Reading) → c .request ≡ Open r → length r ≤ tableReadings → respond L s c ≡ openedWith L r → Step s c
+    opens : (r : List Reading) → c .request ≡ Open r → length r ≤ tableReadings → respond L s c ≡ record { answer = opened; state = start L r } → Step s c
     edits : (ps t : List ℕ) (order places : List Form) (whole : Form) → c .request ≡ Edit ps t → length t ≤ textBytes → textParts ≤ length ps
         → read t ≡ parts order places whole → length (holdAll L order (s .entries)) ≤ tableEntries
         → respond L s c ≡ editedTo L s (holdAll L order (s .entries)) places whole → Step s c
@@ -28,7 +29,7 @@ module _ (L : Language) where
         → Step s c
 
   -- what a call comes to
-  pub accepts-open : (s : State L) (r : List Reading) → length r ≤ tableReadings → onRequest L s true (Open r) ≡ openedWith L r
+  pub accepts-open : (s : State L) (r : List Reading) → length r ≤ tableReadings → onRequest L s true (Open r) ≡ record { answer = opened; state = start L r }
   unfolding onRequest onOpen
   accepts-open s r h = rw (le-ltb tableReadings (length r) h)
 

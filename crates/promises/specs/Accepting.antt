@@ -18,22 +18,23 @@ use Rattle.grammar.specs.Machine.{readText}
 use Rattle.grammar.specs.Theorems.{text-read-plainly}
 use Rattle.meaning.specs.Binding.{formsInOrder}
 use Rattle.model.specs.Lists.{All}
-use Rattle.model.specs.Model.{refused, opened, holdAll}
+use Rattle.model.specs.Model.{refused, opened, said, holdAll}
 use Rattle.layout.specs.Memory.{Memory, fits, entryCount, recordingOf}
 use Rattle.table.specs.WellFormed.{wellFormed}
 use Rattle.binder.specs.AppendedLaws.{well-parts, well-from, well-empty}
 use Rattle.formulas.specs.Formulas.{IsReading, formulas}
 use Rattle.records.specs.Records.{recordsOf}
 use Rattle.schedule.specs.Works.{Work}
-use Rattle.interface.specs.Acceptance.{IsEdited, Ready}
+use Rattle.interface.specs.Acceptance.{IsEdited}
 use Rattle.interface.specs.AcceptanceLaws as Acceptance
-use Rattle.interface.specs.Calls.{openAnswer, openMemory, openedMemory, boundTo, editAnswer, editMemory, workOn, workedMemory, previewedAs, previewed, previewMemory}
+use Rattle.interface.specs.Calls.{openAnswer, openMemory, openedMemory, boundTo, editAnswer, editMemory, workOn, workedMemory, previewedAs, previewed, previewAnswer, previewMemory}
+use Rattle.interface.specs.Answers.{previewReply}
 use Rattle.demand.specs.Appended.{lengths, long-enough}
 use Rattle.demand.specs.Opening.{count-zero, count-readings, longer}
 use Rattle.demand.specs.Grown.{held-and-new, read-well, read-fits}
 use Rattle.demand.specs.Holds.{holds, workedOut}
 use Rattle.demand.specs.AnyCache.{worked-well, worked-fits, worked-rise}
-use Rattle.promises.specs.Terms.{CanEdit, counted}
+use Rattle.promises.specs.Terms.{CanEdit}
 
 -- ---- open
 
@@ -77,13 +78,26 @@ edit-well m places text w =
 -- the records bound to the entries held are the forms that the model then holds
 pub edit-accepted : (m : Memory) (places text : List ℕ) → IsEdited (editAnswer m places text) ↔ CanEdit m places text
 edit-accepted m places text = Iff·trans (Acceptance.edit-accepted m places text) (
-  λ c. record { ready = c .ready; expression = c .expression; read = c .read; held = rw (size (c .ready) (c .expression) (c .read)) at (c .held) },
-  λ c. record { ready = c .ready; expression = c .expression; read = c .read; held = rw (size (c .ready) (c .expression) (c .read)) (c .held) },
+  λ c. record {
+    short = c .ready .short;
+    whole = c .ready .whole;
+    room = c .ready .room;
+    well = c .ready .well;
+    expression = c .expression;
+    read = c .read;
+    held = rw (size (c .ready .well) (c .expression) (c .read)) at (c .held);
+  },
+  λ c. record {
+    ready = record { short = c .short; whole = c .whole; room = c .room; well = c .well };
+    expression = c .expression;
+    read = c .read;
+    held = rw (size (c .well) (c .expression) (c .read)) (c .held);
+  },
 )
   where
-    size : Ready m places text → (e : Expression) → readText text ≡ tree e
+    size : wellFormed m ≡ true → (e : Expression) → readText text ≡ tree e
         → length (boundTo m (recordsOf e) .nodes) ≡ length (holdAll formulas (formsInOrder e) (holds m .entries))
-    size r e h = held-and-new m (r .well) e (text-read-plainly text e .0 h .1)
+    size w e h = held-and-new m w e (text-read-plainly text e .0 h .1)
 
 -- ---- preview
 
@@ -100,7 +114,7 @@ preview-well m n a w sound =
     rw p (well-from (workedMemory m (workOn m n a)) (worked-well m (b .0) (well-parts m w) sound n (ltb-true n (entryCount m) (and-eq-true-iff (wellFormed m) _ .0 (b .1) .1)) a)))
     (λ p. rw p w)
 
-pub preview-rise : (m : Memory) (n a : ℕ) → All IsReading (recordingOf m) → workedOut (previewMemory m n a) ≡ workedOut m + counted (previewed m n a)
+pub preview-rise : (m : Memory) (n a : ℕ) → All IsReading (recordingOf m) → workedOut (previewMemory m n a) ≡ workedOut m + said formulas (previewAnswer m n a) .worked
 unfolding previewMemory previewed
 preview-rise m n a sound =
     split (fits m)
@@ -111,5 +125,5 @@ preview-rise m n a sound =
     (λ w. rw (f, w) (omega arith)))
     (λ f. rw f (omega arith))
   where
-    says : (w : Work) → counted (previewedAs m n w) ≡ w .count
+    says : (w : Work) → said formulas (previewReply (previewedAs m n w)) .worked ≡ w .count
     says w = split (w .left) (λ p. rw p) (λ p. rw p)

@@ -11,7 +11,7 @@ use Rattle.members.specs.declared.Member.{Member}
 use Rattle.rules.specs.declared.Value.{Value}
 use Rattle.rules.specs.declared.Value.the-variants.{Number, Window, Function, Delayed, Missing}
 use Rattle.rules.specs.Apply.{isMissing, isDelayed, apply0, apply1}
-use Rattle.meaning.specs.Forms.{Form, number, variable, unbound, readings, ask, call, function}
+use Rattle.meaning.specs.Forms.{Form, number, variable, unbound, readings, ask, call, function, nameOf}
 use Rattle.meaning.specs.Evaluation.{Result, valueOf, runOf, Environment, nowhere, bind, lookup, settled, functionOf, evaluate, putFor}
 use Rattle.meaning.specs.Evaluation.{hasName, awaited, aDelay, aReason, shownAs, shows}
 use Rattle.meaning.specs.EvaluationLaws.{evaluate-put}
@@ -90,7 +90,7 @@ pub free-shown : (xs : List ℤ) (f : Form) (y : ℕ) → hasName y (awaited f) 
 unfolding shows lookup
 free-shown xs f y h = by (valueOf (evaluate xs nowhere f)) (unsettled xs nowhere f (settled-no nowhere f y h refl))
   where
-    by : (v : Value) → late v ≡ true → (shownAs f v ≡ aDelay (awaited f)) ⊎ ((r : ℕ) × (shownAs f v ≡ aReason r))
+    by : (v : Value) → late v ≡ true → (shownAs (nameOf f) (awaited f) v ≡ aDelay (awaited f)) ⊎ ((r : ℕ) × (shownAs (nameOf f) (awaited f) v ≡ aReason r))
     by (Number z) e = impossible e
     by (Window s l) e = impossible e
     by Function e = impossible e
@@ -102,7 +102,7 @@ pub delay-free : (xs : List ℤ) (f : Form) (names : List ℕ) → shows xs f �
 unfolding shows
 delay-free xs f names h = by (valueOf (evaluate xs nowhere f)) refl h
   where
-    by : (v : Value) → valueOf (evaluate xs nowhere f) ≡ v → shownAs f v ≡ aDelay names → (names ≡ awaited f) × ((y : ℕ) × (hasName y names ≡ true))
+    by : (v : Value) → valueOf (evaluate xs nowhere f) ≡ v → shownAs (nameOf f) (awaited f) v ≡ aDelay names → (names ≡ awaited f) × ((y : ℕ) × (hasName y names ≡ true))
     by (Number z) e q = impossible (cc)
     by (Window s l) e q = impossible (cc)
     by Function e q = impossible (cc)

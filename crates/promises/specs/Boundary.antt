@@ -9,6 +9,7 @@ use Rattle.model.specs.Runs.{model, answers, after}
 use Rattle.model.specs.Engine.{Sent, told}
 use Rattle.model.specs.Demand.{last, Demand}
 use Rattle.formulas.specs.Formulas.{formulas}
+use Rattle.meaning.specs.Evaluation.{Shown}
 use Rattle.layout.specs.Memory.{Memory}
 use Rattle.refine.specs.Views.{viewOf}
 use Rattle.interface.specs.declared.answers.Edited.the-variants as Edit
@@ -43,44 +44,27 @@ pub data Run : Memory → List (Sent engine) → List ForC → Memory → Type 0
   next : (m : Memory) (c : Sent engine) (m′ : Memory) (x : ForC) (cs : List (Sent engine)) (xs : List ForC) (n : Memory)
       → Step (lend (c .lent) m) (c .request) m′ x → Run (back m m′) cs xs n → Run m (c ∷ cs) (x ∷ xs) n
 
--- The model's answers as C is given them: a refusal's number and place, or 0 and the values. No call gets the answer of another.
-abbrev pub openFor : Reply → ℕ
-openFor (refused n at) = n
-openFor opened = 0
-openFor (edited w p k ns) = 0
-openFor (notYet k) = 0
-openFor (finished k v) = 0
-
-abbrev pub editFor : Reply → EditAnswer
-editFor (refused n at) = editNumbers (Edit.Refused n at)
-editFor opened = editNumbers (Edit.Done 0 0 0)
-editFor (edited w p k ns) = editNumbers (Edit.Done w p k)
-editFor (notYet k) = editNumbers (Edit.Done 0 0 0)
-editFor (finished k v) = editNumbers (Edit.Done 0 0 0)
-
-abbrev pub previewFor : Reply → PreviewAnswer
-previewFor (refused n at) = previewNumbers (Preview.Refused n)
-previewFor opened = previewNumbers (Preview.NotYet 0)
-previewFor (edited w p k ns) = previewNumbers (Preview.NotYet 0)
-previewFor (notYet k) = previewNumbers (Preview.NotYet k)
-previewFor (finished k v) = previewNumbers (Preview.Finished k (viewOf v))
-
--- by what was called
-abbrev pub forC : Request formulas → Reply → ForC
-forC (Open r) x = fromOpen (openFor x)
-forC (Edit places text) x = fromEdit (editFor x) (written formulas x places)
-forC (Preview n a) x = fromPreview (previewFor x)
+-- The model's answer to a call as C is given it: a refusal's number and place, or 0 and the values, and an edit's places afterwards.
+pub data AsC : Request formulas → Reply → ForC → Type 0 where
+  openDone : (r : List ℤ) → AsC (Open r) opened (fromOpen 0)
+  openRefused : (r : List ℤ) (n at : ℕ) → AsC (Open r) (refused n at) (fromOpen n)
+  editDone : (ps t : List ℕ) (w p k : ℕ) (ns : List ℕ)
+      → AsC (Edit ps t) (edited w p k ns) (fromEdit (editNumbers (Edit.Done w p k)) (written formulas (edited w p k ns) ps))
+  editRefused : (ps t : List ℕ) (n at : ℕ) → AsC (Edit ps t) (refused n at) (fromEdit (editNumbers (Edit.Refused n at)) ps)
+  previewLeft : (n a k : ℕ) → AsC (Preview n a) (notYet k) (fromPreview (previewNumbers (Preview.NotYet k)))
+  previewDone : (n a k : ℕ) (v : Shown) → AsC (Preview n a) (finished k v) (fromPreview (previewNumbers (Preview.Finished k (viewOf v))))
+  previewRefused : (n a k at : ℕ) → AsC (Preview n a) (refused k at) (fromPreview (previewNumbers (Preview.Refused k)))
 
 -- of a list of calls
-unfoldable pub allForC : List (Sent engine) → List Reply → List ForC
-allForC [] xs = []
-allForC (c ∷ cs) [] = []
-allForC (c ∷ cs) (x ∷ xs) = forC (c .request) x ∷ allForC cs xs
+pub data AllAsC : List (Sent engine) → List Reply → List ForC → Type 0 where
+  none : AllAsC [] [] []
+  next : (c : Sent engine) (y : Reply) (x : ForC) (cs : List (Sent engine)) (ys : List Reply) (xs : List ForC)
+      → AsC (c .request) y x → AllAsC cs ys xs → AllAsC (c ∷ cs) (y ∷ ys) (x ∷ xs)
 
 -- Demand 3 of a run: memory m, of any contents, was opened with r, and then the calls cs gave xs and left the cache n. Each call gives what the
 -- model answers, the cache holds what the model holds, and all else is as demand 3 says.
 pub record DemandForC (m : Memory) (r : List ℤ) (cs : List (Sent engine)) (xs : List ForC) (n : Memory) : Type 0 where
-  pub answered : xs ≡ allForC cs (answers (model formulas) (start formulas r) (map (told engine) cs))
+  pub answered : AllAsC cs (answers (model formulas) (start formulas r) (map (told engine) cs)) xs
   pub held : holds n ≡ after (model formulas) (start formulas r) (map (told engine) cs)
   pub left : n ≡ last formulas engine m r cs
   pub demand : Demand formulas engine m r cs

@@ -5,12 +5,13 @@ use mathlib.Core.Bool.{true}
 use mathlib.Core.List.{List, _∷_, map}
 use Prim.Native.Nat.{ℕ}
 use lib.IntN.{ℤ}
+use lib.ListN.{take}
 use Rattle.language.specs.Cases.{impossible, split}
 use Rattle.model.specs.Lists.{All}
-use Rattle.model.specs.Model.{State, Request}
+use Rattle.model.specs.Model.{State, Request, Open, Edit, Preview, finished, written}
 use Rattle.model.specs.Since.{Sendable}
 use Rattle.model.specs.Runs.{answers, after}
-use Rattle.model.specs.Engine.{Sent, told, says, leaves, machine}
+use Rattle.model.specs.Engine.{Sent, told, machine}
 use Rattle.model.specs.Agreement.{accepted, Cache, opens as opens-cache, agree}
 use Rattle.model.specs.DemandLaws.{demand}
 use Rattle.formulas.specs.Formulas.{IsReading, formulas}
@@ -22,47 +23,53 @@ use Rattle.interface.specs.declared.answers.Edited.{Edited}
 use Rattle.interface.specs.declared.answers.Edited.the-variants as E
 use Rattle.interface.specs.declared.answers.Previewed.{Previewed}
 use Rattle.interface.specs.declared.answers.Previewed.the-variants as P
-use Rattle.interface.specs.Answers.{openReply, editReply, previewReply, openNumber, editNumbers, previewNumbers}
+use Rattle.interface.specs.Answers.{Reply, shownOf, openReply, editReply, previewReply, openNumber, editNumbers, previewNumbers}
 use Rattle.interface.specs.Calls.{previewed}
 use Rattle.interface.specs.Effects.{OpensForC}
 use Rattle.interface.specs.AcceptanceLaws.{open-zero}
 use Rattle.promises.specs.Lending.{lend, back}
 use Rattle.promises.specs.LendingLaws.{lent-fits}
 use Rattle.promises.specs.Implementing.{implements}
-use Rattle.promises.specs.Engine.{engine}
+use Rattle.promises.specs.Engine.{says, leaves, engine}
 use Rattle.promises.specs.Showing.{preview-plain}
 use Rattle.promises.specs.Boundary.{ForC, fromOpen, fromEdit, fromPreview, Step, opens, edits, previews, Run, none, next}
-use Rattle.promises.specs.Boundary.{openFor, editFor, previewFor, forC, allForC, DemandForC}
+use Rattle.promises.specs.Boundary.{AsC, openDone, openRefused, editDone, editRefused, previewLeft, previewDone, previewRefused, AllAsC, DemandForC}
 
 -- the numbers of an answer are those of the model's
-open-numbers : (x : Opened) → openNumber x ≡ openFor (openReply x)
-open-numbers O.Done = refl
-open-numbers (O.Refused n) = refl
+open-numbers : (r : List ℤ) (x : Opened) → AsC (Open r) (openReply x) (fromOpen (openNumber x))
+open-numbers r O.Done = openDone r
+open-numbers r (O.Refused n) = openRefused r n 0
 
-edit-numbers : (x : Edited) (places : List ℕ) → editNumbers x ≡ editFor (editReply x places)
-edit-numbers (E.Done w p k) places = refl
-edit-numbers (E.Refused n at) places = refl
+edit-numbers : (ps t : List ℕ) (x : Edited) (places : List ℕ)
+    → AsC (Edit ps t) (editReply x places) (fromEdit (editNumbers x) (written formulas (editReply x places) ps))
+unfolding written
+edit-numbers ps t (E.Done w p k) places = editDone ps t w p k (take p places)
+edit-numbers ps t (E.Refused n at) places = editRefused ps t n at
 
 -- a finished preview is of memory of the cache's size
 module _ (m : Memory) (n a : ℕ) (sound : fits m ≡ true → All IsReading (recordingOf m)) where
-  preview-numbers : (x : Previewed) → previewed m n a ≡ x → previewNumbers x ≡ previewFor (previewReply x)
-  preview-numbers (P.NotYet k) e = refl
+  preview-numbers : (x : Previewed) → previewed m n a ≡ x → AsC (Preview n a) (previewReply x) (fromPreview (previewNumbers x))
+  preview-numbers (P.NotYet k) e = previewLeft n a k
   preview-numbers (P.Finished k v) e =
-      split (fits m) (λ f. let p = preview-plain m n a k v e (sound f) in ap (λ u. previewNumbers (P.Finished k u)) p)
+      split (fits m) (λ f. let p = preview-plain m n a k v e (sound f) in subst (λ u. AsC (Preview n a) (finished k (shownOf v)) (fromPreview (previewNumbers (P.Finished k u)))) (sym p) (previewDone n a k (shownOf v)))
       (λ f. impossible (unfold previewed in let z = rw f at e in cc))
-  preview-numbers (P.Refused k) e = refl
+  preview-numbers (P.Refused k) e = previewRefused n a k 0
+
+moved : (q : Request formulas) {y z : Reply} {u x : ForC} → y ≡ z → u ≡ x → AsC q y u → AsC q z x
+moved q e f h = rw (← e, ← f) h
 
 -- one call
 step-given : (m : Memory) (q : Request formulas) (m′ : Memory) (x : ForC) → (fits m ≡ true → All IsReading (recordingOf m)) → Step m q m′ x
-    → (x ≡ forC q (says engine m q)) × (m′ ≡ leaves engine m q)
+    → AsC q (says m q) x × (m′ ≡ leaves m q)
 step-given _ _ _ _ sound (opens m r m′ x s) =
-    (ap fromOpen (s .numbers ∙ open-numbers (s .answer) ∙ ap openFor (s .opens .answer)), s .opens .memory)
+    (moved (Open r) (s .opens .answer) (ap fromOpen (sym (s .numbers))) (open-numbers r (s .answer)), s .opens .memory)
 step-given _ _ _ _ sound (edits m places text m′ places′ x s) =
-    let n = s .numbers ∙ edit-numbers (s .answer) places′ ∙ ap editFor (s .edits .answer) in
-    (λ t. fromEdit (n t) (s .edits .placed t), s .edits .memory)
+    let p = ap (λ (y : Reply). written formulas y places) (s .edits .answer) ∙ sym (s .edits .placed) in
+    let e : _≡_ {A = ForC} (fromEdit (editNumbers (s .answer)) (written formulas (editReply (s .answer) places′) places)) (fromEdit x places′) = λ t. fromEdit (sym (s .numbers) t) (p t) in
+    (moved (Edit places text) (s .edits .answer) e (edit-numbers places text (s .answer) places′), s .edits .memory)
 step-given _ _ _ _ sound (previews m n a m′ x s) =
     let e = s .previews .answer in
-    (ap fromPreview (s .numbers ∙ preview-numbers m n a sound (s .answer) (sym e) ∙ ap (λ y. previewFor (previewReply y)) e), s .previews .memory)
+    (moved (Preview n a) (ap previewReply e) (ap fromPreview (sym (s .numbers))) (preview-numbers m n a sound (s .answer) (sym e)), s .previews .memory)
 
 abbrev IsCache : Memory → Type 0
 IsCache = Cache formulas formula-laws engine implements
@@ -76,16 +83,16 @@ lent-sound n m k f =
 
 -- a run
 run-given : (m : Memory) (cs : List (Sent engine)) (xs : List ForC) (n : Memory) → Sendable formulas (map (told engine) cs) → IsCache m → Run m cs xs n
-    → (xs ≡ allForC cs (answers (machine engine) m cs)) × (n ≡ after (machine engine) m cs)
-unfolding allForC answers after
-run-given _ _ _ _ sent k (none m) = (refl, refl)
+    → AllAsC cs (answers (machine engine) m cs) xs × (n ≡ after (machine engine) m cs)
+unfolding answers after
+run-given _ _ _ _ sent k (none m) = (AllAsC.none, refl)
 run-given _ _ _ _ sent k (next m c m′ x cs xs n s more) =
     let one = step-given (lend (c .lent) m) (c .request) m′ x (lent-sound (c .lent) m k) s in
     let e = one .1 in
     let a = agree formulas formula-laws engine implements m c (sent .0) k in
     let rest = run-given (back m m′) cs xs n (sent .1) (rw e (a .cache)) more in
     let w = rw e at (rest .0) in
-    (λ t. one .0 t ∷ w t, rw e at (rest .1))
+    (AllAsC.next c _ x cs _ xs (one .0) w, rw e at (rest .1))
 
 pub run-demand : (m : Memory) (r : List ℤ) (m₁ : Memory) → OpensForC m r m₁ 0 → All IsReading r
     → (cs : List (Sent engine)) (xs : List ForC) (n : Memory) → Sendable formulas (map (told engine) cs) → Run m₁ cs xs n → DemandForC m r cs xs n
@@ -98,4 +105,4 @@ run-demand m r m₁ s sound cs xs n sent run =
     let given = run-given m₁ cs xs n sent (rw e k) run in
     let w = rw e at (given .0) in
     let l = rw e at (given .1) in
-    record { answered = w ∙ ap (allForC cs) (d .answered); held = rw l (d .held); left = l; demand = d }
+    record { answered = rw (d .answered) at w; held = rw l (d .held); left = l; demand = d }

@@ -32,7 +32,7 @@ use Rattle.promises.specs.Finishing.{finished-by}
 
 -- of a value, whatever its names
 value-shown : (xs : List ℤ) (v : Value) (name other : ℕ)
-    → readingsOf xs (shownOf (view (shownNumbers v) name other)) ≡ take (windowIn v .length) (drop (windowIn v .start) xs)
+    → readingsOf xs (view (shownNumbers v) name other) ≡ take (windowIn v .length) (drop (windowIn v .start) xs)
 unfolding readingsOf shownOf
 value-shown xs (Number z) name other = refl
 value-shown xs (Window s l) name other = refl
@@ -42,7 +42,7 @@ value-shown xs (Missing r) name other = refl
 
 -- an entry of a cache that is not refused
 pub fetch-shown : (m : Memory) (n : ℕ) → fits m ≡ true → wellFormed m ≡ true → n < entryCount m
-    → fetched m n ≡ readingsOf (m .readings) (shownOf (showOf (readingCount m) (m .links) (m .cells) n))
+    → fetched m n ≡ readingsOf (m .readings) (showOf (readingCount m) (m .links) (m .cells) n)
 unfolding showOf
 fetch-shown m n f w l =
     let v : Value = unpackOf (startAt (readingCount m) (m .links) (m .cells) n) in
@@ -87,7 +87,7 @@ fetch-windowless m n h =
 
 -- an entry whose preview is finished, in the cache that it leaves
 pub fetch-previewed : (m : Memory) (n a k : ℕ) (v : View) → previewed m n a ≡ Finished k v → All IsReading (recordingOf m)
-    → fetched (previewMemory m n a) n ≡ readingsOf (m .readings) (shownOf v)
+    → fetched (previewMemory m n a) n ≡ readingsOf (m .readings) v
 fetch-previewed m n a k v e sound =
     let d = finished-by m n a k v e sound in
     ap (λ (after : Memory). fetched after n) (d .memory) ∙ fetch-shown (workedMemory m (workOn m n a)) n (d .whole) (d .well) (d .held) ∙ rw (d .shows)

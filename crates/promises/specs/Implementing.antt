@@ -6,8 +6,8 @@ use lib.ListN.{length}
 use Rattle.language.specs.Limits.{textBytes, tableReadings}
 use Rattle.language.specs.Cases.{split}
 use Rattle.model.specs.Model as Model
-use Rattle.model.specs.Model.{State, Request, Open, Edit, Preview, Outcome, Answer, answer}
-use Rattle.model.specs.Engine.{says, leaves}
+use Rattle.model.specs.Model.{State, Request, Open, Edit, Preview, Outcome, Answer}
+use Rattle.model.specs.Responses.{answer}
 use Rattle.model.specs.Implements.{Agrees, Same, Implements}
 use Rattle.formulas.specs.Formulas.{formulas}
 use Rattle.bridge.specs.FormulaLaws.{formula-laws}
@@ -18,7 +18,7 @@ use Rattle.demand.specs.Editing.{Done, editing}
 use Rattle.demand.specs.Opening.{opening, too-long}
 use Rattle.demand.specs.Accepted.{accepted}
 use Rattle.demand.specs.Previewing.{previewing}
-use Rattle.promises.specs.Engine.{engine}
+use Rattle.promises.specs.Engine.{says, leaves, engine}
 use Rattle.promises.specs.LendingLaws.{lent-short, restored, lent-whole, back-whole, keeps-none}
 
 agrees : (o : Outcome formulas) (x : Answer formulas) (m : Memory) → Done m o x → Agrees engine Ok o x m
@@ -28,13 +28,13 @@ same : (m n : Memory) → Ok n × (holds n ≡ holds m) → Same engine Ok m n
 same m n p = record { ok = p .0; holds = p .1 }
 
 -- memory under the cache's size
-short-answer : (m : Memory) (q : Request formulas) (s : State formulas) → fits m ≡ false → says engine m q ≡ answer formulas s (record { enough = false; request = q })
+short-answer : (m : Memory) (q : Request formulas) (s : State formulas) → fits m ≡ false → says m q ≡ answer formulas s (record { enough = false; request = q })
 unfolding openAnswer editAnswer previewed Model.onRequest Model.onOpen Model.onEdit Model.onPreview
 short-answer m (Open r) s f = split (ltb tableReadings (length r)) (λ p. rw (p, answer)) (λ p. rw (p, f, answer))
 short-answer m (Edit places text) s f = split (ltb textBytes (length text)) (λ p. rw (p, answer)) (λ p. rw (p, f, answer))
 short-answer m (Preview n a) s f = rw (f, answer)
 
-short-memory : (m : Memory) (q : Request formulas) → fits m ≡ false → leaves engine m q ≡ m
+short-memory : (m : Memory) (q : Request formulas) → fits m ≡ false → leaves m q ≡ m
 unfolding openMemory editMemory previewMemory
 short-memory m (Open r) f = split (ltb tableReadings (length r)) (λ p. rw p) (λ p. rw (p, f))
 short-memory m (Edit places text) f = split (ltb textBytes (length text)) (λ p. rw p) (λ p. rw (p, f))
@@ -56,5 +56,5 @@ implements =
       opening = λ m r f h sound. agrees _ _ _ (opening m r f h);
       edit = λ m places text o i. agrees _ _ _ (editing m places text o i (accepted m o i));
       preview = λ m n a o i. agrees _ _ _ (previewing m n a o i (accepted m o i));
-      places = λ m places text. refl;
+      places = λ m q. refl;
     }

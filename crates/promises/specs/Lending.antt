@@ -6,7 +6,7 @@ use Prim.Native.Nat.{ℕ}
 use lib.ListN.{length, take, drop}
 use Rattle.language.specs.Limits.{tableReadings}
 use Rattle.layout.specs.Links.{tableLinks, tableCells}
-use Rattle.layout.specs.Memory.{Memory}
+use Rattle.layout.specs.Memory.{Memory, memory}
 
 -- the slice ys, its first cells those of xs
 abbrev pub lendSlice : {A : Type 0} (size : ℕ) (ys xs : List A) → List A
@@ -15,12 +15,8 @@ lendSlice size ys xs = take (length ys) (take size xs) ++ drop size ys
 -- the memory n, its first cells those of the cache m
 abbrev pub lend : Memory → Memory → Memory
 lend n m =
-    record {
-      readings = lendSlice tableReadings (n .readings) (m .readings);
-      heads = lendSlice 2 (n .heads) (m .heads);
-      links = lendSlice tableLinks (n .links) (m .links);
-      cells = lendSlice tableCells (n .cells) (m .cells);
-    }
+    memory (lendSlice tableReadings (n .readings) (m .readings)) (lendSlice 2 (n .heads) (m .heads))
+    (lendSlice tableLinks (n .links) (m .links)) (lendSlice tableCells (n .cells) (m .cells))
 
 -- the cells of n, as far as the sizes go, are those of the cache m
 pub record FirstOf (m n : Memory) : Type 0 where
@@ -36,9 +32,5 @@ backSlice size xs ps = take size ps ++ drop (length (take size ps)) xs
 -- the cache m once what was lent of it is back as p
 abbrev pub back : Memory → Memory → Memory
 back m p =
-    record {
-      readings = backSlice tableReadings (m .readings) (p .readings);
-      heads = backSlice 2 (m .heads) (p .heads);
-      links = backSlice tableLinks (m .links) (p .links);
-      cells = backSlice tableCells (m .cells) (p .cells);
-    }
+    memory (backSlice tableReadings (m .readings) (p .readings)) (backSlice 2 (m .heads) (p .heads))
+    (backSlice tableLinks (m .links) (p .links)) (backSlice tableCells (m .cells) (p .cells))

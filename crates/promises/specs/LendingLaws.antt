@@ -29,8 +29,7 @@ use Rattle.demand.specs.Holds.{holds, withMarks, markOf, Written, Ok}
 use Rattle.demand.specs.Appended.{Lengths, lengths, long-enough, entries-length}
 use Rattle.demand.specs.Needs.{entry-nth}
 use Rattle.demand.specs.Accepted.{accepted}
-use Rattle.promises.specs.Outside.{open-outside, few-entries, edit-outside, preview-outside}
-use Rattle.promises.specs.Terms.{Outside}
+use Rattle.promises.specs.Outside.{Outside, open-kept, few-entries, edit-kept, preview-kept}
 use Rattle.promises.specs.Accepting.{open-fits, edit-fits, preview-fits}
 use Rattle.promises.specs.Lending.{lendSlice, lend, FirstOf, backSlice, back}
 
@@ -155,13 +154,13 @@ itself-back m p f o =
     }
 
 pub open-back : (m : Memory) (r : List ℤ) → fits m ≡ true → back m (openMemory m r) ≡ openMemory m r
-open-back m r f = itself-back m (openMemory m r) (open-fits m r ∙ f) (open-outside m r)
+open-back m r f = itself-back m (openMemory m r) (open-fits m r ∙ f) (open-kept m r)
 
 pub edit-back : (m : Memory) (places text : List ℕ) → fits m ≡ true → back m (editMemory m places text) ≡ editMemory m places text
-edit-back m places text f = itself-back m (editMemory m places text) (edit-fits m places text ∙ f) (edit-outside m places text)
+edit-back m places text f = itself-back m (editMemory m places text) (edit-fits m places text ∙ f) (edit-kept m places text)
 
 pub preview-back : (m : Memory) (n a : ℕ) → fits m ≡ true → back m (previewMemory m n a) ≡ previewMemory m n a
-preview-back m n a f = itself-back m (previewMemory m n a) (preview-fits m n a ∙ f) (preview-outside m n a)
+preview-back m n a f = itself-back m (previewMemory m n a) (preview-fits m n a ∙ f) (preview-kept m n a)
 
 -- two memories with the same cells within the sizes
 record Alike (m n : Memory) : Type 0 where

@@ -14,14 +14,24 @@ use Rattle.language.specs.Cases.{split}
 use Rattle.grammar.specs.Reading.{Reading, tree, refused as refusedAt}
 use Rattle.grammar.specs.Machine.{readText}
 use Rattle.layout.specs.Links.{tableLinks, tableCells, kindIndex, firstIndex, secondIndex, keyIndex, valueIndex, nameIndex, otherIndex, linksWith, keptWith}
-use Rattle.layout.specs.Memory.{Memory, Node, fits, entryCount}
+use Rattle.layout.specs.Memory.{Memory, memory, Node, fits, entryCount}
 use Rattle.table.specs.WellFormed.{wellFormed}
 use Rattle.table.specs.Bind.{Bound, append, appendAll}
 use Rattle.schedule.specs.Works.{chosen, nameFor, otherFor, kept, workFrom, worked}
 use Rattle.records.specs.Records.{recordsOf}
 use Rattle.interface.specs.Calls.{openedMemory, openMemory, boundTo, tooMany, editedMemory, readMemory, editMemory, workOn, workedMemory, previewMemory}
 use Rattle.demand.specs.Appended.{lengths}
-use Rattle.promises.specs.Terms.{Outside}
+use Rattle.promises.specs.Terms.{beyond}
+
+-- beyond the cache's sizes the memory n has the cells of m
+pub record Outside (m n : Memory) : Type 0 where
+  pub readings : drop tableReadings (n .readings) ≡ drop tableReadings (m .readings)
+  pub heads : drop 2 (n .heads) ≡ drop 2 (m .heads)
+  pub links : drop tableLinks (n .links) ≡ drop tableLinks (m .links)
+  pub cells : drop tableCells (n .cells) ≡ drop tableCells (m .cells)
+
+all-beyond : (m n : Memory) → Outside m n → beyond n ≡ beyond m
+all-beyond m n o = λ i. memory (o .readings i) (o .heads i) (o .links i) (o .cells i)
 
 same : (m : Memory) → Outside m m
 same m = record { readings = refl; heads = refl; links = refl; cells = refl }
@@ -33,9 +43,9 @@ behind n r xs h =
     subst (λ (k : ℕ). drop k (r ++ drop (length r) xs) ≡ drop k xs) e
     (drop-append-add r (drop (length r) xs) (n - length r) ∙ drop-drop (n - length r) (length r) xs)
 
-pub open-outside : (m : Memory) (r : List ℤ) → Outside m (openMemory m r)
+pub open-kept : (m : Memory) (r : List ℤ) → Outside m (openMemory m r)
 unfolding openMemory
-open-outside m r =
+open-kept m r =
     split (ltb tableReadings (length r)) (λ p. rw p (same m))
     (λ p. split (fits m) (λ q. rw (p, q) (opened (ltb-false tableReadings (length r) p))) (λ q. rw (p, q) (same m)))
   where
@@ -110,9 +120,9 @@ unfolding readMemory
 read-outside m (refusedAt n at) f w = same m
 read-outside m (tree e) f w = let l = lengths m f .heads in edited-outside m (boundTo m (recordsOf e)) (omega arith) (few-entries m w)
 
-pub edit-outside : (m : Memory) (places text : List ℕ) → Outside m (editMemory m places text)
+pub edit-kept : (m : Memory) (places text : List ℕ) → Outside m (editMemory m places text)
 unfolding editMemory
-edit-outside m places text =
+edit-kept m places text =
     split (ltb textBytes (length text)) (λ p. rw p (same m))
     (λ p. split (fits m && leb textParts (length places))
     (λ q. split (wellFormed m) (λ w. rw (p, q, w) (read-outside m (readText text) (and-eq-true-iff _ _ .0 q .0) w)) (λ w. rw (p, q, w) (same m)))
@@ -136,12 +146,21 @@ work-outside value links waits flags a (suc k) i cells frame count h =
     (λ q. rw (p, q)))
     (λ p. rw p (work-outside value links waits flags a k (suc i) cells frame count (omega arith)))
 
-pub preview-outside : (m : Memory) (n a : ℕ) → Outside m (previewMemory m n a)
+pub preview-kept : (m : Memory) (n a : ℕ) → Outside m (previewMemory m n a)
 unfolding previewMemory worked
-preview-outside m n a =
+preview-kept m n a =
     split (fits m && (wellFormed m && ltb n (entryCount m)))
     (λ p. let q = and-eq-true-iff (wellFormed m) _ .0 (and-eq-true-iff (fits m) _ .0 p .1) in rw p (by (q .0) (ltb-true _ _ (q .1))))
     (λ p. rw p (same m))
   where
     by : wellFormed m ≡ true → n < entryCount m → Outside m (workedMemory m (workOn m n a))
     by w l = let few = few-entries m w in record { readings = refl; heads = refl; links = refl; cells = work-outside _ _ _ _ a (suc n) 0 (m .cells) _ 0 (omega arith) }
+
+pub open-outside : (m : Memory) (r : List ℤ) → beyond (openMemory m r) ≡ beyond m
+open-outside m r = all-beyond m (openMemory m r) (open-kept m r)
+
+pub edit-outside : (m : Memory) (places text : List ℕ) → beyond (editMemory m places text) ≡ beyond m
+edit-outside m places text = all-beyond m (editMemory m places text) (edit-kept m places text)
+
+pub preview-outside : (m : Memory) (n a : ℕ) → beyond (previewMemory m n a) ≡ beyond m
+preview-outside m n a = all-beyond m (previewMemory m n a) (preview-kept m n a)

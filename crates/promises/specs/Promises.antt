@@ -23,7 +23,7 @@ use Rattle.grammar.specs.Reading.{tree, refused as refusedAt, RefusedBy, placeO
 use Rattle.grammar.specs.Machine.{readText}
 use Rattle.grammar.specs.Theorems.{text-read-plainly, text-refused}
 use Rattle.model.specs.Lists.{All}
-use Rattle.model.specs.Model.{refused, opened}
+use Rattle.model.specs.Model.{refused, opened, said}
 use Rattle.model.specs.Since.{Sendable}
 use Rattle.model.specs.Engine.{Sent, told}
 use Rattle.model.specs.Demand.{Demand}
@@ -35,7 +35,7 @@ use Rattle.rules.specs.Values.{ranged, divisionByZero}
 use Rattle.rules.specs.Numbers.{NotAbove, Above, GreatestNotAbove, quotient}
 use Rattle.rules.specs.NumbersLaws as Division
 use Rattle.rules.specs.Rules.{onNumbers}
-use Rattle.meaning.specs.Forms.{Form, function, same, IsDependency, dependency, AtOrBelow, within}
+use Rattle.meaning.specs.Forms.{Form, function, same, IsDependency, dependency, AtOrBelow, within, works}
 use Rattle.meaning.specs.FormsLaws as Forms
 use Rattle.rules.specs.Apply.{isDelayed}
 use Rattle.meaning.specs.Binding.{formsByPlace}
@@ -69,7 +69,7 @@ use Rattle.promises.specs.Engine.{engine}
 use Rattle.promises.specs.Boundary.{ForC, Run, DemandForC}
 use Rattle.promises.specs.BoundaryLaws as Boundary
 use Rattle.promises.specs.Awaiting as Awaiting
-use Rattle.promises.specs.Terms.{Outside, CanEdit, counted, readingsOf, AwaitedNames}
+use Rattle.promises.specs.Terms.{beyond, CanEdit, readingsOf, AwaitedNames}
 use Rattle.promises.specs.Declined as Declined
 use Rattle.promises.specs.Outside as Outside
 use Rattle.promises.specs.Showing as Showing
@@ -136,13 +136,13 @@ pub preview-declined : (m : Memory) (n a k : ℕ) → previewed m n a ≡ Refuse
 preview-declined = Declined.preview-declined
 
 -- Cells beyond the sizes keep their contents.
-pub open-outside : (m : Memory) (r : List ℤ) → Outside m (openMemory m r)
+pub open-outside : (m : Memory) (r : List ℤ) → beyond (openMemory m r) ≡ beyond m
 open-outside = Outside.open-outside
 
-pub edit-outside : (m : Memory) (places text : List ℕ) → Outside m (editMemory m places text)
+pub edit-outside : (m : Memory) (places text : List ℕ) → beyond (editMemory m places text) ≡ beyond m
 edit-outside = Outside.edit-outside
 
-pub preview-outside : (m : Memory) (n a : ℕ) → Outside m (previewMemory m n a)
+pub preview-outside : (m : Memory) (n a : ℕ) → beyond (previewMemory m n a) ≡ beyond m
 preview-outside = Outside.preview-outside
 
 -- What an open leaves is well-formed, and so is what an edit or a preview leaves of a cache that is, whatever was in it.
@@ -167,7 +167,8 @@ pub preview-fits : (m : Memory) (n a : ℕ) → fits (previewMemory m n a) ≡ f
 preview-fits = Accepting.preview-fits
 
 -- The count that a preview answers is the rise in entries with a kept value.
-pub preview-rise : (m : Memory) (n a : ℕ) → All IsReading (recordingOf m) → workedOut (previewMemory m n a) ≡ workedOut m + counted (previewed m n a)
+pub preview-rise : (m : Memory) (n a : ℕ) → All IsReading (recordingOf m)
+    → workedOut (previewMemory m n a) ≡ workedOut m + said formulas (previewAnswer m n a) .worked
 preview-rise = Accepting.preview-rise
 
 -- 2. The reader.
@@ -196,7 +197,8 @@ lets-replaced = text-lets
 pub parts-replaced : (text : List ℕ) (e : Expression) → readText text ≡ tree e → AtLetsE PartsSubstituted e []
 parts-replaced = text-parts
 
--- The tests of forms mean what they say: the one is the other, is a dependency of it, is it or lies below it.
+-- The tests of forms mean what they say: the one is the other, is a dependency of it, is it or lies below it; and what is worked out has a
+-- dependency: members and functions.
 pub same-exactly : (f g : Form) → (same f g ≡ true) ↔ (f ≡ g)
 same-exactly = Forms.same-exactly
 
@@ -205,6 +207,9 @@ dependency-exactly = Forms.dependency-exactly
 
 pub within-exactly : (f g : Form) → (within f g ≡ true) ↔ AtOrBelow f g
 within-exactly = Forms.within-exactly
+
+pub works-exactly : (f : Form) → (works f ≡ true) ↔ ((d : Form) × IsDependency d f)
+works-exactly = Forms.works-exactly
 
 -- 02, T-02: division goes down. By zero it is reason 3. Otherwise it is the greatest whole number not above the quotient, and reason 4 where
 -- that is beyond signed 32 bits.
@@ -255,11 +260,11 @@ preview-plain = Showing.preview-plain
 -- Fetch hands out the readings of the window that the entry shows, and so those that a finished preview showed; the empty part at the start
 -- for an entry that shows no window, one that is not worked out or does not exist, and for a cache that is refused.
 pub fetch-shown : (m : Memory) (n : ℕ) → fits m ≡ true → wellFormed m ≡ true → n < entryCount m
-    → fetched m n ≡ readingsOf (m .readings) (shownOf (showOf (readingCount m) (m .links) (m .cells) n))
+    → fetched m n ≡ readingsOf (m .readings) (showOf (readingCount m) (m .links) (m .cells) n)
 fetch-shown = Fetching.fetch-shown
 
 pub fetch-previewed : (m : Memory) (n a k : ℕ) (v : View) → previewed m n a ≡ Finished k v → All IsReading (recordingOf m)
-    → fetched (previewMemory m n a) n ≡ readingsOf (m .readings) (shownOf v)
+    → fetched (previewMemory m n a) n ≡ readingsOf (m .readings) v
 fetch-previewed = Fetching.fetch-previewed
 
 pub fetch-windowless : (m : Memory) (n : ℕ) → ((s l : ℕ) → ¬ (shownOf (showOf (readingCount m) (m .links) (m .cells) n) ≡ aWindow s l))

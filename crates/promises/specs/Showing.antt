@@ -9,7 +9,7 @@ use lib.Dec.{ltb, eqb}
 use Rattle.language.specs.Cases.{impossible, split}
 use Rattle.rules.specs.declared.Value.{Value}
 use Rattle.rules.specs.declared.Value.the-variants.{Number, Window, Function, Delayed, Missing}
-use Rattle.values.specs.Packing.{functionCell, delayedCell, unpackOf, isFunctionCell, isDelayedCell}
+use Rattle.values.specs.Packing.{functionCell, delayedCell, unpackOf}
 use Rattle.values.specs.PackingLaws.{unpack-function, unpack-delayed}
 use Rattle.values.specs.Shown.{shownNumbers}
 use Rattle.model.specs.Lists.{All}
@@ -60,9 +60,9 @@ none-named (Missing r) = (refl, refl)
 kept-named : (k : Kept) → namesRight k ≡ true → Named (unpackOf (k .value)) (k .name) (k .other)
 unfolding namesRight
 kept-named k h =
-    split (isFunctionCell (k .value))
+    split (eqb (k .value) functionCell)
     (λ p. let c = eqb-true (k .value) functionCell p in rw (unpack-function (k .value) (omega arith) (omega arith)) (eqb-true (k .other) 0 (and-eq-true-iff (isName (k .name)) _ .0 (rw p at h) .1)))
-    (λ p. split (isDelayedCell (k .value))
+    (λ p. split (eqb (k .value) delayedCell)
     (λ q. let c = eqb-true (k .value) delayedCell q in rw (unpack-delayed (k .value) (omega arith) (omega arith)) (delayed (rw (p, q) at h)))
     (λ q. let z = and-eq-true-iff (eqb (k .name) 0) _ .0 (rw (p, q) at h) in
     rw (eqb-true (k .name) 0 (z .0), eqb-true (k .other) 0 (z .1)) (none-named (unpackOf (k .value)))))

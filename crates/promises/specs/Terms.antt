@@ -1,13 +1,13 @@
--- What the promise page speaks of beside the calls and the model: cells beyond the sizes, when an edit is accepted, the count that a preview
--- answers, the readings of what is shown, and the names that a form awaits. Assumes nothing: these are definitions.
+-- What the promise page speaks of beside the calls and the model: cells beyond the sizes, when an edit is accepted, the readings of what is
+-- shown, and the names that a form awaits. Assumes nothing: these are definitions.
 use mathlib.Core.Path.{_≡_}
-use mathlib.Core.Bool.{not, _&&_, _||_}
+use mathlib.Core.Bool.{true, cond, not, _&&_, _||_}
 use mathlib.Core.List.{List, [], _∷_}
 use Prim.Native.Nat.{ℕ, _≤_}
 use lib.Dec.{eqb}
 use lib.IntN.{ℤ}
 use lib.ListN.{length, take, drop}
-use Rattle.language.specs.Limits.{tableEntries, tableReadings}
+use Rattle.language.specs.Limits.{textBytes, textParts, tableEntries, tableReadings}
 use Rattle.members.specs.declared.Member.{Member}
 use Rattle.grammar.specs.Grammar.{Expression}
 use Rattle.grammar.specs.Reading.{tree}
@@ -16,41 +16,31 @@ use Rattle.model.specs.Model.{holdAll}
 use Rattle.formulas.specs.Formulas.{formulas}
 use Rattle.meaning.specs.Forms.{Form, number, variable, unbound, readings, ask, call, function}
 use Rattle.meaning.specs.Binding.{formsInOrder}
-use Rattle.meaning.specs.Evaluation.{hasName, joined, without, awaited, Shown, aNumber, aWindow, aFunction, aDelay, aReason}
+use Rattle.meaning.specs.Evaluation.{hasName, joined, without, awaited}
 use Rattle.layout.specs.Links.{tableLinks, tableCells}
-use Rattle.layout.specs.Memory.{Memory}
-use Rattle.interface.specs.declared.answers.Previewed.{Previewed}
-use Rattle.interface.specs.declared.answers.Previewed.the-variants.{NotYet, Finished, Refused}
-use Rattle.interface.specs.Acceptance.{Ready}
+use Rattle.layout.specs.Memory.{Memory, memory, fits}
+use Rattle.schedule.specs.declared.View.{View}
+use Rattle.interface.specs.Answers.{natural}
+use Rattle.table.specs.WellFormed.{wellFormed}
 use Rattle.demand.specs.Holds.{holds}
 
--- beyond the cache's sizes the memory n has the cells of m
-pub record Outside (m n : Memory) : Type 0 where
-  pub readings : drop tableReadings (n .readings) ≡ drop tableReadings (m .readings)
-  pub heads : drop 2 (n .heads) ≡ drop 2 (m .heads)
-  pub links : drop tableLinks (n .links) ≡ drop tableLinks (m .links)
-  pub cells : drop tableCells (n .cells) ≡ drop tableCells (m .cells)
+-- the cells beyond the cache's sizes
+abbrev pub beyond : Memory → Memory
+beyond m = memory (drop tableReadings (m .readings)) (drop 2 (m .heads)) (drop tableLinks (m .links)) (drop tableCells (m .cells))
 
 -- an edit can be accepted: none of 1, 3 and 4 comes up, nor 5 to 12, as the text is read, nor 13: entries held plus new forms exceed 512
 pub record CanEdit (m : Memory) (places text : List ℕ) : Type 0 where
-  pub ready : Ready m places text
+  pub short : length text ≤ textBytes
+  pub whole : fits m ≡ true
+  pub room : textParts ≤ length places
+  pub well : wellFormed m ≡ true
   pub expression : Expression
   pub read : readText text ≡ tree expression
   pub held : length (holdAll formulas (formsInOrder expression) (holds m .entries)) ≤ tableEntries
 
--- how many entries the answer says were worked out
-abbrev pub counted : Previewed → ℕ
-counted (NotYet k) = k
-counted (Finished k v) = k
-counted (Refused r) = 0
-
--- the readings of what is shown
-unfoldable pub readingsOf : List ℤ → Shown → List ℤ
-readingsOf xs (aWindow s l) = take l (drop s xs)
-readingsOf xs (aNumber z) = []
-readingsOf xs (aFunction x) = []
-readingsOf xs (aDelay names) = []
-readingsOf xs (aReason r) = []
+-- the readings of what is shown: kind 2 is a window
+unfoldable pub readingsOf : List ℤ → View → List ℤ
+readingsOf xs v = cond (eqb (v .kind) 2) (take (v .second) (drop (natural (v .first)) xs)) []
 
 -- Figure 5: a variable awaits itself (var); a member what its dependencies await, the receiver's names first and each once (mem-expr); a
 -- function what its body awaits but its own name (fun-bind, fun-expr); all else is a value and awaits nothing (val)

@@ -1,5 +1,5 @@
 -- The records that a tree is read to: one for each part but lets and uses of their names, in the order of binding (01, "Binding"), with
--- links to earlier records; and, by place, the record of each part. A let's name stands for the record of its value, so that what is
+-- links to earlier records; and, by place, the record of each part. A let's name (for, the) record of its value, so that what is
 -- shared stays shared. Assumes nothing: these are definitions. That they unfold to the let-free forms is bridge's Recorded.
 use mathlib.Core.Bool.{cond}
 use mathlib.Core.List.{List, [], _∷_, _++_}
@@ -13,12 +13,8 @@ use Rattle.layout.specs.Memory.{Node, node}
 use Rattle.layout.specs.Nodes.{numberKind, variableKind, unboundKind, readingsKind, functionKind, memberKind}
 
 -- a name, and what it stands for: 0 a lambda's variable, or one more than the record of a let's value
-pub record Named : Type 0 where
-  pub name : List ℕ
-  pub link : ℕ
-
-abbrev pub stands : List ℕ → ℕ → Named
-stands x j = record { name = x; link = j }
+abbrev pub Named : Type 0
+Named = List ℕ × ℕ
 
 -- the records so far, the record of what was read last, and the records of its parts by place
 pub record Recorded : Type 0 where
@@ -42,7 +38,7 @@ linked (suc j) x t = record { records = t; root = j; places = j ∷ [] }
 -- an inner let or lambda hides an outer one; a name that none of them binds is unbound
 unfoldable pub recordScoped : List ℕ → List Named → List Node → Recorded
 recordScoped x [] t = newRecord (node unboundKind (packed x) 0 0) t (length t ∷ [])
-recordScoped x (e ∷ Σ) t = cond (sameName x (e .name)) (linked (e .link) x t) (recordScoped x Σ t)
+recordScoped x (e ∷ Σ) t = cond (sameName x (e .0)) (linked (e .1) x t) (recordScoped x Σ t)
 
 -- a name in use
 unfoldable pub recordName : List ℕ → List Named → List Node → Recorded
@@ -57,10 +53,10 @@ unfoldable mutual
   pub recordE : Expression → List Named → List Node → Recorded
   recordE (letIn x a b) Σ t =
       let A : Recorded = recordE a Σ t in
-      let B : Recorded = recordE b (stands x (suc (A .root)) ∷ Σ) (A .records) in
+      let B : Recorded = recordE b ((x, suc (A .root)) ∷ Σ) (A .records) in
       behind (B .root ∷ A .places) B
   recordE (lambda x b) Σ t =
-      let B : Recorded = recordE b (stands x 0 ∷ Σ) t in
+      let B : Recorded = recordE b ((x, 0) ∷ Σ) t in
       newRecord (node functionKind (packed x) (suc (B .root)) 0) (B .records) (length (B .records) ∷ B .places)
   recordE (name x r) Σ t =
       let N : Recorded = recordName x Σ t in

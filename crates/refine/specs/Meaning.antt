@@ -16,21 +16,21 @@ use lib.Signed.{mag}
 use Rattle.table.specs.NodeKinds.{member-found}
 use Rattle.language.specs.Cases.{split, either, or-right, by-cond}
 use Rattle.language.specs.Limits.{tableEntries, tableReadings}
-use Rattle.members.specs.Members.{row}
 use Rattle.members.specs.declared.Member.{Member}
 use Rattle.rules.specs.declared.Value.{Value}
 use Rattle.rules.specs.declared.Value.the-variants.{Number, Window, Function, Delayed, Missing}
 use Rattle.values.specs.declared.apply.Applied.{Applied}
 use Rattle.values.specs.declared.apply.Applied.the-variants.{Done, Run}
 use Rattle.values.specs.declared.runs.Tally.{Tally}
-use Rattle.rules.specs.Apply.{isKind, apply0, isMissing, isDelayed}
-use Rattle.values.specs.Applied.{ruledWindow, ruled1, applied1, completed}
+use Rattle.rules.specs.Apply.{apply0, isMissing, isDelayed}
+use Rattle.values.specs.Applied.{applied1, completed}
+use Rattle.values.specs.KeepableApply.{if-window, if-function, if-runs}
 use Rattle.values.specs.ApplyLaws.{completed-is}
 use Rattle.values.specs.Keepable.{Keepable}
 use Rattle.values.specs.Packing.{packOf, unpackOf, functionCell, delayedCell, missingCell}
 use Rattle.values.specs.PackingLaws.{round}
 use Rattle.values.specs.Ranges.{up-size}
-use Rattle.rules.specs.Rules.{ofRuns}
+use Rattle.rules.specs.Rules.{rule, ofRuns}
 use Rattle.values.specs.Tallies.{begun}
 use Rattle.values.specs.Tallies as Tallies
 use Rattle.values.specs.TallyLaws.{finished-is}
@@ -95,31 +95,11 @@ abbrev RunsOn : Value → Applied → Type 0
 RunsOn w (Done u) = Unit {0}
 RunsOn w (Run s l) = w ≡ Function
 
-on-window : (m : Member) (xs : List ℤ) (s l : ℕ) (w : Value) → RunsOn w (ruledWindow m xs s l w)
-unfolding ruledWindow
-on-window m xs s l (Number n) = tt
-on-window m xs s l Function = refl
-on-window m xs s l (Window s′ l′) = tt
-on-window m xs s l Delayed = tt
-on-window m xs s l (Missing r) = tt
-
-on-rule : (m : Member) (xs : List ℤ) (v w : Value) → RunsOn w (ruled1 m xs v w)
-unfolding ruled1
-on-rule m xs (Number a) w = tt
-on-rule m xs (Window s l) w = on-window m xs s l w
-on-rule m xs Function w = tt
-on-rule m xs Delayed w = tt
-on-rule m xs (Missing r) w = tt
-
 runs-function : (m : Member) (xs : List ℤ) (v w : Value) → RunsOn w (applied1 m xs v w)
 unfolding applied1
 runs-function m xs v w =
-    by-cond (RunsOn w) (isMissing v) _ _ (λ h. tt)
-    (λ h. by-cond (RunsOn w) (isMissing w) _ _ (λ h. tt)
-    (λ h. by-cond (RunsOn w) (isDelayed v) _ _ (λ h. tt)
-    (λ h. by-cond (RunsOn w) (isDelayed w) _ _ (λ h. tt)
-    (λ h. by-cond (RunsOn w) (isKind v (row m .receiver)) _ _
-    (λ h. by-cond (RunsOn w) (isKind w (row m .argument)) _ _ (λ h. on-rule m xs v w) (λ h. tt)) (λ h. tt)))))
+    if-window (RunsOn w) _ tt v _
+    (λ s l e. if-function (RunsOn w) _ tt w _ (λ f. if-runs (RunsOn w) _ tt (rule m) _ (λ g. f)))
 
 function-runs : (v : Value) (s : Bool) (g : ℤ → Result) → valueOf (functionOf v s g) ≡ Function → functionOf v s g ≡ runs g
 unfolding valueOf

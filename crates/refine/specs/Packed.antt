@@ -1,7 +1,7 @@
 -- Working an entry out over any table and any frame whose cells are empty or packed values that may be kept gives such a value; and a
 -- function only for a function's own entry. By the fuel, and by what the entry asks for. Assumes nothing.
 use mathlib.Core.Path.{_≡_, refl, sym, ap, _∙_, subst}
-use mathlib.Core.Bool.{Bool, true, false, cond}
+use mathlib.Core.Bool.{Bool, true, false, cond, _&&_}
 use mathlib.Core.List.{List, [], _∷_}
 use mathlib.Core.Logic.{_⊎_, inl, inr, ⊎-elim}
 use Prim.Native.Nat.{ℕ, zero, suc, _+_, _-_, _%_, _≤_, _<_}
@@ -167,13 +167,9 @@ module _ (g : Graph) (n : ℕ) (short : n ≤ 65535) (small : (k : ℕ) → k < 
     unfolding followOf runOf
     planned-follow f kind (Done v) k = planned-done kind (packOf v) (right-value n kind v (k .0) (k .1))
     planned-follow f kind (Run s l) k =
-        by-cond (Planned kind) (eqb (kindAt (g .links) f) functionKind) _ _
-        (λ e. by-cond (Planned kind) (isBelow (firstAt (g .links) f) f) _ _
-        (λ e. by-cond (Planned kind) (leb (ownOf (getD (g .waits) (firstAt (g .links) f - 1) 0) (getD (g .waits) f 0)) tableEntries) _ _
-        (λ e. planned-task kind s l _ _ k)
-        (λ e. planned-wrong kind))
-        (λ e. planned-wrong kind))
-        (λ e. planned-wrong kind)
+        let own : ℕ = ownOf (getD (g .waits) (firstAt (g .links) f - 1) 0) (getD (g .waits) f 0) in
+        by-cond (Planned kind) (eqb (kindAt (g .links) f) functionKind && (isBelow (firstAt (g .links) f) f && leb own tableEntries)) _ _
+        (λ e. planned-task kind s l _ _ k) (λ e. planned-wrong kind)
 
     planned : (i : ℕ) → ltb (kindAt (g .links) i) functionKind ≡ false → Planned (kindAt (g .links) i) (planOf g frame i)
     unfolding planOf

@@ -42,7 +42,7 @@ second-name false b x y h = rw (h refl)
 
 module _ (n : ℕ) (cells : List ℕ) (i w : ℕ) (f : Form) (full : leb 1 (slotA w) ≡ false → leb 1 (slotB w) ≡ false) (names : slotNames cells w ≡ awaited f) where
   pub kept-shows : (v : Value) → Keepable n v → n ≤ tableReadings → (v ≡ Function → keyAt cells i ≡ nameOf f)
-      → view (shownNumbers (unpackOf (packOf v))) (nameFor cells i (packOf v) w) (otherFor cells (packOf v) w) ≡ viewOf (shownAs f v)
+      → view (shownNumbers (unpackOf (packOf v))) (nameFor cells i (packOf v) w) (otherFor cells (packOf v) w) ≡ viewOf (shownAs (nameOf f) (awaited f) v)
   unfolding viewOf nameFor otherFor
   kept-shows (Number z) k h g =
       let a : eqb (packOf (Number z)) functionCell ≡ false =

@@ -4,7 +4,6 @@ use mathlib.Core.Path.{_≡_, refl}
 use mathlib.Core.Bool.{cond}
 use mathlib.Core.List.{List, [], _∷_, map}
 use lib.IntN.{ℤ, pos, negsuc, _-ℤ_}
-use Rattle.members.specs.Members
 use Rattle.members.specs.declared.Member.{Member}
 use Rattle.members.specs.declared.Member.the-variants.{Add, Sub, Mul, Div, Gt, Eq, Skip, Take, Count, Sum, Min, Max, At, CountWhere, LongestRun, SumBy, BestSum, BestAt}
 use Rattle.rules.specs.declared.Value.{Value}
@@ -27,9 +26,9 @@ pub data Application : Type 0 where
   runs : Member → List ℤ → Value → (ℤ → Value) → Application
 
 unfoldable pub comesTo : Application → Value
-unfolding Members.row Values.ranged Numbers.divided Windows.total Windows.foldFrom Windows.extreme Stretches.stretchesFrom Stretches.sums Stretches.firstAt
+unfolding Values.ranged Numbers.divided Windows.total Windows.foldFrom Windows.extreme Stretches.stretchesFrom Stretches.sums Stretches.firstAt
     Stretches.bestSum Stretches.bestAt Runs.results Runs.countOf Runs.stretch
-    Runs.longest Rules.rule Rules.onNumbers Rules.ofWindow Rules.onWindow Rules.ofRuns Apply.rule0 Apply.rule1 Apply.apply0 Apply.apply1
+    Runs.longest Rules.rule Rules.onNumbers Apply.apply0 Apply.apply1
 comesTo (alone m xs v) = apply0 m xs v
 comesTo (with m xs v w) = apply1 m xs v w (λ z. Missing 2)
 comesTo (runs m xs v f) = apply1 m xs v Function f

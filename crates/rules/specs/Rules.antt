@@ -41,7 +41,14 @@ rule SumBy = windowRuns (λ r. ranged (r .total))
 rule BestSum = windowNumber (λ xs s l n. bestSum (readingsIn xs s l) n)
 rule BestAt = windowNumber (λ xs s l n. bestAt (readingsIn xs s l) n)
 
--- ---- a rule on what it is given: reason 2 for a rule of other kinds
+-- by whether a rule runs a function: what is given if not, and what becomes of it
+abbrev pub ifRuns : {A : Type 0} → A → Rule → ((Summary → Value) → A) → A
+ifRuns other (twoNumbers f) g = other
+ifRuns other (window f) g = other
+ifRuns other (windowNumber f) g = other
+ifRuns other (windowRuns f) g = g f
+
+-- ---- as the code has them: a rule, and a member, on what it is given; reason 2 for a rule of other kinds
 
 abbrev pub byNumbers : Rule → ℤ → ℤ → Value
 byNumbers (twoNumbers f) a b = f a b
@@ -62,12 +69,7 @@ byWindowNumber (windowNumber f) xs s l n = f xs s l n
 byWindowNumber (windowRuns f) xs s l n = Missing wrongKind
 
 abbrev pub byRuns : Rule → Summary → Value
-byRuns (twoNumbers f) r = Missing wrongKind
-byRuns (window f) r = Missing wrongKind
-byRuns (windowNumber f) r = Missing wrongKind
-byRuns (windowRuns f) r = f r
-
--- ---- a member, on the kinds that its rule is used on and with
+byRuns r s = ifRuns (Missing wrongKind) r (λ f. f s)
 
 unfoldable pub onNumbers : Member → ℤ → ℤ → Value
 onNumbers m a b = byNumbers (rule m) a b

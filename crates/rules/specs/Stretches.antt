@@ -3,12 +3,12 @@ use mathlib.Core.Bool.{_&&_, cond}
 use mathlib.Core.List.{List, [], _∷_, map}
 use Prim.Native.Nat.{ℕ, zero, suc, _-_}
 use lib.Dec.{leb}
-use lib.IntN.{ℤ, pos, negsuc}
+use lib.IntN.{ℤ, pos}
 use lib.ListN.{length, take, drop}
 use Rattle.rules.specs.declared.Value.{Value}
 use Rattle.rules.specs.declared.Value.the-variants.{Number, Missing}
 use Rattle.rules.specs.Values.{ranged, sameℤ, outsideWindow}
-use Rattle.rules.specs.Windows.{total, greater, foldFrom}
+use Rattle.rules.specs.Windows.{unlessNegative, total, greater, foldFrom}
 
 -- k of them, which begin at i, i + 1 and so on
 unfoldable pub stretchesFrom : List ℤ → ℕ → ℕ → ℕ → List (List ℤ)
@@ -35,8 +35,7 @@ firstAt z (y ∷ ys) = cond (sameℤ y z) 0 (suc (firstAt z ys))
 
 -- a width below 1 or above the length is reason 5
 abbrev pub ofWidth : ℤ → ℕ → (ℕ → Value) → Value
-ofWidth (negsuc n) l f = Missing outsideWindow
-ofWidth (pos w) l f = cond (leb 1 w && leb w l) (f w) (Missing outsideWindow)
+ofWidth n l f = unlessNegative n (λ w. cond (leb 1 w && leb w l) (f w) (Missing outsideWindow))
 
 -- the greatest sum; it alone is tested for signed 32 bits, whatever the others are
 unfoldable pub bestSum : List ℤ → ℤ → Value

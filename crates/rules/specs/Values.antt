@@ -5,8 +5,6 @@ use lib.Dec.{eqb}
 use lib.IntN.{ℤ, pos, negsuc}
 use lib.Signed.{ltZ}
 use Rattle.language.specs.Limits.{leastNumber, mostNumber}
-use Rattle.members.specs.declared.Kind.{Kind}
-use Rattle.members.specs.declared.Kind.the-variants as Kinds
 use Rattle.rules.specs.declared.Value.{Value}
 use Rattle.rules.specs.declared.Value.the-variants.{Number, Window, Function, Delayed, Missing}
 
@@ -26,13 +24,27 @@ beyondNumber = 4
 abbrev pub outsideWindow : ℕ
 outsideWindow = 5
 
--- the kind that a member can take; what is delayed or missing has none
-abbrev pub kindOf : Value → Kind
-kindOf (Number z) = Kinds.Number
-kindOf (Window s l) = Kinds.Window
-kindOf Function = Kinds.Function
-kindOf Delayed = Kinds.Nothing
-kindOf (Missing r) = Kinds.Nothing
+-- by a value's kind: what is given for all others, and what becomes of a number, a window or a function
+abbrev pub ifNumber : {A : Type 0} → A → Value → (ℤ → A) → A
+ifNumber other (Number z) f = f z
+ifNumber other (Window s l) f = other
+ifNumber other Function f = other
+ifNumber other Delayed f = other
+ifNumber other (Missing r) f = other
+
+abbrev pub ifWindow : {A : Type 0} → A → Value → (ℕ → ℕ → A) → A
+ifWindow other (Number z) f = other
+ifWindow other (Window s l) f = f s l
+ifWindow other Function f = other
+ifWindow other Delayed f = other
+ifWindow other (Missing r) f = other
+
+abbrev pub ifFunction : {A : Type 0} → A → Value → A → A
+ifFunction other (Number z) x = other
+ifFunction other (Window s l) x = other
+ifFunction other Function x = x
+ifFunction other Delayed x = other
+ifFunction other (Missing r) x = other
 
 -- a whole number as a value: reason 4 beyond signed 32 bits
 unfoldable pub ranged : ℤ → Value

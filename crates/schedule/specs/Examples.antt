@@ -71,9 +71,9 @@ unfoldable pub workOn : List ℕ → ℕ → ℕ → Work
 unfolding Works.worked Works.workFrom Works.chosen Works.needOf Works.needFrom Works.raised Works.nameFor Works.otherFor Waits.waitsFrom
     Waits.waitsAt Waits.joinedSlots Waits.withoutSlot Waits.ownOf Frames.startFrom Frames.startAt Frames.leafOf Frames.bound Frames.isUnset
     Frames.functionOf Reach.flagged Reach.spread Reach.gatherFrom Reach.gathered Links.keptWith Nodes.memberOfKind Members.memberAt
-    Members.row Applying.applyAt Applying.planOf Applying.finishOf Applying.askOf Applying.callOf Applying.followOf Applying.boundedOf
-    Applying.judgeOf Applying.fillOf Applied.applied1 Applied.ruled1 Applied.ruledWindow Apply.apply0 Apply.rule0 Rules.onNumbers
-    Rules.onWindow Rules.ofWindow Rules.rule Windows.total Values.ranged Packing.unpackOf
+    Members.spelled Members.arguments Applying.applyAt Applying.planOf Applying.finishOf Applying.askOf Applying.callOf Applying.followOf Applying.boundedOf
+    Applying.judgeOf Applying.fillOf Applied.applied1 Apply.apply0 Apply.apply1
+    Rules.rule Windows.total Values.ranged Packing.unpackOf
 workOn cells n a = worked recording links cells n a
 
 -- ---- what is expected

@@ -10,7 +10,7 @@ use lib.ListN.{length, getD}
 use borrow.Author.Tests.{eq-eqb, ne-eqb, eqb-true}
 use Rattle.language.specs.Limits.{textParts}
 use Rattle.language.specs.Names.{isLong, isData, packed}
-use Rattle.members.specs.Members.{memberOf, memberNumber, isUnknown, takes, row}
+use Rattle.members.specs.Members.{memberOf, memberNumber, isUnknown, takes, arguments}
 use Rattle.members.specs.declared.Member.{Member}
 use Rattle.members.specs.declared.Found.{Found}
 use Rattle.members.specs.declared.Found.the-variants.{Is, Unknown}
@@ -324,7 +324,7 @@ module _ (text : List ℕ) (c : Cursor) (x : Lexed) (e : x ≡ lexAt text (c .at
     pub member-unknown : (r : Cursor) → found ≡ Unknown → r ≡ refusedAt c 9 (x .start) → cursorOf text r ≡ memberNamed text c
     member-unknown r i q = stops 9 _ r _ (ap unknown-fault (sym i) ∙ found-fault) (λ h. omega arith) q
 
-    pub member-known : (m : Member) (n t : ℕ) (r : Cursor) → found ≡ Is m → n ≡ memberNumber m → t ≡ row m .arguments
+    pub member-known : (m : Member) (n t : ℕ) (r : Cursor) → found ≡ Is m → n ≡ memberNumber m → t ≡ arguments m
         → r ≡ namedTo c (x .end) (firstMember + n) t
         → cursorOf text r ≡ memberNamed text c
     unfolding D.passMember takes

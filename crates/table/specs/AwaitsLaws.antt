@@ -12,7 +12,9 @@ use lib.Seq.{getD-at}
 use Rattle.language.specs.Cases.{split}
 use Rattle.meaning.specs.Evaluation.{hasName, joined}
 use Rattle.layout.specs.Memory.{Node}
-use Rattle.table.specs.WellFormed.{every, awaitedBy, awaitedAfter, awaitsFew}
+use Rattle.table.specs.WellFormed.{every, awaitsFew}
+use Rattle.table.specs.Awaits.{awaitedBy, awaitedAfter, fewAwaited}
+use Rattle.table.specs.AwaitedBuild.{few-is}
 use Rattle.layout.specs.Numbered.{allFrom, numbered}
 use Rattle.table.specs.RightLaws.{all-at}
 use Rattle.table.specs.ChainLaws.{numbered-zero, numbered-last, all-zero, all-last}
@@ -132,13 +134,16 @@ module _ (ν : ℕ → Node) where
         | no most ↦ let q : i ≡ n = omega arith in getD-at (after n) (namesOf n) [] [] i (z ∙ sym q) ∙ ap namesOf (sym q)
       ])
 
-  pub few-all : (n : ℕ) → awaitsFew (numbered ν 0 n) ≡ allFrom (λ i. leb (length (namesOf i)) 2) n 0
+  few-names : (n : ℕ) → fewAwaited (numbered ν 0 n) ≡ allFrom (λ i. leb (length (namesOf i)) 2) n 0
   unfolding every
-  few-all zero = rw (after-none, all-zero (λ i. leb (length (namesOf i)) 2) 0)
-  few-all (suc n) =
+  few-names zero = rw (after-none, all-zero (λ i. leb (length (namesOf i)) 2) 0)
+  few-names (suc n) =
       ap (every (λ (k : ℕ) (x : List ℕ). leb (length x) 2) 0) (after-last n)
       ∙ every-snoc (λ (x : List ℕ). leb (length x) 2) 0 (after n) (namesOf n)
-      ∙ rw (few-all n) (sym (all-last (λ i. leb (length (namesOf i)) 2) n))
+      ∙ rw (few-names n) (sym (all-last (λ i. leb (length (namesOf i)) 2) n))
+
+  pub few-all : (n : ℕ) → awaitsFew (numbered ν 0 n) ≡ allFrom (λ i. leb (length (namesOf i)) 2) n 0
+  few-all n = sym (few-is (numbered ν 0 n)) ∙ few-names n
 
   pub few-at : (n i : ℕ) → awaitsFew (numbered ν 0 n) ≡ true → i < n → length (namesOf i) ≤ 2
   few-at n i h l =

@@ -5,14 +5,10 @@ use mathlib.Core.List.{List, [], _∷_, _++_}
 use Prim.Native.Nat.{ℕ, zero, suc}
 use lib.Dec.{ltb}
 use lib.ListN.{length, getD, set}
+use Rattle.model.specs.Lists.{index}
 use Rattle.layout.specs.Links.{linksWith, cellsWith}
-use Rattle.layout.specs.Memory.{Memory, Node, entryCount}
+use Rattle.layout.specs.Memory.{Memory, memory, Node, entryCount}
 use Rattle.layout.specs.Nodes.{sameNode}
-
--- the number of the entry equal to n; how many there are, where there is none
-unfoldable pub find : List Node → Node → ℕ
-find [] n = 0
-find (m ∷ ms) n = cond (sameNode m n) 0 (suc (find ms n))
 
 -- a record is a node whose dependencies are earlier records; bound, they are those records' entries
 abbrev pub relinked : List ℕ → ℕ → ℕ
@@ -27,11 +23,11 @@ pub record Bound : Type 0 where
   pub nodes : List Node
   pub numbers : List ℕ
 
--- 01: equal forms have one entry; a new one takes the next number
+-- 01: equal forms have one entry; a new one takes the next number, which is how many there are
 unfoldable pub bindOne : Bound → Node → Bound
 bindOne b r =
     let n : Node = relink (b .numbers) r in
-    let i : ℕ = find (b .nodes) n in
+    let i : ℕ = index sameNode n (b .nodes) in
     record { nodes = cond (ltb i (length (b .nodes))) (b .nodes) (b .nodes ++ (n ∷ [])); numbers = b .numbers ++ (i ∷ []) }
 
 unfoldable pub bindAll : Bound → List Node → Bound
@@ -42,12 +38,7 @@ bindAll b (r ∷ rs) = bindAll (bindOne b r) rs
 unfoldable pub append : Memory → Node → Memory
 append m n =
     let k : ℕ = entryCount m in
-    record {
-      readings = m .readings;
-      heads = set (m .heads) 0 (suc k);
-      links = linksWith (m .links) k (n .kind) (n .first) (n .second);
-      cells = cellsWith (m .cells) k (n .key);
-    }
+    memory (m .readings) (set (m .heads) 0 (suc k)) (linksWith (m .links) k (n .kind) (n .first) (n .second)) (cellsWith (m .cells) k (n .key))
 
 unfoldable pub appendAll : Memory → List Node → Memory
 appendAll m [] = m

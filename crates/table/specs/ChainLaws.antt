@@ -16,7 +16,7 @@ use Rattle.language.specs.Limits.{textParts, tableEntries}
 use Rattle.layout.specs.Memory.{Node, nodeAt}
 use Rattle.layout.specs.Nodes.{sameNode}
 use Rattle.table.specs.WellFormed.{hasNode, distinct}
-use Rattle.table.specs.Bind.{find}
+use Rattle.model.specs.Lists.{index}
 use Rattle.layout.specs.Numbered.{allFrom, numbered}
 use Rattle.table.specs.RightLaws.{all-stop, all-end}
 use Rattle.layout.specs.Held.{heldAt}
@@ -118,18 +118,18 @@ distinct-snoc m (a ∷ ms) = rw (has-snoc a m ms, distinct-snoc m ms, same-sym m
     by false false true d = refl
     by false false false d = refl
 
-pub find-none : (x : Node) (ms : List Node) → hasNode x ms ≡ false → find ms x ≡ length ms
-unfolding hasNode find
+pub find-none : (x : Node) (ms : List Node) → hasNode x ms ≡ false → index sameNode x ms ≡ length ms
+unfolding hasNode index
 find-none x [] h = refl
 find-none x (m ∷ ms) h = split (sameNode m x) (λ p. impossible (sym (rw p at h))) (λ p. rw p (ap suc (find-none x ms (rw p at h))))
 
-find-snoc : (x m : Node) (ms : List Node) → hasNode x ms ≡ true → find (ms ++ (m ∷ [])) x ≡ find ms x
-unfolding hasNode find
+find-snoc : (x m : Node) (ms : List Node) → hasNode x ms ≡ true → index sameNode x (ms ++ (m ∷ [])) ≡ index sameNode x ms
+unfolding hasNode index
 find-snoc x m [] h = impossible h
 find-snoc x m (a ∷ ms) h = split (sameNode a x) (λ p. rw p) (λ p. rw p (ap suc (find-snoc x m ms (rw p at h))))
 
-find-new : (x m : Node) (ms : List Node) → hasNode x ms ≡ false → sameNode m x ≡ true → find (ms ++ (m ∷ [])) x ≡ length ms
-unfolding hasNode find
+find-new : (x m : Node) (ms : List Node) → hasNode x ms ≡ false → sameNode m x ≡ true → index sameNode x (ms ++ (m ∷ [])) ≡ length ms
+unfolding hasNode index
 find-new x m [] h q = rw q
 find-new x m (a ∷ ms) h q = split (sameNode a x) (λ p. impossible (sym (rw p at h))) (λ p. rw p (ap suc (find-new x m ms (rw p at h) q)))
 
@@ -157,8 +157,8 @@ module _ (ν : ℕ → Node) where
       by false b = refl
 
   -- in nodes that are distinct, the last that is x is the first
-  pub find-last : (x : Node) (n : ℕ) → distinct (numbered ν 0 n) ≡ true → find (numbered ν 0 n) x ≡ cond (eqb (lastSame ν x n) 0) n (lastSame ν x n - 1)
-  unfolding lastSame find
+  pub find-last : (x : Node) (n : ℕ) → distinct (numbered ν 0 n) ≡ true → index sameNode x (numbered ν 0 n) ≡ cond (eqb (lastSame ν x n) 0) n (lastSame ν x n - 1)
+  unfolding lastSame index
   find-last x zero d = rw (numbered-zero ν 0)
   find-last x (suc n) d =
       let e : (distinct (numbered ν 0 n) && not (hasNode (ν n) (numbered ν 0 n))) ≡ true = sym (distinct-snoc (ν n) (numbered ν 0 n)) ∙ sym (ap distinct (numbered-last ν n)) ∙ d in

@@ -1,5 +1,7 @@
 pub mod ArityLaws
 pub mod AwaitedForms
+pub mod Awaits
+pub mod AwaitedBuild
 pub mod AwaitsLaws
 pub mod Bind
 pub mod Chain

@@ -8,8 +8,8 @@ use borrow.Author.Tests.{eqb-true, eqb-false, ne-eqb, ltb-true, le-ltb}
 use lib.Dec.{eqb}
 use lib.ListN.{length}
 use Rattle.language.specs.Cases.{split}
-use Rattle.members.specs.Members.{row, members, memberNumber, foundIn, memberAt}
-use Rattle.members.specs.MembersLaws.{none-of, number-found, few-arguments}
+use Rattle.members.specs.Members.{arguments, members, memberNumber, memberAt}
+use Rattle.members.specs.MembersLaws.{foundIn, none-of, number-found, few-arguments}
 use Rattle.members.specs.declared.Member.{Member}
 use Rattle.members.specs.declared.Found.the-variants.{Is}
 use Rattle.meaning.specs.Forms.{Form, ask, call}
@@ -28,8 +28,8 @@ pub data Fine : Node → Type 0 where
   anUnbound : (x : ℕ) → Fine (node unboundKind x 0 0)
   theReadings : Fine (node readingsKind 0 0 0)
   aFunction : (x b : ℕ) → Fine (node functionKind x (suc b) 0)
-  anAsk : (m : Member) (f : ℕ) → row m .arguments ≡ 0 → Fine (node (memberKind m) 0 (suc f) 0)
-  aCall : (m : Member) (f a : ℕ) → row m .arguments ≡ 1 → Fine (node (memberKind m) 0 (suc f) (suc a))
+  anAsk : (m : Member) (f : ℕ) → arguments m ≡ 0 → Fine (node (memberKind m) 0 (suc f) 0)
+  aCall : (m : Member) (f a : ℕ) → arguments m ≡ 1 → Fine (node (memberKind m) 0 (suc f) (suc a))
 
 -- ---- the members' kinds are told apart from the others, and stand for their members
 pub less-one : (n : ℕ) → suc n - 1 ≡ n
@@ -44,7 +44,7 @@ member-found m =
 pub not-member : (m : Member) (k : ℕ) → k < firstMember → eqb (memberKind m) k ≡ false
 not-member m k h = ne-eqb (memberKind m) k (λ e. omega arith)
 
-pub member-arity : (m : Member) → arity (memberKind m) ≡ suc (row m .arguments)
+pub member-arity : (m : Member) → arity (memberKind m) ≡ suc (arguments m)
 unfolding arity
 member-arity m = rw (not-member m functionKind (omega arith), member-found m)
 
@@ -61,10 +61,10 @@ build-member m f a φ =
       member-found m,
     )
 
-pub build-ask : (m : Member) (f : ℕ) (φ : ℕ → Form) → row m .arguments ≡ 0 → build (node (memberKind m) 0 (suc f) 0) φ ≡ ask m (φ f)
+pub build-ask : (m : Member) (f : ℕ) (φ : ℕ → Form) → arguments m ≡ 0 → build (node (memberKind m) 0 (suc f) 0) φ ≡ ask m (φ f)
 build-ask m f φ e = build-member m (suc f) 0 φ ∙ rw (e, less-one f)
 
-pub build-call : (m : Member) (f a : ℕ) (φ : ℕ → Form) → row m .arguments ≡ 1 → build (node (memberKind m) 0 (suc f) (suc a)) φ ≡ call m (φ f) (φ a)
+pub build-call : (m : Member) (f a : ℕ) (φ : ℕ → Form) → arguments m ≡ 1 → build (node (memberKind m) 0 (suc f) (suc a)) φ ≡ call m (φ f) (φ a)
 build-call m f a φ e = build-member m (suc f) (suc a) φ ∙ rw (e, less-one f, less-one a)
 
 -- ---- the member of a kind
@@ -114,14 +114,14 @@ module _ (i : ℕ) (n : Node) (r : nodeRight i n ≡ true) where
   unfolding arity
   of-member o z =
       let m = o .member in
-      let a : arity k ≡ suc (row m .arguments) = rw (ne-eqb k functionKind (λ q. omega (arith, o .kind)), o .is) in
+      let a : arity k ≡ suc (arguments m) = rw (ne-eqb k functionKind (λ q. omega (arith, o .kind)), o .is) in
       let f = first-is (λ w. omega arith) in
-      split (eqb (row m .arguments) 0)
+      split (eqb (arguments m) 0)
       (λ p.
-      let q : row m .arguments ≡ 0 = eqb-true _ _ p in
+      let q : arguments m ≡ 0 = eqb-true _ _ p in
       made (memberKind m) 0 (suc (n .first - 1)) 0 (o .kind) z f (no-second i n r (omega arith)) (anAsk m (n .first - 1) q))
       (λ p.
-      let q : row m .arguments ≡ 1 = omega (arith, eqb-false (row m .arguments) 0 p, few-arguments m) in
+      let q : arguments m ≡ 1 = omega (arith, eqb-false (arguments m) 0 p, few-arguments m) in
       let s = a-second i n r (omega arith) in
       made (memberKind m) 0 (suc (n .first - 1)) (suc (n .second - 1)) (o .kind) z f (omega arith) (aCall m (n .first - 1) (n .second - 1) q))
 

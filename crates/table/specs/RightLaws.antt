@@ -11,7 +11,8 @@ use lib.Dec.{eqb, leb, ltb}
 use lib.ListN.{length}
 use Rattle.language.specs.Cases.{split}
 use Rattle.language.specs.Names.{isLetter, inWord, packOnto, bytes, letWord, inWord!, dataWord}
-use Rattle.members.specs.Members.{row, memberAt, foundIn, members}
+use Rattle.members.specs.Members.{arguments, memberAt, members}
+use Rattle.members.specs.MembersLaws.{foundIn}
 use Rattle.members.specs.declared.Member.{Member}
 use Rattle.members.specs.declared.Found.{Found}
 use Rattle.members.specs.declared.Found.the-variants.{Is, Unknown}
@@ -72,7 +73,7 @@ unfolding isName packOnto bytes letWord inWord! dataWord
 name-is k r q = rw q
 
 -- dependencies by kind
-pub arity-of : (f : Found) (m : Member) (a : ℕ) → a ≡ row m .arguments → f ≡ Is m → 1 + a ≡ memberArity f
+pub arity-of : (f : Found) (m : Member) (a : ℕ) → a ≡ arguments m → f ≡ Is m → 1 + a ≡ memberArity f
 arity-of f m a q e = rw e (omega arith)
 
 module _ (k : ℕ) where

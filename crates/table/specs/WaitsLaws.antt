@@ -16,7 +16,8 @@ use Rattle.meaning.specs.Evaluation.{hasName}
 use Rattle.meaning.specs.Evaluation as meaning
 use Rattle.layout.specs.Memory.{Node, nodeAt}
 use Rattle.layout.specs.Nodes.{variableKind, functionKind, arity, sameNode}
-use Rattle.table.specs.WellFormed.{distinct, awaitedBy, awaitsFew}
+use Rattle.table.specs.WellFormed.{distinct, awaitsFew}
+use Rattle.table.specs.Awaits.{awaitedBy}
 use Rattle.table.specs.Right.{nodeRight, rightAt}
 use Rattle.layout.specs.Numbered.{allFrom, numbered}
 use Rattle.table.specs.RightLaws.{first-low, second-low, first-given, second-given, all-at, right-at}

@@ -1,14 +1,16 @@
 -- 01, refusal 4: when a cache is well-formed, clause by clause. Assumes nothing: these are definitions.
 use mathlib.Core.Bool.{Bool, true, false, cond, not, _&&_, _||_}
-use mathlib.Core.List.{List, [], _∷_, _++_}
-use Prim.Native.Nat.{ℕ, zero, suc, _-_, _^_}
+use mathlib.Core.List.{List, [], _∷_, map}
+use Prim.Native.Nat.{ℕ, suc, _^_}
 use lib.Dec.{leb, ltb, eqb}
 use lib.ListN.{length, getD}
 use Rattle.language.specs.Limits.{tableEntries, tableReadings}
-use Rattle.values.specs.Packing.{isPacked, isFunctionCell, isDelayedCell}
-use Rattle.meaning.specs.Evaluation.{joined, without}
+use Rattle.values.specs.Packing.{isPacked, functionCell, delayedCell}
+use Rattle.model.specs.Decoding.{decodeFrom}
+use Rattle.meaning.specs.Forms.{Form}
+use Rattle.meaning.specs.Evaluation.{awaited}
 use Rattle.layout.specs.Memory.{Memory, Node, Kept, Entry, entryCount, readingCount, entriesOf, nodesOf}
-use Rattle.layout.specs.Nodes.{numberKind, variableKind, unboundKind, functionKind, kindCount, worksKind, arity, kids, sameNode, isName}
+use Rattle.layout.specs.Nodes.{numberKind, variableKind, unboundKind, functionKind, kindCount, worksKind, arity, kids, sameNode, build, isName}
 
 -- a test of every entry, with its number
 unfoldable pub every : {A : Type 0} → (ℕ → A → Bool) → ℕ → List A → Bool
@@ -27,14 +29,11 @@ keyRight n =
     (eqb (n .key) 0))
 
 -- wrong number of dependencies
-abbrev pub given : ℕ → Bool
-given link = leb 1 link
-
 unfoldable pub arityRight : Node → Bool
 arityRight n =
     cond (eqb (arity (n .kind)) 0) (eqb (n .first) 0 && eqb (n .second) 0)
-    (cond (eqb (arity (n .kind)) 1) (given (n .first) && eqb (n .second) 0)
-    (given (n .first) && given (n .second)))
+    (cond (eqb (arity (n .kind)) 1) (leb 1 (n .first) && eqb (n .second) 0)
+    (leb 1 (n .first) && leb 1 (n .second)))
 
 -- dependency not lower
 abbrev pub lower : ℕ → Node → Bool
@@ -49,22 +48,9 @@ unfoldable pub distinct : List Node → Bool
 distinct [] = true
 distinct (n ∷ ns) = not (hasNode n ns) && distinct ns
 
--- the names that an entry awaits, from those of the entries before it
-unfoldable pub awaitedBy : List (List ℕ) → Node → List ℕ
-awaitedBy before n =
-    cond (eqb (n .kind) variableKind) (n .key ∷ [])
-    (cond (eqb (n .kind) functionKind) (without (n .key) (getD before (n .first - 1) []))
-    (cond (eqb (arity (n .kind)) 1) (getD before (n .first - 1) [])
-    (cond (eqb (arity (n .kind)) 2) (joined (getD before (n .first - 1) []) (getD before (n .second - 1) []))
-    [])))
-
-unfoldable pub awaitedAfter : List (List ℕ) → List Node → List (List ℕ)
-awaitedAfter before [] = before
-awaitedAfter before (n ∷ ns) = awaitedAfter (before ++ (awaitedBy before n ∷ [])) ns
-
--- an entry awaiting over two names
+-- an entry awaiting over two names: the form that it stands for does
 abbrev pub awaitsFew : List Node → Bool
-awaitsFew ns = every (λ i (names : List ℕ). leb (length names) 2) 0 (awaitedAfter [] ns)
+awaitsFew ns = every (λ i (f : Form). leb (length (awaited f)) 2) 0 (decodeFrom build Form.readings [] ns)
 
 -- worked out: from the start, or by a preview
 abbrev pub isDone : Entry → Bool
@@ -72,9 +58,7 @@ isDone e = not (worksKind (e .node .kind)) || leb 1 (e .kept .value)
 
 -- entry i is, and all of a list of entries are
 unfoldable pub doneAt : List Entry → ℕ → Bool
-doneAt [] i = false
-doneAt (e ∷ es) zero = isDone e
-doneAt (e ∷ es) (suc i) = doneAt es i
+doneAt es i = getD (map isDone es) i false
 
 unfoldable pub allDone : List Entry → List ℕ → Bool
 allDone es [] = true
@@ -90,8 +74,8 @@ nameless k = eqb (k .name) 0 && eqb (k .other) 0
 
 unfoldable pub namesRight : Kept → Bool
 namesRight k =
-    cond (isFunctionCell (k .value)) (isName (k .name) && eqb (k .other) 0)
-    (cond (isDelayedCell (k .value)) (nameless k || (isName (k .name) && (eqb (k .other) 0 || isName (k .other))))
+    cond (eqb (k .value) functionCell) (isName (k .name) && eqb (k .other) 0)
+    (cond (eqb (k .value) delayedCell) (nameless k || (isName (k .name) && (eqb (k .other) 0 || isName (k .other))))
     (nameless k))
 
 -- a kept value is that of a member or a function, and within its range

@@ -19,10 +19,10 @@ use Rattle.rules.specs.declared.Value.{Value}
 use Rattle.rules.specs.declared.Value.the-variants.{Number, Window, Function, Delayed, Missing}
 use Rattle.values.specs.declared.apply.Applied.{Applied}
 use Rattle.values.specs.declared.apply.Applied.the-variants.{Done, Run}
-use Rattle.rules.specs.Values.{kindOf, wrongKind}
+use Rattle.rules.specs.Values.{wrongKind}
 use Rattle.rules.specs.Rules.{onNumbers, ofWindow, onWindow}
-use Rattle.rules.specs.Apply.{isKind, rule0, ruleNumber, isMissing, isDelayed, apply0}
-use Rattle.values.specs.Applied.{ruledWindow, ruled1, applied1}
+use Rattle.rules.specs.Apply.{isMissing, isDelayed}
+use Rattle.values.specs.Tested.{kindOf, isKind, rule0, ruleNumber, ruledWindow, ruled1, tested0, tested1}
 use Rattle.values.specs.Keepable.{Bounded}
 use Rattle.rules.proofs.Value as Variants
 
@@ -97,60 +97,60 @@ window-bounded v s l e h = rw e at h
 -- ---- the order of the tests
 
 module _ (m : Member) (xs : List ℤ) (v : Value) (missing : Bool) (p : missing ≡ isMissing v) where
-  pub apply0-missing : missing ≡ true → v ≡ apply0 m xs v
-  unfolding apply0
+  pub apply0-missing : missing ≡ true → v ≡ tested0 m xs v
+  unfolding tested0
   apply0-missing h = simp (sym p ∙ h)
 
   module _ (present : missing ≡ false) (delayed : Bool) (q : delayed ≡ isDelayed v) where
-    pub apply0-delayed : delayed ≡ true → Delayed ≡ apply0 m xs v
-    unfolding apply0
+    pub apply0-delayed : delayed ≡ true → Delayed ≡ tested0 m xs v
+    unfolding tested0
     apply0-delayed h = simp (sym p ∙ present, sym q ∙ h)
 
     module _ (ready : delayed ≡ false) (k : Kind) (a : k ≡ row m .receiver) (right : Bool) (t : right ≡ isKind v k) where
       kind : isKind v (row m .receiver) ≡ right
       kind = ap (isKind v) (sym a) ∙ sym t
 
-      pub apply0-rule : {r : Value} → right ≡ true → r ≡ rule0 m xs v → r ≡ apply0 m xs v
-      unfolding apply0
+      pub apply0-rule : {r : Value} → right ≡ true → r ≡ rule0 m xs v → r ≡ tested0 m xs v
+      unfolding tested0
       apply0-rule h e = simp (sym p ∙ present, sym q ∙ ready, kind ∙ h) e
 
-      pub apply0-kind : right ≡ false → Missing wrongKind ≡ apply0 m xs v
-      unfolding apply0
+      pub apply0-kind : right ≡ false → Missing wrongKind ≡ tested0 m xs v
+      unfolding tested0
       apply0-kind h = simp (sym p ∙ present, sym q ∙ ready, kind ∙ h)
 
 module _ (m : Member) (xs : List ℤ) (v w : Value) (missing : Bool) (p : missing ≡ isMissing v) where
-  pub first-missing : missing ≡ true → Done v ≡ applied1 m xs v w
-  unfolding applied1
+  pub first-missing : missing ≡ true → Done v ≡ tested1 m xs v w
+  unfolding tested1
   first-missing h = simp (sym p ∙ h)
 
   module _ (present : missing ≡ false) (missing′ : Bool) (p′ : missing′ ≡ isMissing w) where
-    pub second-missing : missing′ ≡ true → Done w ≡ applied1 m xs v w
-    unfolding applied1
+    pub second-missing : missing′ ≡ true → Done w ≡ tested1 m xs v w
+    unfolding tested1
     second-missing h = simp (sym p ∙ present, sym p′ ∙ h)
 
     module _ (present′ : missing′ ≡ false) (delayed : Bool) (q : delayed ≡ isDelayed v) where
-      pub first-delayed : delayed ≡ true → Done Delayed ≡ applied1 m xs v w
-      unfolding applied1
+      pub first-delayed : delayed ≡ true → Done Delayed ≡ tested1 m xs v w
+      unfolding tested1
       first-delayed h = simp (sym p ∙ present, sym p′ ∙ present′, sym q ∙ h)
 
       module _ (ready : delayed ≡ false) (delayed′ : Bool) (q′ : delayed′ ≡ isDelayed w) where
-        pub second-delayed : delayed′ ≡ true → Done Delayed ≡ applied1 m xs v w
-        unfolding applied1
+        pub second-delayed : delayed′ ≡ true → Done Delayed ≡ tested1 m xs v w
+        unfolding tested1
         second-delayed h = simp (sym p ∙ present, sym p′ ∙ present′, sym q ∙ ready, sym q′ ∙ h)
 
         module _ (ready′ : delayed′ ≡ false) (k : Kind) (a : k ≡ row m .receiver) (right : Bool) (t : right ≡ isKind v k) where
-          by-kind : applied1 m xs v w ≡ cond right (cond (isKind w (row m .argument)) (ruled1 m xs v w) (Done (Missing wrongKind))) (Done (Missing wrongKind))
-          unfolding applied1
+          by-kind : tested1 m xs v w ≡ cond right (cond (isKind w (row m .argument)) (ruled1 m xs v w) (Done (Missing wrongKind))) (Done (Missing wrongKind))
+          unfolding tested1
           by-kind = simp (sym p ∙ present, sym p′ ∙ present′, sym q ∙ ready, sym q′ ∙ ready′, ap (isKind v) (sym a) ∙ sym t)
 
-          pub first-kind : right ≡ false → Done (Missing wrongKind) ≡ applied1 m xs v w
+          pub first-kind : right ≡ false → Done (Missing wrongKind) ≡ tested1 m xs v w
           first-kind h = sym (by-kind ∙ simp h)
 
           module _ (yes : right ≡ true) (k′ : Kind) (a′ : k′ ≡ row m .argument) (right′ : Bool) (t′ : right′ ≡ isKind w k′) where
-            pub second-kind : right′ ≡ false → Done (Missing wrongKind) ≡ applied1 m xs v w
+            pub second-kind : right′ ≡ false → Done (Missing wrongKind) ≡ tested1 m xs v w
             second-kind h = sym (by-kind ∙ simp (yes, ap (isKind w) (sym a′) ∙ sym t′ ∙ h))
 
-            pub both-kinds : {r : Applied} → right′ ≡ true → r ≡ ruled1 m xs v w → r ≡ applied1 m xs v w
+            pub both-kinds : {r : Applied} → right′ ≡ true → r ≡ ruled1 m xs v w → r ≡ tested1 m xs v w
             both-kinds h e = e ∙ sym (by-kind ∙ simp (yes, ap (isKind w) (sym a′) ∙ sym t′ ∙ h))
 
 pub ruleset apply-rules = (

@@ -1,6 +1,7 @@
 -- A member on dependencies that have a property which the members' own results have comes to a value that has it: so windows stay inside the
 -- recording, and what may be kept stays so. By the tests of apply0 and apply1, in their order. Assumes nothing.
-use mathlib.Core.Bool.{_&&_, _||_, cond}
+use mathlib.Core.Path.{_≡_, refl}
+use mathlib.Core.Bool.{_||_, cond}
 use mathlib.Core.List.{List, [], _∷_, map}
 use Prim.Native.Nat.{ℕ, suc, _≤_, _<_}
 use native.Mathlib.Omega.{arith}
@@ -8,55 +9,68 @@ use lib.IntN.{ℤ, pos}
 use lib.ListN.{length, getD, length-map}
 use lib.Signed.{mag}
 use Rattle.language.specs.Cases.{by-cond}
-use Rattle.members.specs.Members.{row}
 use Rattle.members.specs.declared.Member.{Member}
 use Rattle.rules.specs.declared.Value.{Value}
 use Rattle.rules.specs.declared.Value.the-variants.{Number, Window, Function, Delayed, Missing}
 use Rattle.values.specs.declared.apply.Applied.{Applied}
 use Rattle.values.specs.declared.apply.Applied.the-variants.{Done, Run}
 use Rattle.rules.specs.Windows.{readingsIn}
-use Rattle.rules.specs.Apply.{isKind, rule0, rule1, isMissing, isDelayed, apply0, apply1}
-use Rattle.values.specs.Applied.{ruledWindow, ruled1, applied1, completed}
-use Rattle.values.specs.ApplyLaws.{completed-rule}
+use Rattle.rules.specs.Values.{wrongKind, ifNumber, ifWindow, ifFunction}
+use Rattle.rules.specs.Runs.{results, Summary}
+use Rattle.rules.specs.Rules.{Rule, twoNumbers, window, windowNumber, windowRuns, rule, ifRuns}
+use Rattle.rules.specs.Apply.{byRule0, byRule1, isMissing, isDelayed, apply0, apply1}
+use Rattle.values.specs.Applied.{applied1}
 use Rattle.values.specs.WindowLaws.{readings-short}
 use Rattle.values.specs.Keepable.{Keepable}
-use Rattle.values.specs.KeepableLaws.{Closed, Readings, Given, given, Each, wrong, readings-of, readings-small, closed-numbers, closed-of, closed-on, closed-results}
+use Rattle.values.specs.KeepableLaws.{Closed, Readings, Given, given, Each, Closes, Told, wrong, readings-of, readings-small, closed-rule, told, closed-concluded}
 
 -- the property of what a member comes to, or of the window that it runs over
 abbrev pub Settled : (Value → Type 0) → Applied → Type 0
 Settled P (Done v) = P v
 Settled P (Run s l) = P (Window s l)
 
+-- ---- by the kind of a value
+
+module _ {A : Type 0} (Q : A → Type 0) (other : A) (q : Q other) where
+  pub if-number : (v : Value) (f : ℤ → A) → ((z : ℤ) → v ≡ Number z → Q (f z)) → Q (ifNumber other v f)
+  if-number (Number z) f p = p z refl
+  if-number (Window s l) f p = q
+  if-number Function f p = q
+  if-number Delayed f p = q
+  if-number (Missing r) f p = q
+
+  pub if-window : (v : Value) (f : ℕ → ℕ → A) → ((s l : ℕ) → v ≡ Window s l → Q (f s l)) → Q (ifWindow other v f)
+  if-window (Number z) f p = q
+  if-window (Window s l) f p = p s l refl
+  if-window Function f p = q
+  if-window Delayed f p = q
+  if-window (Missing r) f p = q
+
+  pub if-function : (v : Value) (x : A) → (v ≡ Function → Q x) → Q (ifFunction other v x)
+  if-function (Number z) x p = q
+  if-function (Window s l) x p = q
+  if-function Function x p = p refl
+  if-function Delayed x p = q
+  if-function (Missing r) x p = q
+
+  pub if-runs : (r : Rule) (g : (Summary → Value) → A) → ((f : Summary → Value) → Q (g f)) → Q (ifRuns other r g)
+  if-runs (twoNumbers f) g p = q
+  if-runs (window f) g p = q
+  if-runs (windowNumber f) g p = q
+  if-runs (windowRuns f) g p = p f
+
 module _ (P : Value → Type 0) (C : Closed P) (m : Member) (xs : List ℤ) (R : Readings P xs) where
-  pub closed-rule0 : (v : Value) → Given P v → P (rule0 m xs v)
-  unfolding rule0
-  closed-rule0 (Window s l) p = closed-of P C xs s l R p m
-  closed-rule0 (Number z) p = wrong P C
-  closed-rule0 Function p = wrong P C
-  closed-rule0 Delayed p = wrong P C
-  closed-rule0 (Missing r) p = wrong P C
+  given-window : (v : Value) (s l : ℕ) → v ≡ Window s l → Given P v → P (Window s l)
+  given-window v s l e p = rw e at p
 
-  -- ---- up to the runs
-
-  settled-window : (s l : ℕ) (w : Value) → P (Window s l) → Settled P (ruledWindow m xs s l w)
-  unfolding ruledWindow
-  settled-window s l (Number n) p = closed-on P C xs s l R p m n
-  settled-window s l Function p = p
-  settled-window s l (Window s′ l′) p = wrong P C
-  settled-window s l Delayed p = wrong P C
-  settled-window s l (Missing r) p = wrong P C
-
-  settled-rule : (v w : Value) → Given P v → Settled P (ruled1 m xs v w)
-  unfolding ruled1
-  settled-rule (Number a) (Number b) p = closed-numbers P C m a b
-  settled-rule (Number a) (Window s l) p = wrong P C
-  settled-rule (Number a) Function p = wrong P C
-  settled-rule (Number a) Delayed p = wrong P C
-  settled-rule (Number a) (Missing r) p = wrong P C
-  settled-rule (Window s l) w p = settled-window s l w p
-  settled-rule Function w p = wrong P C
-  settled-rule Delayed w p = wrong P C
-  settled-rule (Missing r) w p = wrong P C
+  pub closed-rule0 : (v : Value) → Given P v → P (byRule0 (rule m) xs v)
+  closed-rule0 v p = by (rule m) (closed-rule P C m)
+    where
+      by : (r : Rule) → Closes P C r → P (byRule0 r xs v)
+      by (twoNumbers f) h = wrong P C
+      by (window f) h = if-window P (Missing wrongKind) (wrong P C) v (f xs) (λ s l e. h xs s l R (given-window v s l e p))
+      by (windowNumber f) h = wrong P C
+      by (windowRuns f) h = wrong P C
 
   -- ---- with the runs, each of which gives a value that has the property as far as that matters
 
@@ -65,14 +79,23 @@ module _ (P : Value → Type 0) (C : Closed P) (m : Member) (xs : List ℤ) (R :
     each [] Y = tt
     each (y ∷ ys) Y = (F y (Y 0 (omega arith)), each ys (λ i h. Y (suc i) (omega arith)))
 
-    pub closed-completed : (a : Applied) → Settled P a → P (completed m xs run a)
-    unfolding completed
-    closed-completed (Done v) p = p
-    closed-completed (Run s l) p =
-        closed-results P C s l p m (map run (readingsIn xs s l)) (simp length-map (readings-short xs s l)) (each (readingsIn xs s l) (readings-of P C xs s l R))
+    ran : (s l : ℕ) → Told P C (length (map run (readingsIn xs s l))) (results (map run (readingsIn xs s l)))
+    ran s l = told P C (map run (readingsIn xs s l)) (each (readingsIn xs s l) (readings-of P C xs s l R))
 
-    pub closed-rule1 : (v w : Value) → Given P v → P (rule1 m xs v w run)
-    closed-rule1 v w p = rw (← completed-rule m xs run v w) (closed-completed (ruled1 m xs v w) (settled-rule v w p))
+    pub closed-rule1 : (v w : Value) → Given P v → P (byRule1 (rule m) xs v w run)
+    closed-rule1 v w p = by (rule m) (closed-rule P C m)
+      where
+        by : (r : Rule) → Closes P C r → P (byRule1 r xs v w run)
+        by (twoNumbers f) h = if-number P (Missing wrongKind) (wrong P C) v _ (λ a e. if-number P (Missing wrongKind) (wrong P C) w (f a) (λ b e. h a b))
+        by (window f) h = wrong P C
+        by (windowNumber f) h =
+            if-window P (Missing wrongKind) (wrong P C) v _
+            (λ s l e. if-number P (Missing wrongKind) (wrong P C) w (f xs s l) (λ n e′. h xs s l n R (given-window v s l e p)))
+        by (windowRuns f) h =
+            if-window P (Missing wrongKind) (wrong P C) v _
+            (λ s l e. if-function P (Missing wrongKind) (wrong P C) w _
+            (λ e′. closed-concluded P C f h s l (given-window v s l e p) (results (map run (readingsIn xs s l))) (length (map run (readingsIn xs s l)))
+            (simp length-map (readings-short xs s l)) (ran s l)))
 
   -- ---- the tests before the rule
 
@@ -86,29 +109,24 @@ module _ (P : Value → Type 0) (C : Closed P) (m : Member) (xs : List ℤ) (R :
 
     pub closed-apply0 : (v : Value) → Given P v → P (apply0 m xs v)
     unfolding apply0
-    closed-apply0 v p =
-        missing-given v _ p
-        (by-cond P (isDelayed v) _ _ (λ h. D)
-        (λ h. by-cond P (isKind v (row m .receiver)) _ _ (λ h. closed-rule0 v p) (λ h. wrong P C)))
+    closed-apply0 v p = missing-given v _ p (by-cond P (isDelayed v) _ _ (λ h. D) (λ h. closed-rule0 v p))
 
     pub closed-apply1 : (run : ℤ → Value) → ((x : ℤ) → P (Number x) → Given P (run x)) → (v w : Value) → Given P v → Given P w → P (apply1 m xs v w run)
     unfolding apply1
     closed-apply1 run F v w p q =
         missing-given v _ p
         (missing-given w _ q
-        (by-cond P (isDelayed v || isDelayed w) _ _ (λ h. D)
-        (λ h. by-cond P (isKind v (row m .receiver) && isKind w (row m .argument)) _ _ (λ h. closed-rule1 run F v w p) (λ h. wrong P C))))
+        (by-cond P (isDelayed v || isDelayed w) _ _ (λ h. D) (λ h. closed-rule1 run F v w p)))
 
     pub closed-applied1 : (v w : Value) → P v → P w → Settled P (applied1 m xs v w)
     unfolding applied1
     closed-applied1 v w p q =
-        by-cond (Settled P) (isMissing v) _ _ (λ h. p)
-        (λ h. by-cond (Settled P) (isMissing w) _ _ (λ h. q)
-        (λ h. by-cond (Settled P) (isDelayed v) _ _ (λ h. D)
-        (λ h. by-cond (Settled P) (isDelayed w) _ _ (λ h. D)
-        (λ h. by-cond (Settled P) (isKind v (row m .receiver)) _ _
-        (λ h. by-cond (Settled P) (isKind w (row m .argument)) _ _ (λ h. settled-rule v w (given P v p)) (λ h. wrong P C))
-        (λ h. wrong P C)))))
+        if-window (Settled P) _ done v _
+        (λ s l e. if-function (Settled P) _ done w _
+        (λ e′. if-runs (Settled P) _ done (rule m) _ (λ f. rw e at p)))
+      where
+        done : P (apply1 m xs v w (λ z. Missing wrongKind))
+        done = closed-apply1 (λ z. Missing wrongKind) (λ x h. wrong P C) v w (given P v p) (given P w q)
 
 -- ---- what may be kept
 

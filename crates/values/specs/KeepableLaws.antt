@@ -22,8 +22,9 @@ use Rattle.rules.specs.Values.{ranged, flag, sameℤ}
 use Rattle.rules.specs.Numbers.{quotient, divided}
 use Rattle.rules.specs.Windows.{readingsIn, clipped, reading, unlessNegative, lesser, greater, foldFrom, extreme}
 use Rattle.rules.specs.Stretches.{sums, ofGreatest, firstAt, ofWidth, bestSum, bestAt}
-use Rattle.rules.specs.Runs.{Results, numbers, because, with, results, isNonzero, countOf, stretch, longest, summary}
-use Rattle.rules.specs.Rules.{Rule, twoNumbers, window, windowNumber, windowRuns, rule, byNumbers, byWindow, byWindowNumber, byRuns, onNumbers, ofWindow, onWindow, concluded, ofRuns}
+use Rattle.rules.specs.Runs.{Results, numbers, because, with, results, isNonzero, countOf, stretch, longest, summary, Summary}
+use Rattle.rules.specs.Rules.{Rule, twoNumbers, window, windowNumber, windowRuns, rule, byRuns, concluded, ofRuns}
+use Rattle.rules.specs.Apply.{concludedBy}
 use Rattle.values.specs.Ranges.{in-range}
 use Rattle.values.specs.WindowLaws.{readings-short, clipped-parts, clipped-within}
 use Rattle.values.specs.SlidingLaws.{first-short, sums-length}
@@ -144,13 +145,13 @@ module _ (P : Value → Type 0) (C : Closed P) where
   -- ---- the members
 
   -- a rule gives values that have it
-  abbrev Closes : Rule → Type 0
+  abbrev pub Closes : Rule → Type 0
   Closes (twoNumbers f) = (a b : ℤ) → P (f a b)
   Closes (window f) = (xs : List ℤ) (s l : ℕ) → Readings P xs → P (Window s l) → P (f xs s l)
   Closes (windowNumber f) = (xs : List ℤ) (s l : ℕ) (n : ℤ) → Readings P xs → P (Window s l) → P (f xs s l n)
   Closes (windowRuns f) = (s l : ℕ) (zs : List ℤ) → P (Window s l) → length zs ≤ l → P (f (summary zs))
 
-  closed-rule : (m : Member) → Closes (rule m)
+  pub closed-rule : (m : Member) → Closes (rule m)
   unfolding rule divided bestSum bestAt
   closed-rule Add = λ a b. closed-ranged _
   closed-rule Sub = λ a b. closed-ranged _
@@ -174,41 +175,10 @@ module _ (P : Value → Type 0) (C : Closed P) where
       (λ z. C .count s l (firstAt z (sums (readingsIn xs s l) w))
       (omega (arith, first-short z (sums (readingsIn xs s l) w), sums-length (readingsIn xs s l) w, readings-short xs s l)) W))
 
-  pub closed-numbers : (m : Member) (a b : ℤ) → P (onNumbers m a b)
-  unfolding onNumbers
-  closed-numbers m a b = by (rule m) (closed-rule m)
-    where
-      by : (r : Rule) → Closes r → P (byNumbers r a b)
-      by (twoNumbers f) h = h a b
-      by (window f) h = wrong
-      by (windowNumber f) h = wrong
-      by (windowRuns f) h = wrong
-
-  module _ (xs : List ℤ) (s l : ℕ) (R : Readings P xs) (W : P (Window s l)) where
-    pub closed-of : (m : Member) → P (ofWindow m xs s l)
-    unfolding ofWindow
-    closed-of m = by (rule m) (closed-rule m)
-      where
-        by : (r : Rule) → Closes r → P (byWindow r xs s l)
-        by (twoNumbers f) h = wrong
-        by (window f) h = h xs s l R W
-        by (windowNumber f) h = wrong
-        by (windowRuns f) h = wrong
-
-    pub closed-on : (m : Member) (n : ℤ) → P (onWindow m xs s l n)
-    unfolding onWindow
-    closed-on m n = by (rule m) (closed-rule m)
-      where
-        by : (r : Rule) → Closes r → P (byWindowNumber r xs s l n)
-        by (twoNumbers f) h = wrong
-        by (window f) h = wrong
-        by (windowNumber f) h = h xs s l n R W
-        by (windowRuns f) h = wrong
-
   -- ---- the members that run a function
 
   -- as many numbers as results, or a reason that one of them has
-  abbrev Told : ℕ → Results → Type 0
+  abbrev pub Told : ℕ → Results → Type 0
   Told k (numbers zs) = length zs ≡ k
   Told k (because r) = P (Missing r)
 
@@ -216,7 +186,7 @@ module _ (P : Value → Type 0) (C : Closed P) where
   told-with z k (numbers zs) e = ap suc e
   told-with z k (because r) p = p
 
-  told : (vs : List Value) → Each (Given P) vs → Told (length vs) (results vs)
+  pub told : (vs : List Value) → Each (Given P) vs → Told (length vs) (results vs)
   unfolding results
   told [] e = refl
   told (Number z ∷ vs) e = told-with z (length vs) (results vs) (told vs (e .1))
@@ -224,6 +194,11 @@ module _ (P : Value → Type 0) (C : Closed P) where
   told (Function ∷ vs) e = wrong
   told (Delayed ∷ vs) e = wrong
   told (Missing r ∷ vs) e = e .0
+
+  -- a rule that runs a function, on the results
+  pub closed-concluded : (f : Summary → Value) → Closes (windowRuns f) → (s l : ℕ) → P (Window s l) → (rs : Results) (k : ℕ) → k ≤ l → Told k rs → P (concludedBy f rs)
+  closed-concluded f h s l W (numbers zs) k b e = h s l zs W (omega arith)
+  closed-concluded f h s l W (because r) k b p = p
 
   module _ (s l : ℕ) (W : P (Window s l)) where
     pub closed-told : (m : Member) (rs : Results) (k : ℕ) → k ≤ l → Told k rs → P (concluded m rs)

@@ -12,5 +12,7 @@ pub mod PackingLaws
 pub mod Shown
 pub mod Applied
 pub mod ApplyLaws
+pub mod Tested
+pub mod TestedLaws
 pub mod KeepableLaws
 pub mod KeepableApply

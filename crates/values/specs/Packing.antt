@@ -42,12 +42,6 @@ unpackOf c =
     (cond (ltb c missingCell) Delayed
     (Missing (c % byteBase)))))
 
-abbrev pub isFunctionCell : ℕ → Bool
-isFunctionCell c = eqb c functionCell
-
-abbrev pub isDelayedCell : ℕ → Bool
-isDelayedCell c = eqb c delayedCell
-
 -- the window lies within so many readings
 abbrev pub inside : ℕ → ℕ → Bool
 inside low readings = leb (low / 65536 + low % 65536) readings
@@ -57,4 +51,4 @@ unfoldable pub isPacked : ℕ → ℕ → Bool
 isPacked c readings =
     (leb 1 c && leb c 4294967296)
     || ((leb windowCell c && (ltb c (windowCell + 4294967296) && inside (c - windowCell) readings))
-    || (isFunctionCell c || (isDelayedCell c || (leb (suc missingCell) c && leb c (missingCell + 5)))))
+    || (eqb c functionCell || (eqb c delayedCell || (leb (suc missingCell) c && leb c (missingCell + 5)))))

@@ -11,7 +11,7 @@ use Rattle.rules.specs.declared.Value.the-variants.{Number, Window, Function, D
 use Rattle.values.specs.declared.runs.Tally.{Tally}
 use Rattle.rules.specs.Values.{wrongKind}
 use Rattle.rules.specs.Runs.{isNonzero, Summary}
-use Rattle.rules.specs.Rules.{rule, byRuns}
+use Rattle.rules.specs.Rules.{rule, ifRuns}
 
 abbrev pub begun : Tally
 begun = record { stopped = false; reason = 0; count = 0; stretch = 0; longest = 0; total = pos 0 }
@@ -53,7 +53,7 @@ abbrev pub summed : Tally → Summary
 summed t = record { count = t .count; longest = t .longest; total = t .total }
 
 unfoldable pub finished : Member → Tally → Value
-finished m t = cond (t .stopped) (Missing (t .reason)) (byRuns (rule m) (summed t))
+finished m t = cond (t .stopped) (Missing (t .reason)) (ifRuns (Missing wrongKind) (rule m) (λ f. f (summed t)))
 
 -- what k results of signed 32 bits can come to
 pub record Within (k : ℕ) (t : Tally) : Type 0 where

@@ -11,9 +11,8 @@ use rules::Value;
 ghost use mathlib.Core.Path.{_≡_};
 ghost use Prim.Native.Nat.{_+_, _≤_};
 ghost use Rattle.members.specs.Members.{kindNumber};
-ghost use Rattle.rules.specs.Values.{kindOf};
 ghost use Rattle.rules.specs.Apply as Rules;
-ghost use Rattle.values.specs.Applied.{ruledWindow, ruled1, applied1};
+ghost use Rattle.values.specs.Tested.{kindOf, isKind, rule0 as rule0Of, ruleNumber, ruledWindow, ruled1, tested0, tested1};
 ghost use Rattle.values.specs.Keepable.{Bounded};
 
 // What a member with one argument comes to, or the window to run its function over.
@@ -84,14 +83,14 @@ fn value_kind(v: Value) -> u8
 
 // Whether a value is of a kind.
 fn is_kind(v: Value, k: Kind) -> bool
-    ensures { λ r. ⌜ r ≡ Rules.isKind v k ⌝ }
+    ensures { λ r. ⌜ r ≡ isKind v k ⌝ }
 {
     value_kind(v) == kind_number(k)
 }
 
 // The rule of a member with no argument.
 fn rule0(m: Member, xs: &[i32], v: Value) -> Value
-    ensures { λ r. ⌜ r ≡ Rules.rule0 m (now (xs .entry)) v ⌝ }
+    ensures { λ r. ⌜ r ≡ rule0Of m (now (xs .entry)) v ⌝ }
 {
     match v {
         Value::Window { start, length } => of_window(m, xs, start, length),
@@ -101,7 +100,7 @@ fn rule0(m: Member, xs: &[i32], v: Value) -> Value
 
 // A member with no argument.
 pub fn apply0(m: Member, xs: &[i32], u: Value) -> Value
-    ensures { λ r. ⌜ r ≡ Rules.apply0 m (now (xs .entry)) u ⌝ }
+    ensures { λ r. ⌜ r ≡ tested0 m (now (xs .entry)) u ⌝ }
 {
     if is_missing(u) {
         return u;
@@ -117,7 +116,7 @@ pub fn apply0(m: Member, xs: &[i32], u: Value) -> Value
 
 // The rule of a member on a number.
 fn rule_number(m: Member, a: i32, w: Value) -> Value
-    ensures { λ r. ⌜ r ≡ Rules.ruleNumber m a w ⌝ }
+    ensures { λ r. ⌜ r ≡ ruleNumber m a w ⌝ }
 {
     match w {
         Value::Number(b) => on_numbers(m, a, b),
@@ -152,7 +151,7 @@ fn rule1(m: Member, xs: &[i32], v: Value, w: Value) -> Applied
 // A member with one argument, up to the runs of a function.
 pub fn apply1(m: Member, xs: &[i32], v: Value, w: Value) -> Applied
     requires { ⌜ Bounded v ⌝ }
-    ensures { λ r. ⌜ r ≡ applied1 m (now (xs .entry)) v w ⌝ }
+    ensures { λ r. ⌜ r ≡ tested1 m (now (xs .entry)) v w ⌝ }
 {
     if is_missing(v) {
         return Applied::Done(v);

@@ -2,12 +2,12 @@
 use mathlib.Core.Path.{sym, ap}
 use borrow.Author.Needs.{needs}
 use Rattle.language.specs.Names.{bytes}
-use Rattle.members.specs.Members.{row, padded}
+use Rattle.members.specs.Members.{spelled, padded}
 use Rattle.members.proofs.name_of.Statement.{statement}
 use Rattle.members.proofs.name_of.Tie as tie
 
 pub name-of-spec : {M : Type 1} → statement M
-unfolding padded row bytes
+unfolding padded spelled bytes
 name-of-spec =
     tie.close
     (tie.spec
