@@ -30,14 +30,14 @@ use Rattle.model.specs.Demand.{Demand}
 use Rattle.model.specs.DemandLaws.{demand}
 use Rattle.formulas.specs.Formulas.{IsReading, formulas}
 use Rattle.members.specs.declared.Member.the-variants.{Div}
+use Rattle.rules.specs.declared.Value.{Value}
 use Rattle.rules.specs.declared.Value.the-variants.{Number, Function, Missing}
 use Rattle.rules.specs.Values.{ranged, divisionByZero}
 use Rattle.rules.specs.Numbers.{NotAbove, Above, GreatestNotAbove, quotient}
 use Rattle.rules.specs.NumbersLaws as Division
-use Rattle.rules.specs.Rules.{onNumbers}
 use Rattle.meaning.specs.Forms.{Form, function, same, IsDependency, dependency, AtOrBelow, within, works}
 use Rattle.meaning.specs.FormsLaws as Forms
-use Rattle.rules.specs.Apply.{isDelayed}
+use Rattle.rules.specs.Apply.{isDelayed, apply1}
 use Rattle.meaning.specs.Binding.{formsByPlace}
 use Rattle.meaning.specs.Evaluation.{valueOf, runOf, Environment, bind, lookup, settled, evaluate, putFor, hasName, awaited, aWindow, aDelay, aReason, shows}
 use Rattle.meaning.specs.EvaluationLaws.{evaluate-put}
@@ -213,10 +213,11 @@ works-exactly = Forms.works-exactly
 
 -- 02, T-02: division goes down. By zero it is reason 3. Otherwise it is the greatest whole number not above the quotient, and reason 4 where
 -- that is beyond signed 32 bits.
-pub division-by-zero : (a : ℤ) → onNumbers Div a (pos 0) ≡ Missing divisionByZero
+pub division-by-zero : (xs : List ℤ) (a : ℤ) (run : ℤ → Value) → apply1 Div xs (Number a) (Number (pos 0)) run ≡ Missing divisionByZero
 division-by-zero = Division.by-zero
 
-pub division-goes-down : (a b q : ℤ) → ¬ (b ≡ pos 0) → GreatestNotAbove a b q → onNumbers Div a b ≡ ranged q
+pub division-goes-down : (xs : List ℤ) (a : ℤ) (run : ℤ → Value) (b q : ℤ) → ¬ (b ≡ pos 0) → GreatestNotAbove a b q
+    → apply1 Div xs (Number a) (Number b) run ≡ ranged q
 division-goes-down = Division.goes-down
 
 -- There is just one such number, the one that is computed, and a lies from q times b up to, and without, q + 1 times b; the other way round

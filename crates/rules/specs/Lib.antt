@@ -5,6 +5,6 @@ pub mod Stretches
 pub mod Runs
 pub mod Rules
 pub mod RulesLaws
-pub mod NumbersLaws
 pub mod Apply
+pub mod NumbersLaws
 pub mod Examples

@@ -3,6 +3,7 @@
 -- Assumes nothing.
 use mathlib.Core.Path.{_≡_, refl, sym, ap, subst}
 use mathlib.Core.Logic.{_↔_}
+use mathlib.Core.List.{List}
 use Prim.Native.Nat.{ℕ, zero, suc, _+_, _*_, _/_, _≤_, _<_, suc-le-suc}
 use native.Mathlib.Nat.{le-div-iff-mul-le, div-lt-iff-lt-mul, zero-lt-suc, le-of-suc-le-suc, lt-of-not-le}
 use native.Mathlib.Omega.{arith}
@@ -11,10 +12,12 @@ use lib.Dec.{leb→le, le→leb, ltb→lt, lt→ltb}
 use lib.IntN.{ℤ, pos, negsuc, negℤ, sucℤ, _+ℤ_, _*ℤ_, +ℤ-one, *ℤ-negsuc}
 use lib.Signed.{_≤ℤ_, _<ℤ_, ≤ℤ-refl}
 use Rattle.members.specs.declared.Member.the-variants.{Div}
-use Rattle.rules.specs.declared.Value.the-variants.{Missing}
+use Rattle.rules.specs.declared.Value.{Value}
+use Rattle.rules.specs.declared.Value.the-variants.{Number, Missing}
 use Rattle.rules.specs.Values.{ranged, divisionByZero}
 use Rattle.rules.specs.Numbers.{NotAbove, Above, GreatestNotAbove, roundedDown, quotient, divided}
-use Rattle.rules.specs.Rules.{rule, onNumbers}
+use Rattle.rules.specs.Rules.{rule}
+use Rattle.rules.specs.Apply.{apply1}
 
 -- ---- the order of the integers
 
@@ -134,14 +137,15 @@ module _ (a b : ℤ) (h : b ≡ pos 0 → ⊥) where
     λ g. sym (last-below q (quotient a b) (below-quotient a b q h .0 (g .0)) (λ k. above a b (q +ℤ pos 1) .0 (g .1) (next-below q .1 k))),
   )
 
--- ---- the member
+-- ---- the member, on two numbers
 
-pub by-zero : (a : ℤ) → onNumbers Div a (pos 0) ≡ Missing divisionByZero
-unfolding onNumbers rule divided
-by-zero a = refl
+module _ (xs : List ℤ) (a : ℤ) (run : ℤ → Value) where
+  pub by-zero : apply1 Div xs (Number a) (Number (pos 0)) run ≡ Missing divisionByZero
+  unfolding apply1 rule divided
+  by-zero = refl
 
-pub goes-down : (a b q : ℤ) → (b ≡ pos 0 → ⊥) → GreatestNotAbove a b q → onNumbers Div a b ≡ ranged q
-unfolding onNumbers rule divided
-goes-down a (pos zero) q h g = absurd (h refl)
-goes-down a (pos (suc d)) q h g = rw (ne-eqb (suc d) 0 (λ e. h (ap pos e))) (ap ranged (quotient-exactly a (pos (suc d)) h q .1 g))
-goes-down a (negsuc d) q h g = ap ranged (quotient-exactly a (negsuc d) h q .1 g)
+  pub goes-down : (b q : ℤ) → (b ≡ pos 0 → ⊥) → GreatestNotAbove a b q → apply1 Div xs (Number a) (Number b) run ≡ ranged q
+  unfolding apply1 rule divided
+  goes-down (pos zero) q h g = absurd (h refl)
+  goes-down (pos (suc d)) q h g = rw (ne-eqb (suc d) 0 (λ e. h (ap pos e))) (ap ranged (quotient-exactly a (pos (suc d)) h q .1 g))
+  goes-down (negsuc d) q h g = ap ranged (quotient-exactly a (negsuc d) h q .1 g)
