@@ -77,8 +77,8 @@ enum formula_refusal {
 };
 
 /*
- * What an entry shows. A quotient, which div gives, is the greatest whole number not above it: -7.div(2) is -4,
- * where -7 / 2 is -3 in C.
+ * What an entry shows. The number that div gives is the greatest whole one not above the quotient: -7.div(2) is
+ * -4, where -7 / 2 is -3 in C.
  */
 enum formula_kind {
     FORMULA_KIND_NUMBER = 1,   /* first: the number */
