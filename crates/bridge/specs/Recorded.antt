@@ -154,7 +154,7 @@ before ps R t f pr os h r =
       order = r .order;
     }
 
--- one more record, whose place (before, others)
+-- one more record, whose place stands before others
 pushed : (n : Node) (R : Recorded) (t : List Node) (f : Form) (pr os : List Form → List Form) → Placed formulas nodes (length (R .records)) n → Right R t f pr os
     → Right (newRecord n (R .records) (length (R .records) ∷ R .places)) t (build n (formIn (R .records))) (λ v. build n (formIn (R .records)) ∷ pr v) (λ u. os (build n (formIn (R .records)) ∷ u))
 pushed n R t f pr os p r =

@@ -23,7 +23,7 @@ use Rattle.bridge.specs.Graphs.{nodes}
 use Rattle.bridge.specs.EntryForms.{formsOf}
 use Rattle.interface.specs.Answers.{namesOf}
 
--- what is kept of an entry shows
+-- what an entry shows, by what is kept of it
 abbrev pub shownIn : Kept → Shown
 shownIn k = shownAs (k .name) (namesOf (k .name) (k .other)) (unpackOf (k .value))
 

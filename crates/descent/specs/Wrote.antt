@@ -1,4 +1,4 @@
--- What (in, the) arrays, in terms of Records: a state that is ready to read behind the records t with the names Σ around it, and a
+-- What stands in the arrays, in terms of Records: a state that is ready to read behind the records t with the names Σ around it, and a
 -- state in which a tree's records and places have been written. Assumes nothing.
 use mathlib.Core.Path.{_≡_, refl, sym, _∙_}
 use mathlib.Core.Bool.{Bool, true, false, cond}

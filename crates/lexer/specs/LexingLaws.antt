@@ -99,7 +99,7 @@ kind-some : (t : Token) → tokenKind t ≡ 0 → ⊥
 unfolding tokenFor
 kind-some t z = let c : _≡_ {A = ℕ} 12 0 = rw z at (kind-for t []) in omega arith
 
--- a (that, the) bytes at place p begin with, as a token of the text
+-- a lexeme that the bytes at place p begin with, as a token of the text
 module _ (text : List ℕ) (p b : ℕ) (bs : List ℕ) (q : drop p text ≡ b ∷ bs) (x : Lexeme) (f : Spans (b ∷ bs) x) where
   end-within : p + x .1 ≤ length text
   end-within = omega (arith, length-drop p text, ap length q, f .some, f .within)

@@ -1,5 +1,5 @@
 -- 01, "Binding" and "The text": let elimination, the form of each part by place, and the order in which new entries are numbered.
--- A name (the, innermost) let or lambda around it that binds it; one that nothing binds is marked unbound. A let's name stands for
+-- A name means the innermost let or lambda around it that binds it; one that nothing binds is marked unbound. A let's name stands for
 -- the form of its value. That this is capture-avoiding substitution, where no lambda takes the name of one around it (refusal 11), is
 -- `lets-substituted` in SubstitutionLaws. Assumes nothing: these are definitions.
 use mathlib.Core.Bool.{cond}

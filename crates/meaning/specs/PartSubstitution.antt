@@ -1,4 +1,4 @@
--- 01, "Binding": what it (that, every) let of a tree is replaced in each part of its body, also in one that the body's own form does not
+-- 01, "Binding": what it means that every let of a tree is replaced in each part of its body, also in one that the body's own form does not
 -- have, as a part of an unused let's value. The forms of the parts are those with a hole for the let's name, filled with the form of the let's
 -- value, and no function or lambda around a hole has a name that is free in what is put there. That let elimination does this is in
 -- PartSubstitutionLaws. Assumes nothing: these are definitions.

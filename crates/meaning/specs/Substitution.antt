@@ -1,4 +1,4 @@
--- 01, "Binding": capture-avoiding substitution, and what it (that, every) let of a tree is replaced by it.
+-- 01, "Binding": capture-avoiding substitution, and what it means that every let of a tree is replaced by it.
 -- In the let-free form of a let's body a hole is put for the let's name. The form of the let is that form with the form of the let's value
 -- in place of every hole, and no function around a hole has a name that is free in what is put there. An inner let or lambda hides the
 -- let's name, as looking a name up takes the innermost. That let elimination does this is in SubstitutionLaws.

@@ -1,5 +1,5 @@
 -- The records that a tree is read to: one for each part but lets and uses of their names, in the order of binding (01, "Binding"), with
--- links to earlier records; and, by place, the record of each part. A let's name (for, the) record of its value, so that what is
+-- links to earlier records; and, by place, the record of each part. A let's name stands for the record of its value, so that what is
 -- shared stays shared. Assumes nothing: these are definitions. That they unfold to the let-free forms is bridge's Recorded.
 use mathlib.Core.Bool.{cond}
 use mathlib.Core.List.{List, [], _∷_, _++_}
