@@ -1,6 +1,6 @@
 -- The cells of what a form shows pass the tests of refusal 4, and show it again. Assumes nothing.
 use mathlib.Core.Path.{_≡_, refl, sym, ap, _∙_, subst}
-use mathlib.Core.Bool.{Bool, true, false, _&&_, _||_, cond}
+use mathlib.Core.Bool.{Bool, true, false, _||_}
 use mathlib.Core.List.{List, [], _∷_}
 use mathlib.Core.Option.{some}
 use Prim.Native.Nat.{ℕ, _<_, _≤_}
@@ -15,7 +15,6 @@ use Rattle.language.specs.Limits.{tableReadings}
 use Rattle.members.specs.declared.Member.{Member}
 use Rattle.rules.specs.declared.Value.{Value}
 use Rattle.rules.specs.declared.Value.the-variants.{Number, Window, Function, Delayed, Missing}
-use Rattle.rules.specs.Values.{wrongKind}
 use Rattle.rules.specs.Rules.{rule}
 use Rattle.rules.specs.Apply.{isMissing, isDelayed, byRule0, byRule1, apply0, apply1}
 use Rattle.values.specs.Keepable.{Storable, Keepable}

@@ -1,13 +1,12 @@
 -- When a member is delayed: exactly where a dependency is and none is missing. So a form that is delayed awaits a name. Assumes nothing.
 use mathlib.Core.Path.{_≡_, refl, sym, _∙_}
-use mathlib.Core.Bool.{Bool, true, false, _&&_, _||_, cond}
+use mathlib.Core.Bool.{Bool, true, false, _||_}
 use mathlib.Core.List.{List}
 use lib.IntN.{ℤ}
-use Rattle.language.specs.Cases.{impossible, split, by-cond}
+use Rattle.language.specs.Cases.{impossible, split}
 use Rattle.members.specs.declared.Member.{Member}
 use Rattle.rules.specs.declared.Value.{Value}
 use Rattle.rules.specs.declared.Value.the-variants.{Number, Window, Function, Delayed, Missing}
-use Rattle.rules.specs.Values.{wrongKind}
 use Rattle.rules.specs.Rules.{rule}
 use Rattle.rules.specs.Apply.{isMissing, isDelayed, byRule0, byRule1, apply0, apply1}
 use Rattle.values.specs.KeepableLaws.{Closed, Given}

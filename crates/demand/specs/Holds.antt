@@ -1,7 +1,7 @@
 -- What a cache that was opened and kept holds, as a state of the reference model: its recording, the forms of its entries, and the kept
 -- results as marks; and how such a cache is arranged. Assumes nothing: these are definitions.
 use mathlib.Core.Path.{_≡_}
-use mathlib.Core.Bool.{Bool, true, cond}
+use mathlib.Core.Bool.{true, cond}
 use mathlib.Core.List.{List, [], _∷_}
 use mathlib.Core.Option.{Option, none, some}
 use mathlib.Core.Logic.{_⊎_}
@@ -9,7 +9,6 @@ use Prim.Native.Nat.{ℕ, _≤_}
 use lib.Dec.{leb, eqb}
 use lib.ListN.{getD}
 use Rattle.language.specs.Limits.{tableReadings}
-use Rattle.rules.specs.declared.Value.{Value}
 use Rattle.rules.specs.declared.Value.the-variants.{Number, Window, Function, Delayed, Missing}
 use Rattle.values.specs.Packing.{packOf, unpackOf}
 use Rattle.meaning.specs.Forms.{Form}

@@ -12,7 +12,7 @@ use Rattle.language.specs.Limits.{tableEntries}
 use Rattle.members.specs.Members.{ifMember}
 use Rattle.members.specs.declared.Found.{Found}
 use Rattle.rules.specs.declared.Value.{Value}
-use Rattle.rules.specs.declared.Value.the-variants.{Number, Window, Function, Delayed, Missing}
+use Rattle.rules.specs.declared.Value.the-variants.{Number, Missing}
 use Rattle.values.specs.declared.apply.Applied.{Applied}
 use Rattle.values.specs.declared.apply.Applied.the-variants.{Done, Run}
 use Rattle.values.specs.declared.runs.Tally.{Tally}

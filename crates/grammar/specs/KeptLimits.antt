@@ -90,7 +90,8 @@ abbrev pub InRange : ℤ → Type 0
 InRange z = (leastNumber ≤ℤ z) × (z ≤ℤ mostNumber)
 
 -- The table of limits. At most 16 of let, \ and ( are open at a point, and at most 2 of \: where one opens, fewer are. Names have at most 8
--- bytes. Each member is known, and is given as many arguments as it takes.
+-- bytes. No lambda has the name of one around it, also where a let hides that one. Each member is known, and is given as many arguments as it
+-- takes.
 abbrev pub Limited : Site → Around → Type 0
 Limited (aLet x) d = (d .marks < openMarks) × ((length x ≤ nameBytes) × NotData x)
 Limited (aLambda x) d =

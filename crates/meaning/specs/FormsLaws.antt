@@ -11,7 +11,8 @@ use Rattle.members.specs.MembersLaws.{number-injective}
 use Rattle.members.specs.declared.Member.{Member}
 use Rattle.rules.specs.Values.{sameℤ}
 use Rattle.meaning.specs.Forms.{IsDependency, ofAsk, receiver, argument, body, AtOrBelow, itself, through}
-use Rattle.meaning.specs.Forms.{Form, number, variable, unbound, readings, ask, call, function, sameMember, shapeOf, integerOf, nameOf, memberOf, firstOf, secondOf, same, dependency, within, works}
+use Rattle.meaning.specs.Forms.{Form, number, variable, unbound, readings, ask, call, function, same, dependency, within, works}
+use Rattle.meaning.specs.Forms.{sameMember, shapeOf, integerOf, nameOf, memberOf, firstOf, secondOf}
 
 -- pieces
 sameℤ-eq : (a b : ℤ) → sameℤ a b ≡ true → a ≡ b

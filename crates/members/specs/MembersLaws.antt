@@ -14,7 +14,7 @@ use lib.ListN.{length, getD, take, drop, replicate, drop-of-length-le, length-ta
 use lib.Seq.{take-at, getD-take, ext-getD}
 use borrow.Author.Tests.{ne-eqb, eqb-true, eq-eqb, leb-true}
 use Rattle.language.specs.Names.{bytes}
-use Rattle.members.specs.Members.{arguments, spelled, row, members, memberNumber, memberAt, sameBytes, namedIn, memberOf, nameOf, padded}
+use Rattle.members.specs.Members.{arguments, spelled, members, memberNumber, memberAt, sameBytes, namedIn, memberOf, nameOf, padded}
 use Rattle.members.specs.declared.Member.{Member}
 use Rattle.members.specs.declared.Member.the-variants.{Add, Sub, Mul, Div, Gt, Eq, Skip, Take, Count, Sum, Min, Max, At, CountWhere, LongestRun, SumBy, BestSum, BestAt}
 use Rattle.members.specs.declared.Name.{Name}

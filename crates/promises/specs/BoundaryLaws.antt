@@ -2,7 +2,7 @@
 -- and that is what the engine's definitions say, which implement the model. Assumes nothing.
 use mathlib.Core.Path.{_≡_, refl, sym, ap, _∙_, subst}
 use mathlib.Core.Bool.{true}
-use mathlib.Core.List.{List, _∷_, map}
+use mathlib.Core.List.{List, map}
 use Prim.Native.Nat.{ℕ}
 use lib.IntN.{ℤ}
 use lib.ListN.{take}
@@ -51,7 +51,10 @@ module _ (m : Memory) (n a : ℕ) (sound : fits m ≡ true → All IsReading (re
   preview-numbers : (x : Previewed) → previewed m n a ≡ x → AsC (Preview n a) (previewReply x) (fromPreview (previewNumbers x))
   preview-numbers (P.NotYet k) e = previewLeft n a k
   preview-numbers (P.Finished k v) e =
-      split (fits m) (λ f. let p = preview-plain m n a k v e (sound f) in subst (λ u. AsC (Preview n a) (finished k (shownOf v)) (fromPreview (previewNumbers (P.Finished k u)))) (sym p) (previewDone n a k (shownOf v)))
+      split (fits m)
+      (λ f.
+      let p = preview-plain m n a k v e (sound f) in
+      subst (λ u. AsC (Preview n a) (finished k (shownOf v)) (fromPreview (previewNumbers (P.Finished k u)))) (sym p) (previewDone n a k (shownOf v)))
       (λ f. impossible (unfold previewed in let z = rw f at e in cc))
   preview-numbers (P.Refused k) e = previewRefused n a k 0
 

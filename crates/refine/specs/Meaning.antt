@@ -14,7 +14,7 @@ use lib.IntN.{ℤ, pos, natAbs, _+ℤ_}
 use lib.ListN.{length, getD, take, drop}
 use lib.Signed.{mag}
 use Rattle.table.specs.NodeKinds.{member-found}
-use Rattle.language.specs.Cases.{split, either, or-right, by-cond}
+use Rattle.language.specs.Cases.{split, either, or-right}
 use Rattle.language.specs.Limits.{tableEntries, tableReadings}
 use Rattle.members.specs.declared.Member.{Member}
 use Rattle.rules.specs.declared.Value.{Value}

@@ -7,7 +7,7 @@ use Rattle.rules.specs.declared.Value.{Value}
 use Rattle.rules.specs.declared.Value.the-variants.{Missing}
 use Rattle.rules.specs.Values.{ranged, sameℤ, divisionByZero}
 
--- z is not above the quotient of a by b: z times b is not above a, or, where b is negative, not below it
+-- z is not above the quotient of a by b, which is not zero: z times b is not above a, or, where b is negative, not below it
 abbrev pub NotAbove : ℤ → ℤ → ℤ → Type 0
 NotAbove a (pos b) z = (z *ℤ pos b) ≤ℤ a
 NotAbove a (negsuc b) z = a ≤ℤ (z *ℤ negsuc b)
