@@ -28,6 +28,10 @@ each-map f (b ∷ w) h = (f b (h .0), each-map f w (h .1))
 abbrev pub Byte : ℕ → Type 0
 Byte b = b < 256
 
+pub bytes-at : (w : List ℕ) → ((k : ℕ) → k < length w → Byte (getD w k 0)) → Each Byte w
+bytes-at [] h = tt
+bytes-at (b ∷ w) h = (h 0 (omega arith), bytes-at w (λ k l. h (suc k) (omega arith)))
+
 -- a byte that a name may have: letters and digits are among them
 abbrev pub NameByte : ℕ → Type 0
 NameByte b = (0 < b) × (b < 256)
@@ -96,11 +100,16 @@ not-longer v (b ∷ w) hv hw e = power-order (length w) (length v) (omega (arith
 name-bytes : (w : List ℕ) → Each NameByte w → Each Byte w
 name-bytes = each-map (λ b h. h .1)
 
+-- two words of one length have one number only if they are one word, whatever their bytes
+pub packed-same : (v w : List ℕ) → Each Byte v → Each Byte w → length v ≡ length w → packed v ≡ packed w → v ≡ w
+packed-same v w hv hw l e = onto-equal v w 0 0 hv hw l e .1
+
+-- and of any lengths, if none of their bytes is 0
 pub packed-injective : (v w : List ℕ) → Each NameByte v → Each NameByte w → packed v ≡ packed w → v ≡ w
 packed-injective v w hv hw e =
     let bv = name-bytes v hv in
     let bw = name-bytes w hw in
-    onto-equal v w 0 0 bv bw (le-antisymm (not-longer w v bw hv (sym e)) (not-longer v w bv hw e)) e .1
+    packed-same v w bv bw (le-antisymm (not-longer w v bw hv (sym e)) (not-longer v w bv hw e)) e
 
 pub same-name : (v w : List ℕ) → Each NameByte v → Each NameByte w → (sameName v w ≡ true) ↔ (v ≡ w)
 same-name v w hv hw = (λ e. packed-injective v w hv hw (eqb-true (packed v) (packed w) e), λ e. eq-eqb (packed v) (packed w) (ap packed e))

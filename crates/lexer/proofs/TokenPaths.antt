@@ -1,16 +1,18 @@
 -- What each path through a function that finds a token gives, from its tests and calls, over plain variables. Assumes nothing.
 use mathlib.Core.Path.{_≡_, refl, ap, sym, _∙_}
-use mathlib.Core.Bool.{Bool, true, false, cond, _&&_, and-true, and-false}
+use mathlib.Core.Bool.{Bool, true, false, cond}
 use mathlib.Core.List.{List, [], _∷_}
 use Prim.Native.Nat.{ℕ, suc, _+_, _-_, _≤_, _<_}
 use native.Mathlib.Numerals.{add-one}
 use native.Mathlib.Omega.{arith}
-use lib.Dec.{eqb}
+use lib.Dec.{eqb, lit<}
 use lib.ListN.{length, take, drop, getD, drop-of-length-le, length-drop}
 use lib.Seq.{drop-cons, take-all, take-nil}
 use borrow.Author.Tests.{eq-eqb, ne-eqb}
-use Rattle.language.specs.Names.{isLetter, isDigit, inWord, isBlank, letWord, inWord!, bytes}
+use Rattle.language.specs.Names.{isLetter, isDigit, inWord, isBlank, letWord, inWord!, bytes, packOnto, packed}
+use Rattle.language.specs.NamesLaws.{Each, Byte}
 use Rattle.members.specs.Members.{sameBytes}
+use Rattle.members.specs.MembersLaws.{other-bytes, packed-tells}
 use Rattle.grammar.specs.Tokens.{Token, Lexeme, kLet, kIn, word, when, leading, wordToken, wordAt, digitsAt, minusAt, markToken, tokenAt}
 use Rattle.lexer.specs.declared.tokens.Lexed.{Lexed}
 use Rattle.lexer.specs.Lexing.{tokenKind, placed, placeFrom, frontAt, lexAt, bytesAt}
@@ -41,34 +43,30 @@ module _ (text : List ℕ) (start end : ℕ) where
   part-over h = let e : drop start text ≡ [] = drop-of-length-le text {i = start} (omega arith) in rw (e, take-nil)
 
 -- ---- word_kind
-kinds : (t : Bool) (k : Token) (w : List ℕ) → tokenKind (cond t k (word w)) ≡ cond t (tokenKind k) 10
-kinds true k w = refl
-kinds false k w = refl
+module _ (w : List ℕ) (n : ℕ) (p : (n ≡ packed w) × Each Byte w) (t : Bool) where
+  -- the word's number against that of a word of its length
+  told : (v : List ℕ) → Each Byte v → length w ≡ length v → eqb n (packed v) ≡ t → sameBytes w v ≡ t
+  told v b l e = sym (packed-tells w v (p .1) b l) ∙ ap (λ (k : ℕ). eqb k (packed v)) (sym (p .0)) ∙ e
 
-pub word-two : (w : List ℕ) (t : Bool) → length w ≡ 2 → (eqb (getD w 0 0) 105 && eqb (getD w 1 0) 110) ≡ t
-    → cond t 2 10 ≡ tokenKind (wordToken w)
-unfolding wordToken sameBytes letWord inWord! bytes
-word-two [] t h e = absurd (omega arith)
-word-two (a ∷ []) t h e = absurd (omega arith)
-word-two (a ∷ b ∷ []) t h e = sym (simp (and-true, and-false, e) (kinds t kIn (a ∷ b ∷ [])))
-word-two (a ∷ b ∷ c ∷ w) t h e = absurd (omega arith)
+  pub word-two : length w ≡ 2 → eqb n 26990 ≡ t → cond t 2 10 ≡ tokenKind (wordToken w)
+  unfolding wordToken letWord inWord! bytes packOnto
+  word-two l e = rw (other-bytes w letWord (λ q. omega (arith, ap length q)), told inWord! (lit< tt, (lit< tt, tt)) l e) (by t)
+    where
+      by : (t : Bool) → cond t 2 10 ≡ tokenKind (cond t kIn (word w))
+      by true = refl
+      by false = refl
 
-pub word-three : (w : List ℕ) (t : Bool) → length w ≡ 3 → (eqb (getD w 0 0) 108 && (eqb (getD w 1 0) 101 && eqb (getD w 2 0) 116)) ≡ t
-    → cond t 1 10 ≡ tokenKind (wordToken w)
-unfolding wordToken sameBytes letWord inWord! bytes
-word-three [] t h e = absurd (omega arith)
-word-three (a ∷ []) t h e = absurd (omega arith)
-word-three (a ∷ b ∷ []) t h e = absurd (omega arith)
-word-three (a ∷ b ∷ c ∷ []) t h e = sym (simp (and-true, and-false, e) (kinds t kLet (a ∷ b ∷ c ∷ [])))
-word-three (a ∷ b ∷ c ∷ d ∷ w) t h e = absurd (omega arith)
+  pub word-three : length w ≡ 3 → eqb n 7103860 ≡ t → cond t 1 10 ≡ tokenKind (wordToken w)
+  unfolding wordToken letWord inWord! bytes packOnto
+  word-three l e = rw (told letWord (lit< tt, (lit< tt, (lit< tt, tt))) l e, other-bytes w inWord! (λ q. omega (arith, ap length q))) (by t)
+    where
+      by : (t : Bool) → cond t 1 10 ≡ tokenKind (cond t kLet (word w))
+      by true = refl
+      by false = refl
 
-pub word-long : (w : List ℕ) → (length w ≡ 2 → ⊥) → (length w ≡ 3 → ⊥) → 10 ≡ tokenKind (wordToken w)
-unfolding wordToken sameBytes letWord inWord! bytes
-word-long [] n m = refl
-word-long (a ∷ []) n m = simp and-false
-word-long (a ∷ b ∷ []) n m = absurd (n refl)
-word-long (a ∷ b ∷ c ∷ []) n m = absurd (m refl)
-word-long (a ∷ b ∷ c ∷ d ∷ w) n m = simp and-false
+pub word-other : (w : List ℕ) → (length w ≡ 2 → ⊥) → (length w ≡ 3 → ⊥) → 10 ≡ tokenKind (wordToken w)
+unfolding wordToken letWord inWord! bytes
+word-other w n m = rw (other-bytes w letWord (λ q. m (ap length q)), other-bytes w inWord! (λ q. n (ap length q)))
 
 -- ---- mark_kind
 pub mark-key : (m b : ℕ) → b ≡ m → tokenKind (markToken m) ≡ tokenKind (markToken b)

@@ -1,10 +1,8 @@
 -- What each path through a function that values a token's bytes gives, from its tests and calls, over plain variables. Assumes nothing.
 use mathlib.Core.Path.{_≡_, refl, ap, sym, _∙_}
-use mathlib.Core.Bool.{false}
 use mathlib.Core.List.{List, [], _∷_}
 use Prim.Native.Nat.{ℕ, zero, suc, _-_, _≤_, _<_, min}
 use native.Mathlib.Omega.{arith}
-use lib.Dec.{eqb}
 use lib.ListN.{length, take, drop, getD, length-drop}
 use lib.Seq.{take-all}
 use lib.IntN.{ℤ, pos, negsuc, negℤ, _-ℤ_, +ℤ-idl}
@@ -13,13 +11,13 @@ use mir.Syntax.{w32, w64}
 use mir.Val.{SFits, toZ, ofZ}
 use mir.Facts.{toZ-ofZ, toZ-pos, sfits-widen}
 use borrow.Author.Tests.{eq-eqb, ne-eqb, lt-ltb, le-ltb}
-use Rattle.language.specs.Names.{bytes, packOnto, packed, dataWord, isData}
-use Rattle.grammar.specs.Tokens.{decimalOnto}
+use Rattle.language.specs.Names.{packed}
+use Rattle.grammar.specs.Tokens.{decimal, decimalOnto}
 use Rattle.lexer.specs.declared.tokens.Literal.{Literal}
 use Rattle.lexer.specs.declared.tokens.Literal.the-variants.{In, Beyond}
 use Rattle.lexer.specs.Lexing.{valueOf, judged, nameAt}
-use Rattle.lexer.specs.Loops.{based, bound}
-use Rattle.lexer.specs.LoopsLaws.{at-bound, based-decimal, based-packed}
+use Rattle.lexer.specs.Loops.{bound}
+use Rattle.lexer.specs.LoopsLaws.{at-bound}
 
 -- ---- non_negative and negative
 in-range : (z : ℤ) → SFits w32 z → judged z ≡ In z
@@ -73,24 +71,24 @@ module _ (v w : List ℕ) (same : w ≡ v) where
   pub number-none : length w ≡ 0 → In (pos 0) ≡ judged (valueOf v)
   number-none e = no-value w e ∙ ap (λ (x : List ℕ). judged (valueOf x)) same
 
-  pub number-minus : (r : Literal) (m : ℕ) → getD w 0 0 ≡ 45 → m ≡ min (based 10 48 0 (take (length w - 1) (drop 1 w))) bound
+  pub number-minus : (r : Literal) (m : ℕ) → getD w 0 0 ≡ 45 → m ≡ min (decimal (take (length w - 1) (drop 1 w))) bound
       → r ≡ judged (negℤ (pos m)) → r ≡ judged (valueOf v)
   unfolding valueOf
   number-minus r m q e k =
       let l : length (drop 1 w) ≤ length w - 1 = omega (arith, length-drop 1 w) in
       k ∙ ap (λ (n : ℕ). judged (negℤ (pos n))) e
-      ∙ at-bound (λ (n : ℕ). judged (negℤ (pos n))) Beyond minus-beyond (based 10 48 0 (take (length w - 1) (drop 1 w)))
-      ∙ rw (← same, eq-eqb (getD w 0 0) 45 q, take-all (length w - 1) (drop 1 w) l, based-decimal)
+      ∙ at-bound (λ (n : ℕ). judged (negℤ (pos n))) Beyond minus-beyond (decimal (take (length w - 1) (drop 1 w)))
+      ∙ rw (← same, eq-eqb (getD w 0 0) 45 q, take-all (length w - 1) (drop 1 w) l)
 
-  pub number-plus : (r : Literal) (m : ℕ) → (getD w 0 0 ≡ 45 → ⊥) → m ≡ min (based 10 48 0 w) bound → r ≡ judged (pos m)
+  pub number-plus : (r : Literal) (m : ℕ) → (getD w 0 0 ≡ 45 → ⊥) → m ≡ min (decimal w) bound → r ≡ judged (pos m)
       → r ≡ judged (valueOf v)
   unfolding valueOf
   number-plus r m q e k =
       k ∙ ap (λ (n : ℕ). judged (pos n)) e
-      ∙ at-bound (λ (n : ℕ). judged (pos n)) Beyond (λ n h. plus-beyond n (omega arith)) (based 10 48 0 w)
-      ∙ rw (← same, ne-eqb (getD w 0 0) 45 q, based-decimal)
+      ∙ at-bound (λ (n : ℕ). judged (pos n)) Beyond (λ n h. plus-beyond n (omega arith)) (decimal w)
+      ∙ rw (← same, ne-eqb (getD w 0 0) 45 q)
 
-  -- ---- name and is_data
+  -- ---- name
   pub name-whole : (r : ℕ) → length w ≤ 8 → r ≡ packed w → r ≡ nameAt v
   unfolding nameAt
   name-whole r h e = e ∙ ap packed (sym (take-all 8 w h)) ∙ ap (λ (x : List ℕ). packed (take 8 x)) same
@@ -98,10 +96,3 @@ module _ (v w : List ℕ) (same : w ≡ v) where
   pub name-front : (r : ℕ) → r ≡ packed (take 8 w) → r ≡ nameAt v
   unfolding nameAt
   name-front r e = e ∙ ap (λ (x : List ℕ). packed (take 8 x)) same
-
-  pub data-is : (r : ℕ) → r ≡ min (based 256 0 0 w) bound → eqb r 1684108385 ≡ isData v
-  unfolding isData packOnto dataWord bytes
-  data-is r e =
-      ap (λ (n : ℕ). eqb n (packed dataWord)) e
-      ∙ at-bound (λ (n : ℕ). eqb n (packed dataWord)) false (λ n h. ne-eqb n (packed dataWord) (λ q. omega arith)) (based 256 0 0 w)
-      ∙ ap (λ (n : ℕ). eqb n (packed dataWord)) (based-packed 0 w ∙ ap packed same)

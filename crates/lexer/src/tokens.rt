@@ -7,11 +7,11 @@ ghost use mathlib.Core.Path.{_≡_};
 ghost use Prim.Native.Nat.{_+_, _*_, _-_, _<_, _≤_, min};
 ghost use lib.IntN.{pos, negℤ};
 ghost use lib.ListN.{length, drop};
-ghost use Rattle.language.specs.Names.{byteBase, isData, isLong};
+ghost use Rattle.language.specs.Names.{isLong};
 ghost use Rattle.members.specs.Members.{memberOf};
-ghost use Rattle.grammar.specs.Tokens.{wordToken, wordAt, digitsAt, minusAt, markToken};
+ghost use Rattle.grammar.specs.Tokens.{wordToken, wordAt, digitsAt, minusAt, markToken, decimal};
 ghost use Rattle.lexer.specs.Lexing.{tokenKind, placed, lexAt, bytesAt, judged, valueOf, nameAt};
-ghost use Rattle.lexer.specs.Loops.{inClass, runEnd, based, bound};
+ghost use Rattle.lexer.specs.Loops.{inClass, runEnd, bound};
 
 // A token: its kind, the place of its first byte, and the place behind it.
 pub struct Lexed {
@@ -106,18 +106,18 @@ fn part<'a>(text: &'a [u8], start: usize, end: usize) -> &'a [u8]
     &text[..0]
 }
 
-// The kind of a word's token.
+// The kind of a word's token: the two reserved words have two and three bytes.
 fn word_kind(word: &[u8]) -> u8
     ensures { λ r. ⌜ r ≡ tokenKind (wordToken (now (word .entry))) ⌝ }
 {
     if word.len() == 2 {
-        if (word[0] == b'i') & (word[1] == b'n') {
+        if names::pack(word) == names::IN {
             return Lexed::IN;
         }
         return Lexed::WORD;
     }
     if word.len() == 3 {
-        if (word[0] == b'l') & ((word[1] == b'e') & (word[2] == b't')) {
+        if names::pack(word) == names::LET {
             return Lexed::LET;
         }
         return Lexed::WORD;
@@ -230,26 +230,25 @@ fn bounded(n: u64) -> u64
 }
 
 // One more digit behind n, up to the bound.
-fn with_digit(n: u64, base: u64, digit0: u8, b: u8) -> u64
-    requires { ⌜ (n ≤ bound) × (base ≤ byteBase) ⌝ }
-    ensures { λ r. ⌜ r ≡ min (n * base + (b - digit0)) bound ⌝ }
+fn with_digit(n: u64, b: u8) -> u64
+    requires { ⌜ n ≤ bound ⌝ }
+    ensures { λ r. ⌜ r ≡ min (n * 10 + (b - 48)) bound ⌝ }
 {
-    if b < digit0 {
-        bounded(n * base)
+    if b < b'0' {
+        bounded(n * 10)
     } else {
-        bounded(n * base + (b - digit0) as u64)
+        bounded(n * 10 + (b - b'0') as u64)
     }
 }
 
-// The bytes as digits in a base, up to the bound. `digit0` is the byte of the digit 0.
-fn value_in_base(bytes: &[u8], base: u64, digit0: u8) -> u64
-    requires { ⌜ (1 ≤ base) × (base ≤ byteBase) ⌝ }
-    ensures { λ r. ⌜ r ≡ min (based base digit0 0 (now (bytes .entry))) bound ⌝ }
+// The bytes as decimal digits, up to the bound.
+fn value(bytes: &[u8]) -> u64
+    ensures { λ r. ⌜ r ≡ min (decimal (now (bytes .entry))) bound ⌝ }
 {
     let mut n: u64 = 0;
     let mut i = 0;
     while i < bytes.len() {
-        n = with_digit(n, base, digit0, bytes[i]);
+        n = with_digit(n, bytes[i]);
         i += 1;
     }
     n
@@ -286,9 +285,9 @@ pub fn number(text: &[u8], start: usize, end: usize) -> Literal
         return Literal::In(0);
     }
     if bytes[0] == b'-' {
-        negative(value_in_base(&bytes[1..], 10, b'0'))
+        negative(value(&bytes[1..]))
     } else {
-        non_negative(value_in_base(bytes, 10, b'0'))
+        non_negative(value(bytes))
     }
 }
 
@@ -309,16 +308,6 @@ pub fn name(text: &[u8], start: usize, end: usize) -> u64
     } else {
         names::pack(&word[..Text::NAME_BYTES])
     }
-}
-
-// The name `data`, packed.
-const DATA: u64 = 0x64617461;
-
-// Whether the word from `start` up to `end` is `data`.
-pub fn is_data(text: &[u8], start: usize, end: usize) -> bool
-    ensures { λ r. ⌜ r ≡ isData (bytesAt (now (text .entry)) start end) ⌝ }
-{
-    value_in_base(part(text, start, end), names::BYTE_BASE, 0) == DATA
 }
 
 // The member that the word from `start` up to `end` names.

@@ -1,11 +1,12 @@
 -- 01, "Members", and 02, T-01: the table of the members, a row for each, in the papers' order. Assumes nothing: these are definitions.
 use mathlib.Core.Bool.{Bool, true, false, _&&_, cond}
-use mathlib.Core.List.{List, [], _∷_, _++_, map}
-use Prim.Native.Nat.{ℕ, _-_}
+use mathlib.Core.List.{List, [], _∷_, map}
+use Prim.Native.Nat.{ℕ, _*_}
 use Prim.Native.String.{String}
 use lib.Dec.{eqb}
-use lib.ListN.{length, getD, replicate}
-use Rattle.language.specs.Names.{bytes}
+use lib.ListN.{length, getD, take, drop}
+use Rattle.language.specs.Limits.{nameBytes}
+use Rattle.language.specs.Names.{bytes, packed}
 use Rattle.members.specs.declared.Member.{Member}
 use Rattle.members.specs.declared.Member.the-variants.{Add, Sub, Mul, Div, Gt, Eq, Skip, Take, Count, Sum, Min, Max, At, CountWhere, LongestRun, SumBy, BestSum, BestAt}
 use Rattle.members.specs.declared.Kind.{Kind}
@@ -80,11 +81,6 @@ namedIn (m ∷ ms) w = cond (sameBytes w (spelled m)) (Is m) (namedIn ms w)
 unfoldable pub memberOf : List ℕ → Found
 memberOf w = namedIn members w
 
--- its name, and no bytes where there is none
-abbrev pub nameOf : Found → List ℕ
-nameOf (Is m) = spelled m
-nameOf Unknown = []
-
 abbrev pub isUnknown : Found → Bool
 isUnknown f = ifMember true f (λ m. false)
 
@@ -121,6 +117,12 @@ kindNumber Kinds.Number = 1
 kindNumber Kinds.Window = 2
 kindNumber Kinds.Function = 3
 
--- a name as the code has it: with zeros up to 12 bytes, and its length
-unfoldable pub padded : Member → Name
-padded m = (spelled m ++ replicate (12 - length (spelled m)) 0, length (spelled m))
+-- a name as the code has it: its first bytes packed, the others packed, and how many there are; each number has room for eight
+abbrev pub longestName : ℕ
+longestName = 2 * nameBytes
+
+unfoldable pub packedName : List ℕ → Name
+packedName w = (packed (take nameBytes w), packed (drop nameBytes w), length w)
+
+abbrev pub samePacked : Name → Name → Bool
+samePacked a b = eqb (a .2) (b .2) && (eqb (a .0) (b .0) && eqb (a .1) (b .1))

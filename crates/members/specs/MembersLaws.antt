@@ -2,19 +2,22 @@
 -- Assumes nothing.
 use mathlib.Core.Path.{_≡_, refl, sym, ap, _∙_}
 use mathlib.Core.Bool.{Bool, true, false, _&&_, and-eq-true-iff, cond}
-use mathlib.Core.List.{List, [], _∷_, map}
+use mathlib.Core.List.{List, [], _∷_, _++_, map}
 use mathlib.Core.Logic.{_↔_}
 use mathlib.Mathlib.Data.Bool.Basic.{eq-false-eq-not-eq-true}
 use Prim.Native.Nat.{ℕ, zero, suc, _+_, _-_, _≤_, _<_}
 use native.Mathlib.Nat.{add-zero, zero-add, add-suc, suc-add}
 use native.Mathlib.Numerals.{add-one}
 use native.Mathlib.Omega.{arith}
-use lib.Dec.{eqb, leb}
-use lib.ListN.{length, getD, take, drop, replicate, drop-of-length-le, length-take, length-append, length-replicate}
-use lib.Seq.{take-at, getD-take, ext-getD}
-use borrow.Author.Tests.{ne-eqb, eqb-true, eq-eqb, leb-true}
-use Rattle.language.specs.Names.{bytes}
-use Rattle.members.specs.Members.{arguments, spelled, members, memberNumber, memberAt, sameBytes, namedIn, memberOf, nameOf, padded}
+use lib.Dec.{eqb, leb, ltb}
+use lib.ListN.{length, getD, take, drop, drop-of-length-le, length-take, length-drop, take-append-drop}
+use lib.Seq.{take-all}
+use borrow.Author.Tests.{eqb-true, eq-eqb, ne-eqb, leb-true, ltb-true}
+use Rattle.language.specs.Cases.{impossible, split}
+use Rattle.language.specs.Limits.{nameBytes}
+use Rattle.language.specs.Names.{bytes, packOnto, packed}
+use Rattle.language.specs.NamesLaws.{Each, Byte, packed-same}
+use Rattle.members.specs.Members.{arguments, spelled, members, memberNumber, ifMember, memberAt, sameBytes, namedIn, memberOf, longestName, packedName, samePacked}
 use Rattle.members.specs.declared.Member.{Member}
 use Rattle.members.specs.declared.Member.the-variants.{Add, Sub, Mul, Div, Gt, Eq, Skip, Take, Count, Sum, Min, Max, At, CountWhere, LongestRun, SumBy, BestSum, BestAt}
 use Rattle.members.specs.declared.Name.{Name}
@@ -161,70 +164,134 @@ name-own w m e = named-in members w m e
 
 -- ---- the search for a name, row by row
 
+-- the word is the name of the member that was found
+abbrev namesIt : List ℕ → Found → Bool
+namesIt w f = ifMember false f (λ m. sameBytes w (spelled m))
+
 rest-row : (ms : List Member) (n : ℕ) (w : List ℕ) → n < length ms
-    → namedIn (drop n ms) w ≡ cond (sameBytes w (nameOf (foundIn ms n))) (foundIn ms n) (namedIn (drop (suc n) ms) w)
+    → namedIn (drop n ms) w ≡ cond (namesIt w (foundIn ms n)) (foundIn ms n) (namedIn (drop (suc n) ms) w)
 unfolding namedIn
 rest-row [] n w h = absurd (omega arith)
 rest-row (m ∷ ms) zero w h = refl
 rest-row (m ∷ ms) (suc n) w h = rest-row ms n w (omega arith)
 
-module _ (n : ℕ) (w : List ℕ) (h : n < length members) where
-  pub row-is : sameBytes w (nameOf (memberAt n)) ≡ true → memberAt n ≡ namedIn (drop n members) w
-  unfolding memberAt
-  row-is e = rw (rest-row members n w h, e)
-
-  pub row-not : sameBytes w (nameOf (memberAt n)) ≡ false → namedIn (drop (n + 1) members) w ≡ namedIn (drop n members) w
-  unfolding memberAt
-  row-not e = rw (add-one, rest-row members n w h, e)
-
-pub row-none : (n : ℕ) (w : List ℕ) → length members ≤ n → namedIn (drop n members) w ≡ Unknown
+row-none : (n : ℕ) (w : List ℕ) → length members ≤ n → namedIn (drop n members) w ≡ Unknown
 unfolding namedIn
 row-none n w h = rw (drop-of-length-le members h)
 
--- ---- the names as the code has them
+-- ---- packed names: two words of bytes have one packed name exactly if they are one word
 
-pub name-short : (m : Member) → padded m .1 ≤ 12
-unfolding padded arguments spelled bytes
-name-short m = leb-true (length (spelled m)) 12 (each (λ k. leb (length (spelled k)) 12) refl m)
+-- of two words of one length the numbers tell
+pub packed-tells : (v w : List ℕ) → Each Byte v → Each Byte w → length v ≡ length w → eqb (packed v) (packed w) ≡ sameBytes v w
+packed-tells v w hv hw l =
+    split (sameBytes v w)
+    (λ e. eq-eqb (packed v) (packed w) (ap packed (same-equal v w e)) ∙ sym e)
+    (λ e. ne-eqb (packed v) (packed w) (λ q. impossible (sym e ∙ same-bytes v w .1 (packed-same v w hv hw l q))) ∙ sym e)
 
-pub name-full : (m : Member) → length (padded m .0) ≡ 12
-unfolding padded
-name-full m =
-    let short = name-short m in
-    let a = length-append (spelled m) (replicate (12 - length (spelled m)) 0) in
-    let r = length-replicate {A = ℕ} (12 - length (spelled m)) 0 in
-    omega arith
+bytes-take : (n : ℕ) (w : List ℕ) → Each Byte w → Each Byte (take n w)
+bytes-take zero w h = tt
+bytes-take (suc n) [] h = tt
+bytes-take (suc n) (b ∷ w) h = (h .0, bytes-take n w (h .1))
 
-name-taken : (m : Member) → take (padded m .1) (padded m .0) ≡ spelled m
-unfolding padded
-name-taken m = take-at (spelled m) (replicate (12 - length (spelled m)) 0) (length (spelled m)) refl
+bytes-drop : (n : ℕ) (w : List ℕ) → Each Byte w → Each Byte (drop n w)
+bytes-drop zero w h = h
+bytes-drop (suc n) [] h = tt
+bytes-drop (suc n) (b ∷ w) h = bytes-drop n w (h .1)
 
-no-bytes : (w : List ℕ) → sameBytes w [] ≡ eqb (length w) 0
-unfolding sameBytes
-no-bytes [] = refl
-no-bytes (b ∷ w) = sym (ne-eqb (suc (length w)) 0 (λ e. omega arith))
+module _ (v w : List ℕ) (hv : Each Byte v) (hw : Each Byte w) where
+  packed-one : samePacked (packedName v) (packedName w) ≡ true → v ≡ w
+  unfolding packedName
+  packed-one e =
+      let h = and-eq-true-iff (eqb (length v) (length w)) _ .0 e in
+      let k = and-eq-true-iff (eqb (packed (take 8 v)) (packed (take 8 w))) _ .0 (h .1) in
+      let l = eqb-true (length v) (length w) (h .0) in
+      let front = packed-same (take 8 v) (take 8 w) (bytes-take 8 v hv) (bytes-take 8 w hw) (rw (length-take, length-take, l)) (eqb-true _ _ (k .0)) in
+      let back = packed-same (drop 8 v) (drop 8 w) (bytes-drop 8 v hv) (bytes-drop 8 w hw) (rw (length-drop, length-drop, l)) (eqb-true _ _ (k .1)) in
+      sym (take-append-drop 8 v) ∙ (λ i. front i ++ back i) ∙ take-append-drop 8 w
 
--- what the test of a number's name comes to
-module _ (w : List ℕ) (n : ℕ) where
-  pub named-row : (b : Bool) (m : Member) (x : Name) → b ≡ sameBytes w (take (x .1) (x .0)) → x ≡ padded m → memberAt n ≡ Is m → b ≡ sameBytes w (nameOf (memberAt n))
-  named-row b m x e h k =
-      e ∙ ap (λ (y : Name). sameBytes w (take (y .1) (y .0))) h ∙ ap (sameBytes w) (name-taken m) ∙ ap (λ (f : Found). sameBytes w (nameOf f)) (sym k)
+  packed-itself : v ≡ w → samePacked (packedName v) (packedName w) ≡ true
+  unfolding packedName
+  packed-itself e = rw (e, eq-eqb (length w) (length w) refl, eq-eqb (packed (take 8 w)) _ refl, eq-eqb (packed (drop 8 w)) _ refl)
 
-  pub named-none : memberAt n ≡ Unknown → eqb (length w) 0 ≡ sameBytes w (nameOf (memberAt n))
-  named-none k = sym (no-bytes w) ∙ ap (λ (f : Found). sameBytes w (nameOf f)) (sym k)
+  packed-bytes : samePacked (packedName v) (packedName w) ≡ sameBytes v w
+  packed-bytes =
+      split (sameBytes v w)
+      (λ e. packed-itself (same-equal v w e) ∙ sym e)
+      (λ e. eq-false-eq-not-eq-true _ .0 (λ p. impossible (sym e ∙ same-bytes v w .1 (packed-one p))) ∙ sym e)
 
--- a word against the first s bytes of a row's name
-module _ (w name : List ℕ) (s : ℕ) (full : s ≤ length name) where
-  part-length : length (take s name) ≡ s
-  part-length = length-take s name ∙ (omega arith)
+areBytes : List ℕ → Bool
+areBytes [] = true
+areBytes (b ∷ w) = ltb b 256 && areBytes w
 
-  pub other-length : (length w ≡ s → ⊥) → sameBytes w (take s name) ≡ false
-  other-length h = let l = part-length in other-bytes w (take s name) (λ e. h (ap length e ∙ l))
+are-bytes : (w : List ℕ) → areBytes w ≡ true → Each Byte w
+unfolding areBytes
+are-bytes [] e = tt
+are-bytes (b ∷ w) e = let h = and-eq-true-iff (ltb b 256) (areBytes w) .0 e in (ltb-true b 256 (h .0), are-bytes w (h .1))
 
-  pub other-byte : (i : ℕ) → i < s → (getD w i 0 ≡ getD name i 0 → ⊥) → sameBytes w (take s name) ≡ false
-  other-byte i h d = other-bytes w (take s name) (λ e. d (ap (λ (l : List ℕ). getD l i 0) e ∙ getD-take s name i 0 h))
+name-bytes : (m : Member) → Each Byte (spelled m)
+unfolding areBytes spelled bytes
+name-bytes m = are-bytes (spelled m) (each (λ k. areBytes (spelled k)) refl m)
 
-  pub all-bytes : length w ≡ s → ((k : ℕ) → k < s → getD w k 0 ≡ getD name k 0) → sameBytes w (take s name) ≡ true
-  all-bytes l h =
-      let p = part-length in
-      same-bytes w (take s name) .1 (ext-getD 0 w (take s name) (omega arith) (λ k q. h k (omega arith) ∙ sym (getD-take s name k 0 (omega arith))))
+-- no member has a longer name
+name-short : (m : Member) → length (spelled m) ≤ longestName
+unfolding spelled bytes
+name-short m = leb-true (length (spelled m)) longestName (each (λ k. leb (length (spelled k)) longestName) refl m)
+
+pub none-longer : (w : List ℕ) → longestName < length w → memberOf w ≡ Unknown
+none-longer w h = by (memberOf w) refl
+  where
+    by : (f : Found) → memberOf w ≡ f → f ≡ Unknown
+    by (Is m) e = absurd (omega (arith, name-short m, ap length (name-own w m e)))
+    by Unknown e = refl
+
+-- ---- how a word's packed name is made
+
+pub short-name : (w : List ℕ) (r : ℕ) → length w ≤ nameBytes → (r ≡ packed w) × Each Byte w
+    → (_≡_ {A = Name} (r, 0, length w) (packedName w)) × Each Byte w
+unfolding packedName packOnto
+short-name w r l h = (rw (take-all 8 w l, drop-of-length-le w l, h .0), h .1)
+
+bytes-joined : (v w : List ℕ) → Each Byte v → Each Byte w → Each Byte (v ++ w)
+bytes-joined [] w hv hw = hw
+bytes-joined (b ∷ v) w hv hw = (hv .0, bytes-joined v w (hv .1) hw)
+
+pub long-name : (w : List ℕ) (r s : ℕ) → (r ≡ packed (take 8 w)) × Each Byte (take 8 w)
+    → (s ≡ packed (take (length w - 8) (drop 8 w))) × Each Byte (take (length w - 8) (drop 8 w))
+    → (_≡_ {A = Name} (r, s, length w) (packedName w)) × Each Byte w
+unfolding packedName
+long-name w r s h k =
+    let rest : take (length w - 8) (drop 8 w) ≡ drop 8 w = take-all (length w - 8) (drop 8 w) (omega (arith, length-drop 8 w)) in
+    let b : Each Byte (drop 8 w) = rw rest at (k .1) in
+    (rw (h .0, k .0, rest), rw take-append-drop at (bytes-joined (take 8 w) (drop 8 w) (h .1) b))
+
+-- ---- a packed name against a row
+
+module _ (n : ℕ) (x : Name) (f : Found) (at : f ≡ memberAt n) where
+  pub named-known : (m : Member) (y : Name) (r : Bool) → f ≡ Is m → y ≡ packedName (spelled m) → r ≡ samePacked x y
+      → r ≡ ifMember false (memberAt n) (λ k. samePacked x (packedName (spelled k)))
+  named-known m y r e q p = p ∙ rw (q, ← at, e)
+
+  pub named-none : f ≡ Unknown → false ≡ ifMember false (memberAt n) (λ k. samePacked x (packedName (spelled k)))
+  named-none e = rw (← at, e)
+
+module _ (n : ℕ) (w : List ℕ) (x : Name) (is : (x ≡ packedName w) × Each Byte w) (r : Bool)
+    (e : r ≡ ifMember false (memberAt n) (λ m. samePacked x (packedName (spelled m)))) where
+  named-row : r ≡ namesIt w (memberAt n)
+  named-row = e ∙ by (memberAt n)
+    where
+      by : (f : Found) → ifMember false f (λ m. samePacked x (packedName (spelled m))) ≡ namesIt w f
+      by (Is m) = ap (λ (y : Name). samePacked y (packedName (spelled m))) (is .0) ∙ packed-bytes w (spelled m) (is .1) (name-bytes m)
+      by Unknown = refl
+
+  module _ (h : n < length members) where
+    pub row-is : r ≡ true → memberAt n ≡ namedIn (drop n members) w
+    unfolding memberAt
+    row-is t = rw (rest-row members n w h, sym named-row ∙ t)
+
+    pub row-not : r ≡ false → namedIn (drop (n + 1) members) w ≡ namedIn (drop n members) w
+    unfolding memberAt
+    row-not t = rw (add-one, rest-row members n w h, sym named-row ∙ t)
+
+-- behind the last row there is none
+pub row-over : (n : ℕ) (w : List ℕ) (f : Found) → length members ≤ n → namedIn (drop n members) w ≡ f → Unknown ≡ f
+row-over n w f h e = sym (row-none n w h) ∙ e

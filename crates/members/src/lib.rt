@@ -1,8 +1,13 @@
 // The member table, and look-up in it. A member's number is its row.
+use language::limits::Text;
+use language::names;
 ghost use mathlib.Core.Path.{_≡_};
+ghost use mathlib.Core.Bool.{false};
 ghost use Prim.Native.Nat.{_≤_};
-ghost use lib.ListN.{length, take};
-ghost use Rattle.members.specs.Members.{listed, argumentsOf, receiverOf, argumentOf, arguments, row, memberNumber, memberAt, sameBytes, memberOf, nameOf, padded};
+ghost use lib.ListN.{length};
+ghost use Rattle.language.specs.NamesLaws.{Each, Byte};
+ghost use Rattle.members.specs.Members.{listed, argumentsOf, receiverOf, argumentOf, arguments, spelled, row, memberNumber, memberAt, ifMember, memberOf};
+ghost use Rattle.members.specs.Members.{longestName, packedName, samePacked};
 
 pub enum Member {
     Add,
@@ -46,8 +51,8 @@ pub enum Signature {
     WindowFunction,
 }
 
-// A member's name, with zeros up to 12 bytes, and its length.
-struct Name(pub [u8; 12], pub u8);
+// A name of at most 16 bytes: its first eight packed, the others packed, and how many there are.
+struct Name(pub u64, pub u64, pub usize);
 
 // How many members there are.
 pub const MEMBERS: usize = 18;
@@ -106,29 +111,30 @@ pub fn number_of(m: Member) -> u8
 }
 
 // The member table: a name and a signature for each member. Reader and evaluator look members up here alone. It goes by cases: a constant
-// array is laid out anew at each look-up, on the stack of the reader at every open mark.
+// array is laid out anew at each look-up, on the stack of the reader at every open mark. A name stands in its row packed: 0x616464 are the bytes
+// of `add`.
 fn name_of(m: Member) -> Name
-    ensures { λ r. ⌜ r ≡ padded m ⌝ }
+    ensures { λ r. ⌜ r ≡ packedName (spelled m) ⌝ }
 {
     match m {
-        Member::Add => Name(*b"add\0\0\0\0\0\0\0\0\0", 3),
-        Member::Sub => Name(*b"sub\0\0\0\0\0\0\0\0\0", 3),
-        Member::Mul => Name(*b"mul\0\0\0\0\0\0\0\0\0", 3),
-        Member::Div => Name(*b"div\0\0\0\0\0\0\0\0\0", 3),
-        Member::Gt => Name(*b"gt\0\0\0\0\0\0\0\0\0\0", 2),
-        Member::Eq => Name(*b"eq\0\0\0\0\0\0\0\0\0\0", 2),
-        Member::Skip => Name(*b"skip\0\0\0\0\0\0\0\0", 4),
-        Member::Take => Name(*b"take\0\0\0\0\0\0\0\0", 4),
-        Member::Count => Name(*b"count\0\0\0\0\0\0\0", 5),
-        Member::Sum => Name(*b"sum\0\0\0\0\0\0\0\0\0", 3),
-        Member::Min => Name(*b"min\0\0\0\0\0\0\0\0\0", 3),
-        Member::Max => Name(*b"max\0\0\0\0\0\0\0\0\0", 3),
-        Member::At => Name(*b"at\0\0\0\0\0\0\0\0\0\0", 2),
-        Member::CountWhere => Name(*b"countWhere\0\0", 10),
-        Member::LongestRun => Name(*b"longestRun\0\0", 10),
-        Member::SumBy => Name(*b"sumBy\0\0\0\0\0\0\0", 5),
-        Member::BestSum => Name(*b"bestSum\0\0\0\0\0", 7),
-        Member::BestAt => Name(*b"bestAt\0\0\0\0\0\0", 6),
+        Member::Add => Name(0x616464, 0, 3),
+        Member::Sub => Name(0x737562, 0, 3),
+        Member::Mul => Name(0x6d756c, 0, 3),
+        Member::Div => Name(0x646976, 0, 3),
+        Member::Gt => Name(0x6774, 0, 2),
+        Member::Eq => Name(0x6571, 0, 2),
+        Member::Skip => Name(0x736b6970, 0, 4),
+        Member::Take => Name(0x74616b65, 0, 4),
+        Member::Count => Name(0x636f756e74, 0, 5),
+        Member::Sum => Name(0x73756d, 0, 3),
+        Member::Min => Name(0x6d696e, 0, 3),
+        Member::Max => Name(0x6d6178, 0, 3),
+        Member::At => Name(0x6174, 0, 2),
+        Member::CountWhere => Name(0x636f756e74576865, 0x7265, 10),
+        Member::LongestRun => Name(0x6c6f6e6765737452, 0x756e, 10),
+        Member::SumBy => Name(0x73756d4279, 0, 5),
+        Member::BestSum => Name(0x6265737453756d, 0, 7),
+        Member::BestAt => Name(0x626573744174, 0, 6),
     }
 }
 
@@ -212,43 +218,52 @@ pub fn argument(m: Member) -> Kind
     signature_argument(signature_of(m))
 }
 
-// Whether the word is a name of the table.
-fn has_name(name: Name, word: &[u8]) -> bool
-    requires { ⌜ (name .1 ≤ 12) × (length (name .0) ≡ 12) ⌝ }
-    ensures { λ r. ⌜ r ≡ sameBytes (now (word .entry)) (take (name .1) (name .0)) ⌝ }
+// The word's bytes, packed where they stand.
+fn packed_name(word: &[u8]) -> Name
+    requires { ⌜ length (now word) ≤ longestName ⌝ }
+    ensures { λ r. ⌜ (r ≡ packedName (now (word .entry))) × Each Byte (now (word .entry)) ⌝ }
 {
-    let bytes = name.0;
-    let size = name.1 as usize;
-    if word.len() != size {
-        return false;
+    let size = word.len();
+    if size <= Text::NAME_BYTES {
+        let front = names::pack(word);
+        Name(front, 0, size)
+    } else {
+        let front = names::pack(&word[..Text::NAME_BYTES]);
+        let back = names::pack(&word[Text::NAME_BYTES..]);
+        Name(front, back, size)
     }
-    let mut i = 0;
-    while i < size {
-        if word[i] != bytes[i] {
-            return false;
-        }
-        i += 1;
-    }
-    true
 }
 
-// Whether the word is the name of member n.
-fn is_named(n: u8, word: &[u8]) -> bool
-    ensures { λ r. ⌜ r ≡ sameBytes (now (word .entry)) (nameOf (memberAt n)) ⌝ }
+fn is_same(a: Name, b: Name) -> bool
+    ensures { λ r. ⌜ r ≡ samePacked a b ⌝ }
+{
+    (a.2 == b.2) & ((a.0 == b.0) & (a.1 == b.1))
+}
+
+// Whether it is the name of member n.
+fn is_named(n: u8, name: Name) -> bool
+    ensures { λ r. ⌜ r ≡ ifMember false (memberAt n) (λ m. samePacked name (packedName (spelled m))) ⌝ }
 {
     match member_at(n) {
-        Found::Is(m) => has_name(name_of(m), word),
-        Found::Unknown => word.len() == 0,
+        Found::Is(m) => is_same(name, name_of(m)),
+        Found::Unknown => false,
     }
 }
+
+// The most bytes of a name that is packed in two numbers.
+const LONGEST_NAME: usize = 2 * Text::NAME_BYTES;
 
 // The member of a name.
 pub fn named(word: &[u8]) -> Found
     ensures { λ r. ⌜ r ≡ memberOf (now (word .entry)) ⌝ }
 {
+    if LONGEST_NAME < word.len() {
+        return Found::Unknown;
+    }
+    let name = packed_name(word);
     let mut n: u8 = 0;
     while (n as usize) < MEMBERS {
-        if is_named(n, word) {
+        if is_named(n, name) {
             return member_at(n);
         }
         n += 1;

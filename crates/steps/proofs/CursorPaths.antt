@@ -8,8 +8,9 @@ use native.Mathlib.Omega.{arith}
 use lib.Dec.{leb, eqb}
 use lib.ListN.{length, getD}
 use borrow.Author.Tests.{eq-eqb, ne-eqb, eqb-true}
+use Rattle.language.specs.Cases.{split}
 use Rattle.language.specs.Limits.{textParts}
-use Rattle.language.specs.Names.{isLong, isData, packed}
+use Rattle.language.specs.Names.{isLong, isData, packed, dataWord}
 use Rattle.members.specs.Members.{memberOf, memberNumber, isUnknown, takes, arguments}
 use Rattle.members.specs.declared.Member.{Member}
 use Rattle.members.specs.declared.Found.{Found}
@@ -261,15 +262,22 @@ module _ (text : List ℕ) (c : Cursor) (x : Lexed) (e : x ≡ lexAt text (c .at
       go true q = rw (is-at text (c .at) x e 10 ∙ q) (ap f (sym (head-word text (c .at) x e (eqb-true (x .kind) 10 q))))
       go false q = rw (is-at text (c .at) x e 10 ∙ q)
 
-  -- the name of a let
-  module _ (long reserved : Bool) (n : ℕ) (l : long ≡ isLong bytes) (o : reserved ≡ isData bytes) (f : n ≡ letNameFault (eqb (x .kind) 10) long reserved) where
-    let-number : n ≡ D.atLetName left
-    unfolding D.atLetName
-    let-number = f ∙ rw (l, o) (word-fault (λ w. cond (isLong w) 7 (cond (isData w) 8 0)))
+  -- what is asked of a name that is not too long may be asked of its number
+  name-seen : (g : ℕ → ℕ) → cond (isLong bytes) 7 (g (nameAt bytes)) ≡ cond (isLong bytes) 7 (g (packed bytes))
+  name-seen g = split (isLong bytes) (λ q. rw q) (λ q. rw q (ap g (name-whole bytes q)))
 
-    pub let-name-passed : (m : ℕ) (r : Cursor) → n ≡ 0 → m ≡ nameAt bytes → r ≡ namedTo c (x .end) m (c .takes) → cursorOf text r ≡ letNamed text c
+  -- the name of a let
+  module _ (long reserved : Bool) (m n : ℕ) (l : long ≡ isLong bytes) (p : m ≡ nameAt bytes) (o : reserved ≡ eqb m (packed dataWord))
+      (f : n ≡ letNameFault (eqb (x .kind) 10) long reserved) where
+    let-number : n ≡ D.atLetName left
+    unfolding D.atLetName isData
+    let-number =
+        f ∙ rw (l, o, p) (ap (λ (k : ℕ). cond (eqb (x .kind) 10) k 5) (name-seen (λ k. cond (eqb k (packed dataWord)) 8 0))
+        ∙ word-fault (λ w. cond (isLong w) 7 (cond (isData w) 8 0)))
+
+    pub let-name-passed : (r : Cursor) → n ≡ 0 → r ≡ namedTo c (x .end) m (c .takes) → cursorOf text r ≡ letNamed text c
     unfolding D.passName
-    let-name-passed m r z p q =
+    let-name-passed r z q =
         let w = was-due (eqb (x .kind) 10) _ 4 (sym f ∙ z) in
         let s = not-refused long 6 _ (w .1) in
         let h : D.headWord left ≡ bytes = head-word text (c .at) x e (eqb-true (x .kind) 10 (w .0)) in
@@ -279,19 +287,13 @@ module _ (text : List ℕ) (c : Cursor) (x : Lexed) (e : x ≡ lexAt text (c .at
     let-name-refused r z q = stops n _ r _ let-number z q
 
   -- the name of a lambda
-  module _ (scope : List ℕ) (depth : ℕ) (long reserved taken : Bool) (m n : ℕ) (l : long ≡ isLong bytes) (o : reserved ≡ isData bytes) (p : m ≡ nameAt bytes)
-      (t : taken ≡ D.lambdaIn scope m depth) (f : n ≡ lambdaNameFault (eqb (x .kind) 10) long reserved taken) where
-    abbrev rest-of : ℕ → ℕ
-    rest-of k = cond (isData bytes) 8 (cond (D.lambdaIn scope k depth) 11 0)
-
-    name-seen : (s : Bool) → isLong bytes ≡ s → cond s 7 (rest-of (nameAt bytes)) ≡ cond s 7 (rest-of (packed bytes))
-    name-seen true q = refl
-    name-seen false q = ap rest-of (name-whole bytes q)
-
+  module _ (scope : List ℕ) (depth : ℕ) (long reserved taken : Bool) (m n : ℕ) (l : long ≡ isLong bytes) (p : m ≡ nameAt bytes)
+      (o : reserved ≡ eqb m (packed dataWord)) (t : taken ≡ D.lambdaIn scope m depth) (f : n ≡ lambdaNameFault (eqb (x .kind) 10) long reserved taken) where
     lambda-number : n ≡ D.atLambdaName scope depth left
-    unfolding D.atLambdaName
+    unfolding D.atLambdaName isData
     lambda-number =
-        f ∙ rw (l, o, t, p) (ap (λ (k : ℕ). cond (eqb (x .kind) 10) k 5) (name-seen (isLong bytes) refl)
+        f ∙ rw (l, o, t, p)
+        (ap (λ (k : ℕ). cond (eqb (x .kind) 10) k 5) (name-seen (λ k. cond (eqb k (packed dataWord)) 8 (cond (D.lambdaIn scope k depth) 11 0)))
         ∙ word-fault (λ w. cond (isLong w) 7 (cond (isData w) 8 (cond (D.lambdaIn scope (packed w) depth) 11 0))))
 
     pub lambda-name-passed : (r : Cursor) → n ≡ 0 → r ≡ namedTo c (x .end) m (c .takes) → cursorOf text r ≡ lambdaNamed text scope depth c

@@ -12,7 +12,7 @@ use mir.Syntax.{w32, w64}
 use mir.Val.{SFits, toZ, ofZ}
 use borrow.Author.Tests.{eq-eqb, ne-eqb, eqb-true}
 use Rattle.language.specs.Limits.{textParts}
-use Rattle.language.specs.Names.{isLong, bytes, packOnto, packed, dataWord}
+use Rattle.language.specs.Names.{isLong, packed, dataWord}
 use Rattle.rules.specs.declared.Value.the-variants.{Number}
 use Rattle.values.proofs.PackingRules.{pack-number}
 use Rattle.values.proofs.Signed.{wide}
@@ -75,15 +75,15 @@ module _ (p x : ℕ) (c : Cursor) (records places : List ℕ) (r : Cursor) (reco
     unfolding D.putScoped when
     scoped-bound b e h = record { same = λ text. rw (ne-eqb b 0 e) (h .same text scope) }
 
-    pub name-data : (depth : ℕ) → x ≡ 1684108385 → Wrote (D.put p (node readingsKind 0 0 0)) c records places r records′ places′
+    pub name-data : (depth : ℕ) (t : Bool) → t ≡ eqb x (packed dataWord) → t ≡ true → Wrote (D.put p (node readingsKind 0 0 0)) c records places r records′ places′
         → WroteIn scope (D.putName p x depth) c records places r records′ places′
-    unfolding D.putName when dataWord bytes packOnto
-    name-data depth e h = record { same = λ text. rw (eq-eqb x 1684108385 e) (h .same text scope) }
+    unfolding D.putName when
+    name-data depth t q e h = record { same = λ text. rw (sym q ∙ e) (h .same text scope) }
 
-    pub name-scoped : (depth b : ℕ) → (x ≡ 1684108385 → ⊥) → b ≡ C.binderOf scope x depth → WroteIn scope (D.putScoped p x b) c records places r records′ places′
+    pub name-scoped : (depth b : ℕ) (t : Bool) → t ≡ eqb x (packed dataWord) → t ≡ false → b ≡ C.binderOf scope x depth → WroteIn scope (D.putScoped p x b) c records places r records′ places′
         → WroteIn scope (D.putName p x depth) c records places r records′ places′
-    unfolding D.putName when dataWord bytes packOnto
-    name-scoped depth b n e h = record { same = λ text. rw (ne-eqb x 1684108385 n, ← e) (h .same text) }
+    unfolding D.putName when
+    name-scoped depth b t q n e h = record { same = λ text. rw (sym q ∙ n, ← e) (h .same text) }
 
 pub bound-room : (c : Cursor) (p b : ℕ) (scope : List ℕ) → ScopedRoom c p b scope → (b ≡ 0 → ⊥) → BoundRoom c p (getD scope (2 * b - 1) 0)
 bound-room c p b scope h n = record { count = h .count; place = h .place; link = h .link n }

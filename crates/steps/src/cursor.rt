@@ -1,6 +1,7 @@
 // The cursor over a text, and what is refused at a token. Each function is the function of its name in descent's Cursor; the tokens that are
 // left are those from the cursor's place on.
 use language::limits::Text;
+use language::names;
 use layout::nodes::Shape;
 use lexer::tokens;
 use lexer::tokens::Lexed;
@@ -309,13 +310,10 @@ fn let_name(text: &[u8], c: Cursor) -> Cursor
 {
     let x = tokens::token(text, c.at);
     let long = tokens::is_long(text, x.start, x.end);
-    let number = at_let_name(
-        x.kind == Lexed::WORD,
-        long,
-        tokens::is_data(text, x.start, x.end),
-    );
+    let name = tokens::name(text, x.start, x.end);
+    let number = at_let_name(x.kind == Lexed::WORD, long, names::is_data(name));
     if number == 0 {
-        named(c, x.end, tokens::name(text, x.start, x.end), c.takes)
+        named(c, x.end, name, c.takes)
     } else {
         refused_at(c, number, x.start)
     }
@@ -328,12 +326,11 @@ fn lambda_name(text: &[u8], scope: &[u64; SCOPE_CELLS], depth: usize, c: Cursor)
 {
     let x = tokens::token(text, c.at);
     let long = tokens::is_long(text, x.start, x.end);
-    let reserved = tokens::is_data(text, x.start, x.end);
     let name = tokens::name(text, x.start, x.end);
     let number = at_lambda_name(
         x.kind == Lexed::WORD,
         long,
-        reserved,
+        names::is_data(name),
         lambda_in(scope, name, depth),
     );
     if number == 0 {

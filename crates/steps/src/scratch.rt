@@ -4,6 +4,7 @@ use crate::cursor;
 use crate::cursor::Cursor;
 use crate::cursor::SCOPE_CELLS;
 use language::limits::Text;
+use language::names;
 use layout::nodes::KIND_BASE;
 use layout::nodes::RECORD_WEIGHT;
 use layout::nodes::Shape;
@@ -134,9 +135,6 @@ fn put_scoped(
     }
 }
 
-// The name `data`, packed.
-const DATA: u64 = 0x64617461;
-
 // The packed name x in use.
 fn put_name(
     c: Cursor,
@@ -150,7 +148,7 @@ fn put_name(
     requires { ⌜ NameRoom c p depth (now scope) ⌝ }
     ensures { λ r. ⌜ WroteIn (now (scope .entry)) (putName p x depth) c (now (records .entry)) (now (places .entry)) r (now (records .exit)) (now (places .exit)) ⌝ }
 {
-    if x == DATA {
+    if names::is_data(x) {
         put(c, p, Shape::READINGS, 0, 0, 0, records, places)
     } else {
         put_scoped(

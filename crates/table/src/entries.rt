@@ -1,6 +1,9 @@
 // One entry: whether its kind, its key and its dependencies are right (01, refusal 4).
 use language::limits::Text;
 use language::names::BYTE_BASE;
+use language::names::DATA;
+use language::names::IN;
+use language::names::LET;
 use language::names::in_word;
 use language::names::is_letter;
 use layout::cells::first_of;
@@ -52,7 +55,7 @@ fn is_word(k: u64) -> bool
 pub fn is_name(k: u64) -> bool
     ensures { λ r. ⌜ r ≡ isName k ⌝ }
 {
-    is_word(k) & !((k == 0x6c6574) | ((k == 0x696e) | (k == 0x64617461)))
+    is_word(k) & !((k == LET) | ((k == IN) | (k == DATA)))
 }
 
 // The member of a kind, if it is one.

@@ -57,7 +57,7 @@ const GROUPS: &[(&str, Measure)] = &[
 
 /// The groups that can be kept by themselves: bytes, which don't depend on what else the machine does, and times of which no other table or
 /// plot is made.
-const KEPT: [&str; 3] = ["stack", "size", "stretches"];
+const KEPT: [&str; 4] = ["stack", "size", "stretches", "reading"];
 
 /// All groups run so often, so that other work on the machine for a while does not decide a figure.
 const PASSES: u32 = 3;

@@ -56,8 +56,12 @@ fn agree_on_damaged(text: &[u8], rounds: u32) {
 
 pub fn measure(figures: &mut Figures) {
     agree_on_members();
-    for (name, text) in [("dense", texts::dense()), ("with blanks", texts::spaced())] {
-        assert_eq!(agree(&text).map(|counts| counts.parts), Ok(128));
+    for (name, text, parts) in [
+        ("128 parts, dense", texts::dense(), 128),
+        ("128 parts, with blanks", texts::spaced(), 128),
+        ("117 parts, names", texts::names(), 117),
+    ] {
+        assert_eq!(agree(&text).map(|counts| counts.parts), Ok(parts));
         agree_on_damaged(&text, 2_000);
         let (mut ours, mut theirs) = (Output::new(), Output::new());
         let times = timing::best_of(
@@ -65,7 +69,7 @@ pub fn measure(figures: &mut Figures) {
             || proved_read(black_box(&text), &mut ours),
             || reader::read(black_box(&text), &mut theirs),
         );
-        figures.part(&format!("reading 1,024 bytes and 128 parts, {name}"), times, Some(3.0));
+        figures.part_of("reading", &format!("1,024 bytes and {name}"), times, Some(3.0));
     }
     for text in [
         texts::nested_calls(),

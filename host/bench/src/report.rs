@@ -28,6 +28,7 @@ fn tables(figures: &Figures) -> Vec<(&'static str, String)> {
         ("readings", ratios(figures, "readings", &others)),
         ("calls", values(figures, "calls", &[ENGINE], microseconds)),
         ("parts", ratios(figures, "parts", &[PLAIN])),
+        ("reading", ratios(figures, "reading", &[PLAIN])),
         ("stretches", ratios(figures, "stretches", &others)),
         ("stretch", ratios(figures, "stretch", &[PLAIN])),
         ("stack", values(figures, "stack", &[ENGINE], plot::number)),

@@ -50,6 +50,14 @@ pub fn spaced() -> Vec<u8> {
     padded(text)
 }
 
+/// Names of eight bytes: 15 that are bound, each to another, and 43 in use as arguments.
+pub fn names() -> Vec<u8> {
+    let name = |i: usize| format!("speed{i:03}");
+    let lets = (0..15).map(|i| format!("let {} = {} in ", name(i), name(i + 15)));
+    let calls = (0..43).map(|i| format!(".add({})", name(i % 30)));
+    padded(lets.collect::<String>() + &name(0) + &calls.collect::<String>())
+}
+
 /// Blanks behind, up to the most that a text may have.
 fn padded(text: String) -> Vec<u8> {
     assert!(text.len() <= BYTES, "{} bytes", text.len());

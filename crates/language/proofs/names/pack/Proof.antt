@@ -1,25 +1,26 @@
--- What is left, packed onto what was packed, is the word's number. After i bytes that is below 256 ^ i, so eight bytes fit.
--- Assumes nothing.
+-- What is left, packed onto what was packed, is the word's number. After i bytes that is below 256 ^ i, so eight bytes fit. Each that was read
+-- is a byte. Assumes nothing.
 use mathlib.Core.Path.{_≡_, refl, sym, _∙_}
-use Prim.Native.Nat.{_-_, _^_, _≤_, _<_}
+use Prim.Native.Nat.{ℕ, _-_, _^_, _≤_, _<_}
 use native.Mathlib.Numerals.{add-one}
 use native.Mathlib.Omega.{arith}
 use lib.Dec.{lit<}
-use lib.ListN.{length, drop}
+use lib.ListN.{length, getD, drop}
+use borrow.Author.Count.{below-more}
 use borrow.Author.Needs.{needs}
 use Rattle.language.specs.Names.{packOnto, packed}
-use Rattle.language.specs.NamesLaws.{digit-below, pack-more, pack-done, pack-room}
+use Rattle.language.specs.NamesLaws.{Byte, bytes-at, digit-below, pack-more, pack-done, pack-room}
 use Rattle.language.proofs.names.pack.Statement.{statement}
 use Rattle.language.proofs.names.pack.Tie as tie
 
 abbrev Inv-loop : tie.InvT-loop
-Inv-loop word acc₀ i₀ acc i = (i ≤ length word) × (packOnto acc (drop i word) ≡ packed word) × (acc < 256 ^ i)
+Inv-loop word acc₀ i₀ acc i = (i ≤ length word) × (packOnto acc (drop i word) ≡ packed word) × (acc < 256 ^ i) × ((k : ℕ) → k < i → Byte (getD word k 0))
 
 abbrev μ-loop : tie.MeasureT-loop
 μ-loop word acc₀ i₀ acc i = length word - i
 
 loop-holds : tie.Need-loop-holds Inv-loop μ-loop
-loop-holds c = (search needs, refl, lit< tt)
+loop-holds c = (search needs, refl, lit< tt, λ k h. absurd (omega arith))
 
 room : (c : tie.In-loop Inv-loop μ-loop) → c .before .loop .acc < 256 ^ 7
 room c = pack-room (c .before .loop .i) _ (omega arith) (c .before .loop .inv .2)
@@ -48,10 +49,13 @@ loop-again c =
       omega arith,
       pack-more _ _ _ (c .before .loop-test .taken) ∙ l .loop .inv .1,
       rw add-one (digit-below _ _ _ (l .loop .inv .2) (c .shared-slice-known .given (l .loop .i) .fits)),
+      below-more _ _ (l .loop .inv .3) (c .shared-slice-known .given (l .loop .i) .fits),
     )
 
 returns : tie.Need-returns Inv-loop μ-loop
-returns c = sym (pack-done _ _ _ (c .loop-test .left)) ∙ c .before .loop .inv .1
+returns c =
+    let l = c .before in
+    (sym (pack-done _ _ _ (c .loop-test .left)) ∙ l .loop .inv .1, bytes-at (l .before .args .word .now) (λ k h. l .loop .inv .3 k (omega arith)))
 
 pub pack-spec : {M : Type 1} → statement M
 pack-spec =

@@ -13,23 +13,23 @@ returns c = search number-none
 shared-slice-read-if2 : tie.Need-shared-slice-read-if2
 shared-slice-read-if2 c = search needs
 
-sub-value-in-base : tie.Need-sub-value-in-base
-sub-value-in-base c = search needs
+sub-value : tie.Need-sub-value
+sub-value c = search needs
 
-part-value-in-base-start : tie.Need-part-value-in-base-start
-part-value-in-base-start c = search needs
+part-value-start : tie.Need-part-value-start
+part-value-start c = search needs
 
-part-value-in-base-end : tie.Need-part-value-in-base-end
-part-value-in-base-end c = search needs
+part-value-end : tie.Need-part-value-end
+part-value-end c = search needs
 
-value-in-base-requires : tie.Need-value-in-base-requires
-value-in-base-requires c κs = search needs
+value-requires : tie.Need-value-requires
+value-requires c κs = search needs
 
 negative-requires : tie.Need-negative-requires
 negative-requires c κs = search needs
 
-value-in-base-requires-2 : tie.Need-value-in-base-requires-2
-value-in-base-requires-2 c κs = search needs
+value-requires-2 : tie.Need-value-requires-2
+value-requires-2 c κs = search needs
 
 non-negative-requires : tie.Need-non-negative-requires
 non-negative-requires c κs = search needs
@@ -47,12 +47,12 @@ number-spec =
     part-requires
     returns
     shared-slice-read-if2
-    sub-value-in-base
-    part-value-in-base-start
-    part-value-in-base-end
-    value-in-base-requires
+    sub-value
+    part-value-start
+    part-value-end
+    value-requires
     negative-requires
-    value-in-base-requires-2
+    value-requires-2
     non-negative-requires
     returns-2
     returns-3)

@@ -1,24 +1,23 @@
--- At most 256 times the bound and a byte: far below 2^64. Assumes nothing.
+-- At most ten times the bound and a byte: far below 2^64. Assumes nothing.
 use native.Mathlib.Omega.{arith}
 use borrow.Author.Needs.{needs}
-use Rattle.lexer.specs.LoopsLaws.{product-le}
 use Rattle.lexer.proofs.tokens.with_digit.Statement.{statement}
 use Rattle.lexer.proofs.tokens.with_digit.Tie as tie
 
 mul-bounded : tie.Need-mul-bounded
-mul-bounded c = omega (arith, product-le _ _ (c .before .pre .0) (c .before .pre .1))
+mul-bounded c = omega arith
 
 bounded-requires : tie.Need-bounded-requires
 bounded-requires c κs = search needs
 
 mul-bounded-2 : tie.Need-mul-bounded-2
-mul-bounded-2 c = omega (arith, product-le _ _ (c .before .pre .0) (c .before .pre .1))
+mul-bounded-2 c = omega arith
 
 cast-bounded : tie.Need-cast-bounded
 cast-bounded c = search needs
 
 add-bounded : tie.Need-add-bounded
-add-bounded c = omega (arith, product-le _ _ (c .before .pre .0) (c .before .pre .1))
+add-bounded c = omega arith
 
 bounded-requires-2 : tie.Need-bounded-requires-2
 bounded-requires-2 c κs = search needs

@@ -10,11 +10,11 @@ token-requires c κs = search needs
 is-long-requires : tie.Need-is-long-requires
 is-long-requires c κs = search needs
 
-is-data-requires : tie.Need-is-data-requires
-is-data-requires c κs = search needs
-
 name-requires : tie.Need-name-requires
 name-requires c κs = search needs
+
+is-data-requires : tie.Need-is-data-requires
+is-data-requires c κs = search needs
 
 lambda-in-requires : tie.Need-lambda-in-requires
 lambda-in-requires c κs = search needs
@@ -40,8 +40,8 @@ lambda-name-spec =
     (tie.spec
     token-requires
     is-long-requires
-    is-data-requires
     name-requires
+    is-data-requires
     lambda-in-requires
     at-lambda-name-requires
     named-requires

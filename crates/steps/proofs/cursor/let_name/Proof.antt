@@ -10,14 +10,14 @@ token-requires c κs = search needs
 is-long-requires : tie.Need-is-long-requires
 is-long-requires c κs = search needs
 
+name-requires : tie.Need-name-requires
+name-requires c κs = search needs
+
 is-data-requires : tie.Need-is-data-requires
 is-data-requires c κs = search needs
 
 at-let-name-requires : tie.Need-at-let-name-requires
 at-let-name-requires c κs = search needs
-
-name-requires : tie.Need-name-requires
-name-requires c κs = search needs
 
 named-requires : tie.Need-named-requires
 named-requires c κs = search needs
@@ -37,9 +37,9 @@ let-name-spec =
     (tie.spec
     token-requires
     is-long-requires
+    name-requires
     is-data-requires
     at-let-name-requires
-    name-requires
     named-requires
     refused-at-requires
     returns

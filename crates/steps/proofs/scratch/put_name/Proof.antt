@@ -4,6 +4,9 @@ use Rattle.steps.proofs.ScratchPaths.{binder-room, name-data, name-scop
 use Rattle.steps.proofs.scratch.put_name.Statement.{statement}
 use Rattle.steps.proofs.scratch.put_name.Tie as tie
 
+is-data-requires : tie.Need-is-data-requires
+is-data-requires c κs = search needs
+
 put-requires : tie.Need-put-requires
 put-requires c κs = search needs
 
@@ -21,4 +24,4 @@ returns-2 c = search name-scoped
 
 pub put-name-spec : {M : Type 1} → statement M
 put-name-spec =
-    tie.close (tie.spec put-requires binder-of-requires put-scoped-requires returns returns-2)
+    tie.close (tie.spec is-data-requires put-requires binder-of-requires put-scoped-requires returns returns-2)

@@ -4,16 +4,18 @@ use Prim.Native.Nat.{_-_, _≤_, min}
 use native.Mathlib.Omega.{arith}
 use lib.ListN.{length, drop}
 use borrow.Author.Needs.{needs}
-use Rattle.lexer.specs.Loops.{based, bound}
-use Rattle.lexer.specs.LoopsLaws.{based-more, based-over}
-use Rattle.lexer.proofs.tokens.value_in_base.Statement.{statement}
-use Rattle.lexer.proofs.tokens.value_in_base.Tie as tie
+use Rattle.grammar.specs.Tokens.{decimal, decimalOnto}
+use Rattle.lexer.specs.Loops.{bound}
+use Rattle.grammar.specs.Tokens.{decimal, decimalOnto}
+use Rattle.lexer.specs.LoopsLaws.{value-more, value-over}
+use Rattle.lexer.proofs.tokens.value.Statement.{statement}
+use Rattle.lexer.proofs.tokens.value.Tie as tie
 
 abbrev Inv-loop : tie.InvT-loop
-Inv-loop bytes base digit0 n₀ i₀ n i = (n ≤ bound) × (min (based base digit0 n (drop i bytes)) bound ≡ min (based base digit0 0 bytes) bound)
+Inv-loop bytes n₀ i₀ n i = (n ≤ bound) × (min (decimalOnto n (drop i bytes)) bound ≡ min (decimal bytes) bound)
 
 abbrev μ-loop : tie.MeasureT-loop
-μ-loop bytes base digit0 n₀ i₀ n i = length bytes - i
+μ-loop bytes n₀ i₀ n i = length bytes - i
 
 loop-holds : tie.Need-loop-holds Inv-loop μ-loop
 loop-holds c = (search needs, refl)
@@ -31,13 +33,13 @@ loop-less : tie.Need-loop-less Inv-loop μ-loop
 loop-less c = omega arith
 
 loop-again : tie.Need-loop-again Inv-loop μ-loop
-loop-again c = (omega arith, search based-more)
+loop-again c = (omega arith, search value-more)
 
 returns : tie.Need-returns Inv-loop μ-loop
-returns c = search based-over
+returns c = search value-over
 
-pub value-in-base-spec : {M : Type 1} → statement M
-value-in-base-spec =
+pub value-spec : {M : Type 1} → statement M
+value-spec =
     tie.close
     (tie.spec
     Inv-loop
