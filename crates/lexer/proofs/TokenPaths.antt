@@ -13,7 +13,7 @@ use Rattle.language.specs.Names.{isLetter, isDigit, inWord, isBlank, letWord, i
 use Rattle.language.specs.NamesLaws.{Each, Byte}
 use Rattle.members.specs.Members.{sameBytes}
 use Rattle.members.specs.MembersLaws.{other-bytes, packed-tells}
-use Rattle.grammar.specs.Tokens.{Token, Lexeme, kLet, kIn, word, when, leading, wordToken, wordAt, digitsAt, minusAt, markToken, tokenAt}
+use Rattle.grammar.specs.Tokens.{Lexeme, kLet, kIn, word, when, leading, wordToken, wordAt, digitsAt, minusAt, markToken, tokenAt}
 use Rattle.lexer.specs.declared.tokens.Lexed.{Lexed}
 use Rattle.lexer.specs.Lexing.{tokenKind, placed, placeFrom, frontAt, lexAt, bytesAt}
 use Rattle.lexer.specs.Loops.{inClass, runEnd}

@@ -1,4 +1,5 @@
 pub mod Terms
+pub mod Naming
 pub mod Declined
 pub mod Outside
 pub mod Accepting

@@ -5,18 +5,20 @@
 --      and cells beyond the sizes keep their contents (Outside). A cache that a call accepts, whatever was in it, is accepted by the next one
 --      (Accepting).
 --   2. A text is read exactly if a tree of the grammar spells its tokens and keeps the limits, and is refused exactly where 01 says; an edit is
---      declined for its text exactly if that is too long or is not read. What a finished preview of a part shows is what evaluation gives for
---      its let-free form, and what is delayed shows the names of Figure 5 (Awaiting). Division goes down (rules' NumbersLaws).
+--      declined for its text exactly if that is too long or is not read. Packed names are equal exactly if their bytes are (Naming). What a
+--      finished preview of a part shows is what evaluation gives for its let-free form, and what is delayed shows the names of Figure 5
+--      (Awaiting). Division goes down (rules' NumbersLaws).
 --   3. Over every list of calls after an opening the engine answers as the reference model does, and ends holding what it holds (model's
 --      Demand), and so over every run of a program in C (Boundary).
 use mathlib.Core.Path.{_≡_, sym, ap}
 use mathlib.Core.Bool.{true, false, _&&_}
 use mathlib.Core.Logic.{_↔_, _⊎_}
 use mathlib.Core.List.{List, [], map}
-use Prim.Native.Nat.{ℕ, _+_, _≤_, _<_}
+use Prim.Native.Nat.{ℕ, _+_, _^_, _≤_, _<_}
 use lib.IntN.{ℤ, pos, _+ℤ_}
-use lib.ListN.{length}
-use Rattle.language.specs.Limits.{textParts, tableReadings}
+use lib.ListN.{length, take, drop}
+use Rattle.language.specs.Limits.{textParts, nameBytes, tableReadings}
+use Rattle.language.specs.Names.{packed, sameName, isData, dataWord}
 use Rattle.grammar.specs.Grammar.{Expression, Spells}
 use Rattle.grammar.specs.KeptLimits.{partsE, KeepsLimits}
 use Rattle.grammar.specs.Reading.{tree, refused as refusedAt, RefusedBy, placeOf, tokensOf}
@@ -29,7 +31,10 @@ use Rattle.model.specs.Engine.{Sent, told}
 use Rattle.model.specs.Demand.{Demand}
 use Rattle.model.specs.DemandLaws.{demand}
 use Rattle.formulas.specs.Formulas.{IsReading, formulas}
+use Rattle.members.specs.declared.Member.{Member}
 use Rattle.members.specs.declared.Member.the-variants.{Div}
+use Rattle.members.specs.declared.Found.the-variants.{Is}
+use Rattle.members.specs.Members.{spelled, memberOf}
 use Rattle.rules.specs.declared.Value.{Value}
 use Rattle.rules.specs.declared.Value.the-variants.{Number, Function, Missing}
 use Rattle.rules.specs.Values.{ranged, divisionByZero}
@@ -69,7 +74,8 @@ use Rattle.promises.specs.Engine.{engine}
 use Rattle.promises.specs.Boundary.{ForC, Run, DemandForC}
 use Rattle.promises.specs.BoundaryLaws as Boundary
 use Rattle.promises.specs.Awaiting as Awaiting
-use Rattle.promises.specs.Terms.{beyond, CanEdit, readingsOf, AwaitedNames}
+use Rattle.promises.specs.Terms.{HasWord, beyond, CanEdit, readingsOf, AwaitedNames}
+use Rattle.promises.specs.Naming as Naming
 use Rattle.promises.specs.Declined as Declined
 use Rattle.promises.specs.Outside as Outside
 use Rattle.promises.specs.Showing as Showing
@@ -181,6 +187,27 @@ refused-exactly = text-refused
 -- A text has a place for each of its parts.
 pub parts-exactly : (e : Expression) → partsE e ≡ length (formsByPlace e)
 parts-exactly = parts-placed
+
+-- 02, T-03: names are packed from the text where they stand. A word of a text is the text's own bytes from its place on, as many as it has.
+pub word-in-place : (text : List ℕ) (p : ℕ) (w : List ℕ) → HasWord text p w → take (length w) (drop p text) ≡ w
+word-in-place = Naming.word-in-place
+
+-- Two words, of one text or of two, have equal packed numbers exactly if their bytes are equal. That of a word of at most 8 bytes fits in 64 bits.
+pub packed-exactly : (text text′ : List ℕ) (p p′ : ℕ) (v w : List ℕ) → HasWord text p v → HasWord text′ p′ w → (packed v ≡ packed w) ↔ (v ≡ w)
+packed-exactly = Naming.packed-exactly
+
+pub packed-fits : (text : List ℕ) (p : ℕ) (w : List ℕ) → HasWord text p w → length w ≤ nameBytes → packed w < 2 ^ 64
+packed-fits = Naming.packed-fits
+
+-- So a name in use is that of a let or a lambda, and is `data`, exactly if it has its bytes; and so has the name of a member.
+pub same-name-exactly : (text text′ : List ℕ) (p p′ : ℕ) (v w : List ℕ) → HasWord text p v → HasWord text′ p′ w → (sameName v w ≡ true) ↔ (v ≡ w)
+same-name-exactly = Naming.same-name-exactly
+
+pub data-exactly : (text : List ℕ) (p : ℕ) (w : List ℕ) → HasWord text p w → (isData w ≡ true) ↔ (w ≡ dataWord)
+data-exactly = Naming.data-exactly
+
+pub member-exactly : (w : List ℕ) (m : Member) → (memberOf w ≡ Is m) ↔ (w ≡ spelled m)
+member-exactly = Naming.member-exactly
 
 -- Where neither 3 nor 4 comes up, an edit is declined with 1 or a number from 5 to 12 exactly if the text is over 1,024 bytes or no tree of the
 -- grammar spells its tokens and keeps the limits.

@@ -1,14 +1,15 @@
--- What the promise page speaks of beside the calls and the model: cells beyond the sizes, when an edit is accepted, the readings of what is
--- shown, and the names that a form awaits. Assumes nothing: these are definitions.
+-- What the promise page speaks of beside the calls and the model: the words of a text, cells beyond the sizes, when an edit is accepted, the
+-- readings of what is shown, and the names that a form awaits. Assumes nothing: these are definitions.
 use mathlib.Core.Path.{_≡_}
 use mathlib.Core.Bool.{true, cond, not, _&&_, _||_}
-use mathlib.Core.List.{List, [], _∷_}
+use mathlib.Core.List.{List, [], _∷_, _++_}
 use Prim.Native.Nat.{ℕ, _≤_}
 use lib.Dec.{eqb}
 use lib.IntN.{ℤ}
 use lib.ListN.{length, take, drop}
 use Rattle.language.specs.Limits.{textBytes, textParts, tableEntries, tableReadings}
 use Rattle.members.specs.declared.Member.{Member}
+use Rattle.grammar.specs.Tokens.{word, Located, tokens}
 use Rattle.grammar.specs.Grammar.{Expression}
 use Rattle.grammar.specs.Reading.{tree}
 use Rattle.grammar.specs.Machine.{readText}
@@ -23,6 +24,12 @@ use Rattle.schedule.specs.declared.View.{View}
 use Rattle.interface.specs.Answers.{natural}
 use Rattle.table.specs.WellFormed.{wellFormed}
 use Rattle.demand.specs.Holds.{holds}
+
+-- the word w is a token of the text, at byte place p
+pub record HasWord (text : List ℕ) (p : ℕ) (w : List ℕ) : Type 0 where
+  pub before : List Located
+  pub after : List Located
+  pub is : tokens text ≡ before ++ (record { token = word w; place = p } ∷ after)
 
 -- the cells beyond the cache's sizes
 abbrev pub beyond : Memory → Memory
