@@ -21,7 +21,7 @@ use Rattle.layout.specs.Memory.{Node, node}
 use Rattle.records.specs.Records.{numberKey}
 use Rattle.layout.specs.Nodes.{numberKind, variableKind, unboundKind, readingsKind, functionKind, memberKind}
 use Rattle.layout.specs.Nodes.{memberOfKind, memberArity, memberForm, arity, listed, kids, sameNode, numberOfKey, build}
-use Rattle.table.specs.NodeKinds.{Fine, aNumber, aVariable, anUnbound, theReadings, aFunction, anAsk, aCall, less-one, member-arity, build-ask, build-call}
+use Rattle.table.specs.NodeKinds.{Fine, aNumber, aVariable, anUnbound, theReadings, aFunction, anAsk, aCall, less-one, member-arity, nodeForm, build-fine}
 use Rattle.formulas.specs.Formulas.{formulas}
 
 abbrev pub nodes : Graph formulas
@@ -79,7 +79,6 @@ HasSecond (function x b) = ⊥
 record Known (n : Node) (φ : ℕ → Form) (f : Form) : Type 0 where
   left : ℕ
   right : ℕ
-  form : build n φ ≡ f
   made : n ≡ nodeOf f left right
   first : HasFirst f → (among left (kids n) ≡ true) × (φ left ≡ firstOf f)
   second : HasSecond f → (among right (kids n) ≡ true) × (φ right ≡ secondOf f)
@@ -108,27 +107,22 @@ among-second i j = split (eqb i j) (λ e. rw e) (λ e. rw (e, eq-eqb j j refl))
 pub number-key : (key : ℕ) → numberKey (numberOfKey key) ≡ key
 number-key key = ap natAbs (-ℤ-+ℤ-cancel (pos key) (pos 2147483648))
 
-known : (n : Node) (φ : ℕ → Form) → Fine n → (f : Form) × Known n φ f
-unfolding build nodeOf firstOf secondOf
-known _ φ (aNumber key) = (number (numberOfKey key), record { left = 0; right = 0; form = refl; made = ap (λ (k : ℕ). node numberKind k 0 0) (sym (number-key key)); first = absurd; second = absurd })
-known _ φ (aVariable x) = (variable x, record { left = 0; right = 0; form = refl; made = refl; first = absurd; second = absurd })
-known _ φ (anUnbound x) = (unbound x, record { left = 0; right = 0; form = refl; made = refl; first = absurd; second = absurd })
-known _ φ theReadings = (readings, record { left = 0; right = 0; form = refl; made = refl; first = absurd; second = absurd })
-known _ φ (aFunction x b) =
-    (function x (φ b), record { left = b; right = 0; form = rw (less-one b); made = refl; first = λ u. (rw (kids-function x b) (among-first b []), refl); second = absurd })
-known _ φ (anAsk m f e) =
-    (ask m (φ f), record { left = f; right = 0; form = build-ask m f φ e; made = refl; first = λ u. (rw (kids-ask m f e) (among-first f []), refl); second = absurd })
-known _ φ (aCall m f a e) = (
-  call m (φ f) (φ a),
-  record {
-    left = f;
-    right = a;
-    form = build-call m f a φ e;
-    made = refl;
-    first = λ u. (rw (kids-call m f a e) (among-first f (a ∷ [])), refl);
-    second = λ u. (rw (kids-call m f a e) (among-second f a), refl);
-  },
-)
+known : {n : Node} (φ : ℕ → Form) (k : Fine n) → Known n φ (nodeForm k φ)
+unfolding nodeOf firstOf secondOf
+known φ (aNumber key) = record { left = 0; right = 0; made = ap (λ (k : ℕ). node numberKind k 0 0) (sym (number-key key)); first = absurd; second = absurd }
+known φ (aVariable x) = record { left = 0; right = 0; made = refl; first = absurd; second = absurd }
+known φ (anUnbound x) = record { left = 0; right = 0; made = refl; first = absurd; second = absurd }
+known φ theReadings = record { left = 0; right = 0; made = refl; first = absurd; second = absurd }
+known φ (aFunction x b) = record { left = b; right = 0; made = refl; first = λ u. (rw (kids-function x b) (among-first b []), refl); second = absurd }
+known φ (anAsk m f e) = record { left = f; right = 0; made = refl; first = λ u. (rw (kids-ask m f e) (among-first f []), refl); second = absurd }
+known φ (aCall m f a e) =
+    record {
+      left = f;
+      right = a;
+      made = refl;
+      first = λ u. (rw (kids-call m f a e) (among-first f (a ∷ [])), refl);
+      second = λ u. (rw (kids-call m f a e) (among-second f a), refl);
+    }
 
 -- equal forms with equal numbers of dependencies: one node
 same-made : (f : Form) (i j i′ j′ : ℕ) → (HasFirst f → i ≡ i′) → (HasSecond f → j ≡ j′) → nodeOf f i j ≡ nodeOf f i′ j′
@@ -144,15 +138,15 @@ same-made (function x b) i j i′ j′ p q = rw (p tt)
 one-node : (n m : Node) (φ : ℕ → Form) → Fine n → Fine m → build n φ ≡ build m φ
     → ((i j : ℕ) → among i (kids n) ≡ true → among j (kids m) ≡ true → φ i ≡ φ j → i ≡ j) → n ≡ m
 one-node n m φ fn fm e h =
-    let N = known n φ fn in
-    let M = known m φ fm in
-    let q : N .0 ≡ M .0 = sym (N .1 .form) ∙ e ∙ M .1 .form in
-    N .1 .made
-    ∙ same-made (N .0) (N .1 .left) (N .1 .right) (M .1 .left) (M .1 .right)
-    (λ u. let a = N .1 .first u in let b = M .1 .first (rw q at u) in h (N .1 .left) (M .1 .left) (a .0) (b .0) (a .1 ∙ ap firstOf q ∙ sym (b .1)))
-    (λ u. let a = N .1 .second u in let b = M .1 .second (rw q at u) in h (N .1 .right) (M .1 .right) (a .0) (b .0) (a .1 ∙ ap secondOf q ∙ sym (b .1)))
-    ∙ ap (λ (f : Form). nodeOf f (M .1 .left) (M .1 .right)) q
-    ∙ sym (M .1 .made)
+    let N = known φ fn in
+    let M = known φ fm in
+    let q : nodeForm fn φ ≡ nodeForm fm φ = sym (build-fine fn φ) ∙ e ∙ build-fine fm φ in
+    N .made
+    ∙ same-made (nodeForm fn φ) (N .left) (N .right) (M .left) (M .right)
+    (λ u. let a = N .first u in let b = M .first (rw q at u) in h (N .left) (M .left) (a .0) (b .0) (a .1 ∙ ap firstOf q ∙ sym (b .1)))
+    (λ u. let a = N .second u in let b = M .second (rw q at u) in h (N .right) (M .right) (a .0) (b .0) (a .1 ∙ ap secondOf q ∙ sym (b .1)))
+    ∙ ap (λ (f : Form). nodeOf f (M .left) (M .right)) q
+    ∙ sym (M .made)
 
 -- the dependencies of the form are those of the node
 each-of : (n : Node) (φ : ℕ → Form) (f d : Form) → Known n φ f → dependency d f ≡ true → (j : ℕ) × (among j (kids n) ≡ true) × (φ j ≡ d)
@@ -176,23 +170,18 @@ pub among-two : {A : Type 0} (j k l : ℕ) → among j (k ∷ l ∷ []) ≡ true
 unfolding member
 among-two j k l h p q = split (eqb k j) (λ e. p (eqb-true k j e)) (λ e. q (among-one j l (rw e at h)))
 
-only-of : (n : Node) (φ : ℕ → Form) (j : ℕ) → Fine n → among j (kids n) ≡ true → dependency (φ j) (build n φ) ≡ true
-unfolding dependency member kids arity memberOfKind build
-only-of _ φ j (aNumber key) h = impossible h
-only-of _ φ j (aVariable x) h = impossible h
-only-of _ φ j (anUnbound x) h = impossible h
-only-of _ φ j theReadings h = impossible h
-only-of _ φ j (aFunction x b) h =
-    let q = among-one j b (subst (λ (l : List ℕ). among j l ≡ true) (kids-function x b) h) in
-    rw (less-one b, q) (same-self (φ j))
-only-of _ φ j (anAsk m f e) h =
-    let q = among-one j f (subst (λ (l : List ℕ). among j l ≡ true) (kids-ask m f e) h) in
-    rw (build-ask m f φ e, q) (same-self (φ j))
-only-of _ φ j (aCall m f a e) h =
-    rw (build-call m f a φ e)
-    (among-two j f a (subst (λ (l : List ℕ). among j l ≡ true) (kids-call m f a e) h)
+only-of : {n : Node} (φ : ℕ → Form) (j : ℕ) (k : Fine n) → among j (kids n) ≡ true → dependency (φ j) (nodeForm k φ) ≡ true
+unfolding dependency member kids arity memberOfKind
+only-of φ j (aNumber key) h = impossible h
+only-of φ j (aVariable x) h = impossible h
+only-of φ j (anUnbound x) h = impossible h
+only-of φ j theReadings h = impossible h
+only-of φ j (aFunction x b) h = rw (among-one j b (subst (λ (l : List ℕ). among j l ≡ true) (kids-function x b) h)) (same-self (φ j))
+only-of φ j (anAsk m f e) h = rw (among-one j f (subst (λ (l : List ℕ). among j l ≡ true) (kids-ask m f e) h)) (same-self (φ j))
+only-of φ j (aCall m f a e) h =
+    among-two j f a (subst (λ (l : List ℕ). among j l ≡ true) (kids-call m f a e) h)
     (λ q. rw (q, same-self (φ j)))
-    (λ q. rw q (or-right (same (φ j) (φ f)) _ (same-self (φ j)))))
+    (λ q. rw q (or-right (same (φ j) (φ f)) _ (same-self (φ j))))
 
 -- a form hangs on the forms of its dependencies alone
 agree-member : (f : Found) (n : Node) (φ ψ : ℕ → Form) → ((j : ℕ) → among j (listed (memberArity f) n) ≡ true → φ j ≡ ψ j)
@@ -234,6 +223,6 @@ graph-laws =
       equality = equality;
       agree = agree-of;
       one = one-node;
-      each = λ n φ d fn h. let k = known n φ fn in each-of n φ (k .0) d (k .1) (rw (k .1 .form) at h);
-      only = only-of;
+      each = λ n φ d k h. each-of n φ (nodeForm k φ) d (known φ k) (rw (build-fine k φ) at h);
+      only = λ n φ j k h. rw (build-fine k φ) (only-of φ j k h);
     }

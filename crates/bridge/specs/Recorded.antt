@@ -1,6 +1,6 @@
 -- The records of a tree unfold to its let-free forms: the root to the whole's, each place to its part's, and bound in their order they add
 -- what the forms in the order of binding add. Assumes nothing.
-use mathlib.Core.Path.{_≡_, refl, sym, ap, _∙_, subst}
+use mathlib.Core.Path.{_≡_, refl, sym, ap, _∙_}
 use mathlib.Core.Bool.{Bool, true, false, cond}
 use mathlib.Core.List.{List, [], _∷_, _++_, map, append-nil, append-assoc, map-append}
 use Prim.Native.Nat.{ℕ, zero, suc, _+_, _<_, _≤_}
@@ -31,10 +31,10 @@ use Rattle.meaning.specs.Binding.{placesC, placesA, placesM, orderE, orderC, or
 use Rattle.model.specs.Lists.{All, member as isIn, insert, insertAll}
 use Rattle.model.specs.ListLaws.{Equality, all-append, insert-old, insertAll-has}
 use Rattle.model.specs.Decoding.{decodeFrom}
-use Rattle.model.specs.Graph.{among, formAt, Placed, AllPlaced, decode, decode-snoc}
+use Rattle.model.specs.Graph.{among, formAt, AllPlaced, decode, decode-snoc}
 use Rattle.layout.specs.Memory.{Node, node}
-use Rattle.layout.specs.Nodes.{numberKind, variableKind, unboundKind, readingsKind, functionKind, memberKind, build, kids, arity, memberOfKind}
-use Rattle.table.specs.NodeKinds.{Fine, aNumber, aVariable, anUnbound, theReadings, aFunction, anAsk, aCall, build-ask, build-call, less-one}
+use Rattle.layout.specs.Nodes.{numberKind, functionKind, memberKind, numberOfKey, build, kids, arity, memberOfKind}
+use Rattle.table.specs.NodeKinds.{Fine, aNumber, aVariable, anUnbound, theReadings, aFunction, anAsk, aCall, nodeForm, build-fine}
 use Rattle.records.specs.Records.{Named, Recorded, newRecord, numberKey, linked, recordScoped, recordName, behind, recordE, recordC, recordA, recordM, recordsOf}
 use Rattle.formulas.specs.Formulas.{formulas}
 use Rattle.bridge.specs.EntryForms.{formsOf}
@@ -93,8 +93,13 @@ forms-kept : (t u : List Node) (ps : List ℕ) → All (λ (p : ℕ). p < length
 forms-kept t u [] h = refl
 forms-kept t u (p ∷ ps) h = rw (form-kept t u p (h .0), forms-kept t u ps (h .1))
 
-form-last : (t : List Node) (n : Node) → formIn (t ++ (n ∷ [])) (length t) ≡ build n (formIn t)
-form-last t n = rw (decode-snoc formulas nodes [] t n) (getD-at (formsOf t) (build n (formIn t)) [] readings (length t) (length-forms t))
+-- a node of form f behind them
+module _ {n : Node} (k : Fine n) (t : List Node) (f : Form) (e : nodeForm k (formIn t) ≡ f) where
+  forms-next : formsOf (t ++ (n ∷ [])) ≡ formsOf t ++ (f ∷ [])
+  forms-next = decode-snoc formulas nodes [] t n ∙ ap (λ (h : Form). formsOf t ++ (h ∷ [])) (build-fine k (formIn t) ∙ e)
+
+  form-last : formIn (t ++ (n ∷ [])) (length t) ≡ f
+  form-last = rw forms-next (getD-at (formsOf t) f [] readings (length t) (length-forms t))
 
 placed-append : (i : ℕ) (u v : List Node) → AllPlaced formulas nodes i u → AllPlaced formulas nodes (i + length u) v → AllPlaced formulas nodes i (u ++ v)
 placed-append i [] v p q = let z : i + 0 ≡ i = omega arith in rw z at q
@@ -155,30 +160,30 @@ before ps R t f pr os h r =
     }
 
 -- one more record, whose place stands before others
-pushed : (n : Node) (R : Recorded) (t : List Node) (f : Form) (pr os : List Form → List Form) → Placed formulas nodes (length (R .records)) n → Right R t f pr os
-    → Right (newRecord n (R .records) (length (R .records) ∷ R .places)) t (build n (formIn (R .records))) (λ v. build n (formIn (R .records)) ∷ pr v) (λ u. os (build n (formIn (R .records)) ∷ u))
-pushed n R t f pr os p r =
+pushed : {n : Node} (k : Fine n) (R : Recorded) (t : List Node) (f g : Form) (pr os : List Form → List Form) → ((j : ℕ) → among j (kids n) ≡ true → j < length (R .records))
+    → nodeForm k (formIn (R .records)) ≡ g → Right R t f pr os → Right (newRecord n (R .records) (length (R .records) ∷ R .places)) t g (λ v. g ∷ pr v) (λ u. os (g ∷ u))
+pushed {n} k R t f g pr os p e r =
     let x = r .is in
-    let g = build n (formIn (R .records)) in
+    let y = form-last k (R .records) g e in
     let l = length-append (R .records) (n ∷ []) in
-    let k = length-append t (r .more) in
+    let i = length-append t (r .more) in
     let m : length (R .records) ≤ length (R .records ++ (n ∷ [])) = omega arith in
-    let z : length (R .records) ≡ length t + length (r .more) = ap length x ∙ k in
+    let z : length (R .records) ≡ length t + length (r .more) = ap length x ∙ i in
     record {
       more = r .more ++ (n ∷ []);
       is = rw x (append-assoc t (r .more) (n ∷ []));
-      placed = placed-append (length t) (r .more) (n ∷ []) (r .placed) (rw z at p, tt);
+      placed = placed-append (length t) (r .more) (n ∷ []) (r .placed) (record { fine = k; lower = λ j a. rw z at (p j a) }, tt);
       low = omega arith;
-      form = form-last (R .records) n;
+      form = y;
       inside = (omega arith, all-longer (length (R .records)) _ (R .places) m (r .inside));
       places = λ v.
-          ap (λ (h : Form). h ∷ (map (formIn (R .records ++ (n ∷ []))) (R .places) ++ v)) (form-last (R .records) n)
+          ap (λ (h : Form). h ∷ (map (formIn (R .records ++ (n ∷ []))) (R .places) ++ v)) y
           ∙ ap (λ (fs : List Form). g ∷ (fs ++ v)) (forms-kept (R .records) (n ∷ []) (R .places) (r .inside))
           ∙ ap (λ (fs : List Form). g ∷ fs) (r .places v);
       order = λ u fs.
           r .order (g ∷ u) fs
           ∙ ap (λ (xs : List Form). insertAll same xs fs) (sym (append-assoc (formsOf (R .records)) (g ∷ []) u))
-          ∙ ap (λ (xs : List Form). insertAll same (xs ++ u) fs) (sym (decode-snoc formulas nodes [] (R .records) n));
+          ∙ ap (λ (xs : List Form). insertAll same (xs ++ u) fs) (sym (forms-next k (R .records) g e));
     }
 
 -- nothing read yet, with record j for what stands
@@ -189,20 +194,22 @@ still : (t : List Node) (j : ℕ) (f : Form) → j < length t → formIn t j ≡
 still t j f h e = record { more = []; is = sym (append-nil t); placed = tt; low = h; form = e; inside = tt; places = λ v. refl; order = λ u fs. refl }
 
 -- a new record by itself
-fresh : (n : Node) (t : List Node) (f : Form) → Placed formulas nodes (length t) n → build n (formIn t) ≡ f → Right (newRecord n t (length t ∷ [])) t f (λ v. f ∷ v) (λ u. f ∷ u)
-fresh n t f p e =
+fresh : {n : Node} (k : Fine n) (t : List Node) (f : Form) → ((j : ℕ) → among j (kids n) ≡ true → j < length t) → nodeForm k (formIn t) ≡ f
+    → Right (newRecord n t (length t ∷ [])) t f (λ v. f ∷ v) (λ u. f ∷ u)
+fresh {n} k t f p e =
     let l = length-append t (n ∷ []) in
+    let y = form-last k t f e in
     record {
       more = n ∷ [];
       is = refl;
-      placed = (p, tt);
+      placed = (record { fine = k; lower = p }, tt);
       low = omega arith;
-      form = form-last t n ∙ e;
+      form = y;
       inside = (omega arith, tt);
-      places = λ v. ap (λ (h : Form). h ∷ v) (form-last t n ∙ e);
+      places = λ v. ap (λ (h : Form). h ∷ v) y;
       order = λ u fs.
           ap (λ (xs : List Form). insertAll same xs fs) (sym (append-assoc (formsOf t) (f ∷ []) u))
-          ∙ ap (λ (xs : List Form). insertAll same (xs ++ u) fs) (ap (λ (h : Form). formsOf t ++ (h ∷ [])) (sym e) ∙ sym (decode-snoc formulas nodes [] t n));
+          ∙ ap (λ (xs : List Form). insertAll same (xs ++ u) fs) (sym (forms-next k t f e));
     }
 
 -- a use of a let's name: an earlier record again
@@ -252,10 +259,6 @@ scoped-after : (Σ : List Named) (Γ : List Meaning) (t : List Node) (R : Record
 scoped-after Σ Γ t R f pr os r h = let x = r .is in rw x (scoped-longer Σ Γ t (r .more) h)
 
 -- leaves
-leaf-placed : (i : ℕ) (n : Node) → Fine n → kids n ≡ [] → Placed formulas nodes i n
-unfolding isIn
-leaf-placed i n f e = record { fine = f; lower = λ j h. impossible (subst (λ (l : List ℕ). among j l ≡ true) e h) }
-
 abbrev one : Form → List Form → List Form
 one f v = f ∷ v
 
@@ -265,13 +268,13 @@ right-pick true A B t f g p q = p
 right-pick false A B t f g p q = q
 
 linked-right : (k : ℕ) (x y : List ℕ) (f : Form) (t : List Node) → packed x ≡ packed y → Linked k y f t → Right (linked k x t) t f (one f) (one f)
-unfolding build kids arity memberOfKind
-linked-right zero x y f t e h = fresh (node variableKind (packed x) 0 0) t f (leaf-placed (length t) _ (aVariable (packed x)) refl) (ap variable e ∙ sym h)
+unfolding isIn kids arity memberOfKind
+linked-right zero x y f t e h = fresh (aVariable (packed x)) t f (λ j. impossible) (ap variable e ∙ sym h)
 linked-right (suc j) x y f t e h = again t j f (h .0) (h .1)
 
 scoped-right : (x : List ℕ) (Σ : List Named) (Γ : List Meaning) (t : List Node) → Scoped Σ Γ t → Right (recordScoped x Σ t) t (lookUp x Γ) (one (lookUp x Γ)) (one (lookUp x Γ))
-unfolding recordScoped lookUp build kids arity memberOfKind
-scoped-right x [] [] t h = fresh (node unboundKind (packed x) 0 0) t (unbound (packed x)) (leaf-placed (length t) _ (anUnbound (packed x)) refl) refl
+unfolding recordScoped lookUp isIn kids arity memberOfKind
+scoped-right x [] [] t h = fresh (anUnbound (packed x)) t (unbound (packed x)) (λ j. impossible) refl
 scoped-right x [] (e ∷ Γ) t h = absurd h
 scoped-right x (s ∷ Σ) [] t h = absurd h
 scoped-right x (s ∷ Σ) (e ∷ Γ) t h =
@@ -283,10 +286,10 @@ scoped-right x (s ∷ Σ) (e ∷ Γ) t h =
     (λ q. rw q l))
 
 name-right : (x : List ℕ) (Σ : List Named) (Γ : List Meaning) (t : List Node) → Scoped Σ Γ t → Right (recordName x Σ t) t (named x Γ) (one (named x Γ)) (one (named x Γ))
-unfolding recordName named build kids arity memberOfKind
+unfolding recordName named isIn kids arity memberOfKind
 name-right x Σ Γ t h =
     right-pick (isData x) _ _ t readings (lookUp x Γ)
-    (fresh (node readingsKind 0 0 0) t readings (leaf-placed (length t) _ theReadings refl) refl)
+    (fresh theReadings t readings (λ j. impossible) refl)
     (scoped-right x Σ Γ t h)
 
 -- a member that is known and given what it takes
@@ -298,34 +301,23 @@ given-right m k u e = by (memberOf m) refl
     by (Is n) q = rw q (sym (rw q at e))
     by Unknown q = impossible (sym (rw q at u))
 
--- a call's record
-ask-placed : (m : Member) (f i : ℕ) → arguments m ≡ 0 → f < i → Placed formulas nodes i (node (memberKind m) 0 (suc f) 0)
-ask-placed m f i e h =
-    record { fine = anAsk m f e; lower = λ j a. let q = among-one j f (subst (λ (l : List ℕ). among j l ≡ true) (kids-ask m f e) a) in omega arith }
+-- the dependencies of a call's record, and of a function's, stand before it
+ask-lower : (m : Member) (f i : ℕ) → arguments m ≡ 0 → f < i → (j : ℕ) → among j (kids (node (memberKind m) 0 (suc f) 0)) ≡ true → j < i
+ask-lower m f i e h j a = let q = among-one j f (rw (kids-ask m f e) at a) in omega arith
 
-call-placed : (m : Member) (f a i : ℕ) → arguments m ≡ 1 → f < i → a < i → Placed formulas nodes i (node (memberKind m) 0 (suc f) (suc a))
-call-placed m f a i e h k =
-    record {
-      fine = aCall m f a e;
-      lower = λ j b. among-two j f a (subst (λ (l : List ℕ). among j l ≡ true) (kids-call m f a e) b) (λ q. omega arith) (λ q. omega arith);
-    }
+call-lower : (m : Member) (f a i : ℕ) → arguments m ≡ 1 → f < i → a < i → (j : ℕ) → among j (kids (node (memberKind m) 0 (suc f) (suc a))) ≡ true → j < i
+call-lower m f a i e h k j b = among-two j f a (rw (kids-call m f a e) at b) (λ q. omega arith) (λ q. omega arith)
 
-function-placed : (x b i : ℕ) → b < i → Placed formulas nodes i (node functionKind x (suc b) 0)
-function-placed x b i h =
-    record { fine = aFunction x b; lower = λ j a. let q = among-one j b (subst (λ (l : List ℕ). among j l ≡ true) (kids-function x b) a) in omega arith }
-
-pub build-function : (x b : ℕ) (φ : ℕ → Form) → build (node functionKind x (suc b) 0) φ ≡ function x (φ b)
-unfolding build
-build-function x b φ = rw (less-one b)
+function-lower : (x b i : ℕ) → b < i → (j : ℕ) → among j (kids (node functionKind x (suc b) 0)) ≡ true → j < i
+function-lower x b i h j a = let q = among-one j b (rw (kids-function x b) at a) in omega arith
 
 -- a number in range is found again in its key
 shifted : (z : ℤ) → leastNumber ≤ℤ z → T (nonNeg (z +ℤ pos 2147483648))
 shifted (pos n) h = tt
 shifted (negsuc n) h = let l = leb→le n 2147483647 (h .le) in rw (le-ltb 2147483648 (suc n) (omega arith)) tt
 
-number-form : (z : ℤ) (φ : ℕ → Form) → InRange z → build (node numberKind (numberKey z) 0 0) φ ≡ number z
-unfolding build
-number-form z φ h = ap number (ap (λ (y : ℤ). y -ℤ pos 2147483648) (pos-natAbs (z +ℤ pos 2147483648) (shifted z (h .0))) ∙ +ℤ-negℤ-cancel z (pos 2147483648))
+key-number : (z : ℤ) → InRange z → numberOfKey (numberKey z) ≡ z
+key-number z h = ap (λ (y : ℤ). y -ℤ pos 2147483648) (pos-natAbs (z +ℤ pos 2147483648) (shifted z (h .0))) ∙ +ℤ-negℤ-cancel z (pos 2147483648)
 
 -- the same places and order, said otherwise
 replaced : (R : Recorded) (t : List Node) (f : Form) (ps qs os : List Form → List Form) → Right R t f ps os → ((v : List Form) → ps v ≡ qs v) → Right R t f qs os
@@ -361,7 +353,7 @@ form-after : (R : Recorded) (t : List Node) (f : Form) (ps os : List Form → Li
 form-after R t f ps os r j h = ap (λ (k : List Node). formIn k j) (r .is) ∙ form-kept t (r .more) j h
 
 mutual
-  unfolding recordE formE placesE orderE called givenA givenM kids arity memberOfKind
+  unfolding recordE formE placesE orderE called givenA givenM isIn kids arity memberOfKind
 
   recordedE : (e : Expression) (d : Around) (Σ : List Named) (Γ : List Meaning) (t : List Node) → EverywhereE RightCalls e d → EverywhereE SmallNumbers e d → Scoped Σ Γ t
       → Right (recordE e Σ t) t (formE e Γ) (placesE e Γ) (orderE e Γ)
@@ -373,11 +365,7 @@ mutual
   recordedE (lambda x b) d Σ Γ t c n s =
       let B = recordedE b (inLambda x d) ((x, 0) ∷ Σ) (asLambda x Γ) t (c .1) (n .1) (refl, refl, s) in
       let RB = recordE b ((x, 0) ∷ Σ) t in
-      let k = node functionKind (packed x) (suc (RB .root)) 0 in
-      subst
-      (λ (g : Form). Right (newRecord k (RB .records) (length (RB .records) ∷ RB .places)) t g (λ v. g ∷ placesE b (asLambda x Γ) v) (λ u. orderE b (asLambda x Γ) (g ∷ u)))
-      (build-function (packed x) (RB .root) (formIn (RB .records)) ∙ ap (function (packed x)) (B .form))
-      (pushed k RB t _ _ _ (function-placed (packed x) (RB .root) (length (RB .records)) (B .low)) B)
+      pushed (aFunction (packed x) (RB .root)) RB t _ _ _ _ (function-lower (packed x) (RB .root) _ (B .low)) (ap (function (packed x)) (B .form)) B
   recordedE (name x r) d Σ Γ t c n s =
       let N = name-right x Σ Γ t s in
       let RN = recordName x Σ t in
@@ -385,7 +373,7 @@ mutual
       (recordedC r d (RN .root) (named x Γ) Σ Γ (RN .records) (c .1) (n .1) (scoped-after Σ Γ t RN _ _ _ N s) (N .low) (N .form))
   recordedE (literal z r) d Σ Γ t c n s =
       let k = node numberKind (numberKey z) 0 0 in
-      let N = fresh k t (number z) (leaf-placed (length t) k (aNumber (numberKey z)) refl) (number-form z (formIn t) (n .0)) in
+      let N = fresh (aNumber (numberKey z)) t (number z) (λ j. impossible) (ap number (key-number z (n .0))) in
       let RN = newRecord k t (length t ∷ []) in
       after RN (recordC r (length t) Σ (t ++ (k ∷ []))) t _ _ _ _ _ _ N
       (recordedC r d (length t) (number z) Σ Γ (t ++ (k ∷ [])) (c .1) (n .1) (scoped-after Σ Γ t RN _ _ _ N s) (N .low) (N .form))
@@ -405,7 +393,7 @@ mutual
       → Right (recordA a m f Σ t) t (formA a m F Γ) (λ v. called a m F Γ ∷ placesA a (called a m F Γ) Γ v) (orderA a (called a m F Γ) Γ)
   recordedA (none r) m d f F Σ Γ t g c n s h e =
       let k = node (memberKind (member m)) 0 (suc f) 0 in
-      let N = fresh k t (ask (member m) F) (ask-placed (member m) f (length t) g h) (build-ask (member m) f (formIn t) g ∙ ap (ask (member m)) e) in
+      let N = fresh (anAsk (member m) f g) t (ask (member m) F) (ask-lower (member m) f (length t) g h) (ap (ask (member m)) e) in
       let RN = newRecord k t (length t ∷ []) in
       after RN (recordC r (length t) Σ (t ++ (k ∷ []))) t _ _ _ _ _ _ N
       (recordedC r d (length t) (ask (member m) F) Σ Γ (t ++ (k ∷ [])) c n (scoped-after Σ Γ t RN _ _ _ N s) (N .low) (N .form))
@@ -427,7 +415,7 @@ mutual
   recordedM (last r) m d f a F A ps Σ Γ t g c n s h e k i q =
       let y = node (memberKind (member m)) 0 (suc f) (suc a) in
       let G = Form.call (member m) F A in
-      let N = fresh y t G (call-placed (member m) f a (length t) g h k) (build-call (member m) f a (formIn t) g ∙ (λ j. Form.call (member m) (e j) (i j))) in
+      let N = fresh (aCall (member m) f a g) t G (call-lower (member m) f a (length t) g h k) (λ j. Form.call (member m) (e j) (i j)) in
       let RN = newRecord y t (length t ∷ []) in
       let C = recordedC r d (length t) G Σ Γ (t ++ (y ∷ [])) c n (scoped-after Σ Γ t RN _ _ _ N s) (N .low) (N .form) in
       let RC = recordC r (length t) Σ (t ++ (y ∷ [])) in

@@ -37,7 +37,7 @@ use Rattle.table.specs.WellFormed.{every, kindKnown, keyRight, arityRight, lowe
 use Rattle.table.specs.Awaits.{awaitedBy, awaitedAfter}
 use Rattle.table.specs.WellFormed.{isDone, doneAt, allDone, settled, namesRight, keptRight, wellFormed}
 use Rattle.table.specs.AwaitedBuild.{awaited-build}
-use Rattle.table.specs.NodeKinds.{Fine, aNumber, aVariable, anUnbound, theReadings, aFunction, anAsk, aCall, not-member, member-arity, build-ask, build-call}
+use Rattle.table.specs.NodeKinds.{Fine, aNumber, aVariable, anUnbound, theReadings, aFunction, anAsk, aCall, not-member, member-arity, nodeForm, build-fine}
 use Rattle.formulas.specs.Formulas.{formulas, IsReading}
 use Rattle.bridge.specs.Graphs.{nodes, graph-laws, equality, kids-function, kids-ask, kids-call, among-first, among-second}
 use Rattle.bridge.specs.EntryForms.{formsOf}
@@ -189,15 +189,16 @@ joined-nth (f ∷ fs) [] p e l h = absurd (omega arith)
 joined-nth (f ∷ fs) (x ∷ es) zero e l h = let q : x ≡ e = cc in ap (λ (y : Entry). some (record { form = f; mark = markOf (y .kept) })) q
 joined-nth (f ∷ fs) (x ∷ es) (suc p) e l h = joined-nth fs es p e (omega arith) h
 
-works-kind : (n : Node) (φ : ℕ → Form) → Fine n → works (build n φ) ≡ worksKind (n .kind)
-unfolding works build
-works-kind _ φ (aNumber k) = refl
-works-kind _ φ (aVariable x) = refl
-works-kind _ φ (anUnbound x) = refl
-works-kind _ φ theReadings = refl
-works-kind _ φ (aFunction x b) = refl
-works-kind _ φ (anAsk m f e) = rw (build-ask m f φ e) (sym (le-leb functionKind (memberKind m) (omega arith)))
-works-kind _ φ (aCall m f a e) = rw (build-call m f a φ e) (sym (le-leb functionKind (memberKind m) (omega arith)))
+-- whether a node's form is worked out, by its kind
+pub works-kind : {n : Node} (φ : ℕ → Form) (k : Fine n) → works (nodeForm k φ) ≡ worksKind (n .kind)
+unfolding works
+works-kind φ (aNumber key) = refl
+works-kind φ (aVariable x) = refl
+works-kind φ (anUnbound x) = refl
+works-kind φ theReadings = refl
+works-kind φ (aFunction x b) = refl
+works-kind φ (anAsk m f e) = sym (le-leb functionKind (memberKind m) (omega arith))
+works-kind φ (aCall m f a e) = sym (le-leb functionKind (memberKind m) (omega arith))
 
 member-proper : (g : Form) (fs : List Form) → isIn same g fs ≡ true → All Proper fs → Proper g
 unfolding isIn
@@ -283,7 +284,7 @@ module _ (m : Memory) (o : Ok m) (i : Invariant formulas formula-laws (holds m))
   deep p h g w = member-proper g fs (below-held formulas (formula-laws .tests) fs (rw held-forms at (i .ordered)) (getD fs p readings) g (nth-member fs p (getD fs p readings) h) w) proper
 
   works-at : (p : ℕ) (e : Entry) → At p e → works (getD fs p readings) ≡ worksKind (e .node .kind)
-  works-at p e a = ap works (sym (a .form)) ∙ works-kind (e .node) (formAt formulas nodes fs) (a .placed .fine)
+  works-at p e a = let k = a .placed .fine in ap works (sym (a .form) ∙ build-fine k _) ∙ works-kind (formAt formulas nodes fs) k
 
   kept-cells : (p : ℕ) (e : Entry) → worksKind (e .node .kind) ≡ true → (v : Shown) → e .kept ≡ keptFor v → Keeps (length (recordingOf m)) v → keptRight (readingCount m) e ≡ true
   unfolding keptRight

@@ -16,10 +16,9 @@ use Rattle.model.specs.Binder as Binder
 use Rattle.layout.specs.Memory.{Node}
 use Rattle.layout.specs.Nodes.{sameNode, build, kids, arity, memberOfKind}
 use Rattle.table.specs.Bind.{relinked, relink, Bound, bindOne, bindAll}
-use Rattle.table.specs.NodeKinds.{Fine, aNumber, aVariable, anUnbound, theReadings, aFunction, anAsk, aCall, build-ask, build-call}
+use Rattle.table.specs.NodeKinds.{Fine, aNumber, aVariable, anUnbound, theReadings, aFunction, anAsk, aCall, nodeForm, build-fine}
 use Rattle.formulas.specs.Formulas.{formulas}
 use Rattle.bridge.specs.Graphs.{nodes, kids-function, kids-ask, kids-call, among-one, among-two, among-first, among-second}
-use Rattle.bridge.specs.Recorded.{build-function}
 
 -- links changed by a function of numbers
 abbrev linkBy : (ℕ → ℕ) → ℕ → ℕ
@@ -29,25 +28,19 @@ linkBy ρ (suc j) = suc (ρ j)
 unfoldable pub relinkBy : Node → (ℕ → ℕ) → Node
 relinkBy n ρ = record { kind = n .kind; key = n .key; first = linkBy ρ (n .first); second = linkBy ρ (n .second) }
 
-fine-relinked : (n : Node) (ρ : ℕ → ℕ) → Fine n → Fine (relinkBy n ρ)
+-- a node so changed is of the same kind, and its form is of the forms of the changed links
+fine-relinked : {n : Node} (ρ : ℕ → ℕ) (k : Fine n) → (l : Fine (relinkBy n ρ)) × ((φ : ℕ → Form) → nodeForm l φ ≡ nodeForm k (λ (j : ℕ). φ (ρ j)))
 unfolding relinkBy
-fine-relinked _ ρ (aNumber k) = aNumber k
-fine-relinked _ ρ (aVariable x) = aVariable x
-fine-relinked _ ρ (anUnbound x) = anUnbound x
-fine-relinked _ ρ theReadings = theReadings
-fine-relinked _ ρ (aFunction x b) = aFunction x (ρ b)
-fine-relinked _ ρ (anAsk m f e) = anAsk m (ρ f) e
-fine-relinked _ ρ (aCall m f a e) = aCall m (ρ f) (ρ a) e
+fine-relinked ρ (aNumber key) = (aNumber key, λ φ. refl)
+fine-relinked ρ (aVariable x) = (aVariable x, λ φ. refl)
+fine-relinked ρ (anUnbound x) = (anUnbound x, λ φ. refl)
+fine-relinked ρ theReadings = (theReadings, λ φ. refl)
+fine-relinked ρ (aFunction x b) = (aFunction x (ρ b), λ φ. refl)
+fine-relinked ρ (anAsk m f e) = (anAsk m (ρ f) e, λ φ. refl)
+fine-relinked ρ (aCall m f a e) = (aCall m (ρ f) (ρ a) e, λ φ. refl)
 
-form-relinked : (n : Node) (ρ : ℕ → ℕ) (φ : ℕ → Form) → Fine n → build (relinkBy n ρ) φ ≡ build n (λ (k : ℕ). φ (ρ k))
-unfolding relinkBy build
-form-relinked _ ρ φ (aNumber k) = refl
-form-relinked _ ρ φ (aVariable x) = refl
-form-relinked _ ρ φ (anUnbound x) = refl
-form-relinked _ ρ φ theReadings = refl
-form-relinked _ ρ φ (aFunction x b) = build-function x (ρ b) φ ∙ sym (build-function x b (λ (k : ℕ). φ (ρ k)))
-form-relinked _ ρ φ (anAsk m f e) = build-ask m (ρ f) φ e ∙ sym (build-ask m f (λ (k : ℕ). φ (ρ k)) e)
-form-relinked _ ρ φ (aCall m f a e) = build-call m (ρ f) (ρ a) φ e ∙ sym (build-call m f a (λ (k : ℕ). φ (ρ k)) e)
+form-relinked : (n : Node) (ρ : ℕ → ℕ) (φ : ℕ → Form) → Fine n → build (relinkBy n ρ) φ ≡ build n (λ (j : ℕ). φ (ρ j))
+form-relinked n ρ φ k = let l = fine-relinked ρ k in build-fine (l .0) φ ∙ l .1 φ ∙ sym (build-fine k (λ (j : ℕ). φ (ρ j)))
 
 pub among-by : (j : ℕ) (l k : List ℕ) → l ≡ k → among j k ≡ true → among j l ≡ true
 among-by j l k e h = rw e h
@@ -66,7 +59,7 @@ from-relinked _ ρ j (aCall m f a e) h =
     (λ q. (a, among-by a _ _ (kids-call m f a e) (among-second f a), q))
 
 pub relinks : Binder.Relinks formulas nodes relinkBy
-relinks = record { fine = fine-relinked; form = form-relinked; from = from-relinked }
+relinks = record { fine = λ n ρ k. fine-relinked ρ k .0; form = form-relinked; from = from-relinked }
 
 -- the two are one
 link-same : (numbers : List ℕ) (l : ℕ) → relinked numbers l ≡ linkBy (λ (k : ℕ). getD numbers k 0) l

@@ -7,7 +7,7 @@ use mathlib.Core.Option.{none, some}
 use Prim.Native.Nat.{ℕ, zero, suc, _+_, _-_, _<_, _≤_, min}
 use native.Mathlib.Nat.{sub-zero}
 use native.Mathlib.Omega.{arith}
-use borrow.Author.Tests.{eq-eqb, ne-eqb, le-leb, lt-leb, lt-ltb, le-ltb, leb-true, leb-false, ltb-true, ltb-false}
+use borrow.Author.Tests.{eq-eqb, ne-eqb, lt-ltb, le-ltb, leb-true, leb-false, ltb-true, ltb-false}
 use lib.Dec.{eqb, ltb}
 use lib.IntN.{ℤ, pos}
 use lib.ListN.{length, getD, getElem?, replicate, length-take, length-map}
@@ -26,7 +26,7 @@ use Rattle.model.specs.Graph.{among, Stands, linksAt, decodes}
 use Rattle.model.specs.Sweep.{needed, swept, linked}
 use Rattle.model.specs.Previews.{Values, counts-as-model, works-as-model}
 use Rattle.layout.specs.Memory.{Memory, Node, Entry, entryCount, readingCount, recordingOf, nodeAt, keptAt, entryAt, entriesFrom, entriesOf, nodesOf, nothingKept}
-use Rattle.layout.specs.Nodes.{functionKind, memberKind, worksKind, kids, build}
+use Rattle.layout.specs.Nodes.{functionKind, worksKind, kids, build}
 use Rattle.table.specs.Right.{nodeRight}
 use Rattle.layout.specs.Numbered.{numbered}
 use Rattle.table.specs.WellFormed.{wellFormed}
@@ -34,7 +34,7 @@ use Rattle.table.specs.CheckedLaws.{nodes-are}
 use Rattle.binder.specs.AppendedLaws.{well-parts}
 use Rattle.layout.specs.Links.{kindAt, firstAt, secondAt, keyAt}
 use Rattle.table.specs.Waits.{waitsFrom}
-use Rattle.table.specs.NodeKinds.{Fine, aNumber, aVariable, anUnbound, theReadings, aFunction, anAsk, aCall, build-ask, build-call}
+use Rattle.table.specs.NodeKinds.{Fine, aNumber, aVariable, anUnbound, theReadings, aFunction, anAsk, aCall, nodeForm, build-fine}
 use Rattle.evaluator.specs.Frames.{startAt, startFrom}
 use Rattle.evaluator.specs.Applying.{graph, applyAt}
 use Rattle.schedule.specs.Works.{Work, needOf, worked, showOf}
@@ -54,51 +54,42 @@ use Rattle.demand.specs.Appended.{lengths, long-enough, entries-length}
 use Rattle.demand.specs.Standing.{beyond, forms-joined, size-held}
 use Rattle.demand.specs.Fitting.{Deep}
 use Rattle.demand.specs.Cells.{keeps}
+use Rattle.demand.specs.Accepted.{works-kind}
 use Rattle.demand.specs.Editing.{Done}
 use Rattle.demand.specs.Needs.{entry-nth, node-nth, needs}
 use Rattle.demand.specs.Starts.{start-length, start-at, kept-view, leaf-value, leaf-view}
 use Rattle.demand.specs.PreviewLoop.{formAt, shownAt, held-nth, Ready, Stored, Framed, Left, loop, counts}
 
--- what a node says of its form: whether it is worked out, the name that a function shows, and its links
-record Says (n : Node) (φ : ℕ → Form) : Type 0 where
-  works : works (build n φ) ≡ worksKind (n .kind)
-  key : functionKind ≤ n .kind → n .key ≡ nameOf (build n φ)
+-- what a node says of its form: the name that a function shows, and its links
+record Says (n : Node) (f : Form) : Type 0 where
+  key : functionKind ≤ n .kind → n .key ≡ nameOf f
   first : (d : ℕ) → n .first ≡ suc d → among d (kids n) ≡ true
   second : (d : ℕ) → n .second ≡ suc d → among d (kids n) ≡ true
 
-says-leaf : (n : Node) (φ : ℕ → Form) → n .kind < functionKind → n .first ≡ 0 → n .second ≡ 0 → works (build n φ) ≡ false → Says n φ
-says-leaf n φ k p q e =
-    record {
-      works = e ∙ sym (lt-leb functionKind (n .kind) k);
-      key = λ h. absurd (omega arith);
-      first = λ d g. absurd (omega arith);
-      second = λ d g. absurd (omega arith);
-    }
+says-leaf : (n : Node) (f : Form) → n .kind < functionKind → n .first ≡ 0 → n .second ≡ 0 → Says n f
+says-leaf n f k p q = record { key = λ h. absurd (omega arith); first = λ d g. absurd (omega arith); second = λ d g. absurd (omega arith) }
 
-says : (n : Node) (φ : ℕ → Form) → Fine n → Says n φ
-unfolding build works nameOf
-says _ φ (aNumber k) = says-leaf _ φ (omega arith) refl refl refl
-says _ φ (aVariable x) = says-leaf _ φ (omega arith) refl refl refl
-says _ φ (anUnbound x) = says-leaf _ φ (omega arith) refl refl refl
-says _ φ theReadings = says-leaf _ φ (omega arith) refl refl refl
-says _ φ (aFunction x b) =
+says : {n : Node} (φ : ℕ → Form) (k : Fine n) → Says n (nodeForm k φ)
+unfolding nameOf
+says φ (aNumber key) = says-leaf _ _ (omega arith) refl refl
+says φ (aVariable x) = says-leaf _ _ (omega arith) refl refl
+says φ (anUnbound x) = says-leaf _ _ (omega arith) refl refl
+says φ theReadings = says-leaf _ _ (omega arith) refl refl
+says φ (aFunction x b) =
     record {
-      works = refl;
       key = λ h. refl;
       first = λ d e. let q : d ≡ b = omega arith in among-by d _ _ (kids-function x b) (rw q (among-first b []));
       second = λ d e. absurd (omega arith);
     }
-says _ φ (anAsk m f e) =
+says φ (anAsk m f e) =
     record {
-      works = rw (build-ask m f φ e) (sym (le-leb functionKind (memberKind m) (omega arith)));
-      key = λ h. rw (build-ask m f φ e);
+      key = λ h. refl;
       first = λ d g. let q : d ≡ f = omega arith in among-by d _ _ (kids-ask m f e) (rw q (among-first f []));
       second = λ d g. absurd (omega arith);
     }
-says _ φ (aCall m f a e) =
+says φ (aCall m f a e) =
     record {
-      works = rw (build-call m f a φ e) (sym (le-leb functionKind (memberKind m) (omega arith)));
-      key = λ h. rw (build-call m f a φ e);
+      key = λ h. refl;
       first = λ d g. let q : d ≡ f = omega arith in among-by d _ _ (kids-call m f a e) (rw q (among-first f (a ∷ [])));
       second = λ d g. let q : d ≡ a = omega arith in among-by d _ _ (kids-call m f a e) (rw q (among-second f a));
     }
@@ -184,8 +175,14 @@ module _ (m : Memory) (o : Ok m) (i : Invariant formulas formula-laws (holds m))
   form-nth : (j : ℕ) → j < entryCount m → getElem? fs j ≡ some (φ j)
   form-nth j h = form-built j h ∙ ap some (sym (form-is j h))
 
-  said : (j : ℕ) → j < entryCount m → Says (nodeOf j) φ
-  said j h = says (nodeOf j) φ (stands .placed j (nodeOf j) (node-nth m j h) .fine)
+  fine : (j : ℕ) → j < entryCount m → Fine (nodeOf j)
+  fine j h = stands .placed j (nodeOf j) (node-nth m j h) .fine
+
+  form-of : (j : ℕ) (h : j < entryCount m) → φ j ≡ nodeForm (fine j h) φ
+  form-of j h = form-is j h ∙ build-fine (fine j h) φ
+
+  said : (j : ℕ) → j < entryCount m → Says (nodeOf j) (φ j)
+  said j h = rw (form-of j h) (says φ (fine j h))
 
   alone : (j k : ℕ) → j < entryCount m → k < entryCount m → nodeOf j ≡ nodeOf k → j ≡ k
   alone j k h l e =
@@ -211,7 +208,7 @@ module _ (m : Memory) (o : Ok m) (i : Invariant formulas formula-laws (holds m))
       let low = l .0 in
       let s = said j (omega arith) in
       let a : among d (kids (nodeOf j)) ≡ true = ⊎-elim (λ e. s .first d e) (λ e. s .second d e) (l .1) in
-      let b = graph-laws .only (nodeOf j) φ d (stands .placed j (nodeOf j) (node-nth m j (omega arith)) .fine) a in
+      let b = graph-laws .only (nodeOf j) φ d (fine j (omega arith)) a in
       let c : dependency (φ d) (φ j) ≡ true = rw (form-is j (omega arith)) b in
       reached d (omega arith) ∙ reach-down formulas (formula-laws .tests) (φ d) (φ j) (φ n) c (sym (reached j (omega arith)) ∙ f)
 
@@ -237,8 +234,8 @@ module _ (m : Memory) (o : Ok m) (i : Invariant formulas formula-laws (holds m))
         good = good (m .links) (m .cells) xs (suc n) φ (omega arith) (i .short) small right forms one names;
         names = λ j h. waits-names (m .links) (m .cells) xs (suc n) φ (omega arith) (i .short) small right forms one names j (omega arith);
         full = λ j h. waits-full (m .links) (m .cells) xs (suc n) φ (omega arith) (i .short) small right forms one names j (omega arith);
-        keys = λ j h k. said j (omega arith) .key k ∙ ap nameOf (sym (form-is j (omega arith)));
-        works = λ j h. ap works (form-is j h) ∙ said j h .works;
+        keys = λ j h. said j (omega arith) .key;
+        works = λ j h. ap works (form-of j h) ∙ works-kind φ (fine j h);
         marks = λ j h. keeps xs (i .short) small (φ j) (deep j h) .mark;
         told = needs m o n few inside;
         closed = closed;

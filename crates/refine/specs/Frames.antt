@@ -24,15 +24,16 @@ use Rattle.values.specs.Tallies as Tallies
 use Rattle.values.specs.TallyLaws.{stopped-stays}
 use Rattle.meaning.specs.Forms.{Form, variable}
 use Rattle.meaning.specs.Evaluation.{valueOf, Environment, bind, lookup, evaluate, awaited, hasName}
+use Rattle.layout.specs.Memory.{Node}
 use Rattle.layout.specs.Links.{kindAt, firstAt, secondAt, keyAt}
 use Rattle.layout.specs.Nodes.{variableKind, functionKind}
+use Rattle.table.specs.NodeKinds.{Fine, aNumber, aVariable, anUnbound, theReadings, aFunction, anAsk, aCall}
 use Rattle.table.specs.Waits.{awaits}
 use Rattle.evaluator.specs.Reach.{moves, gathered}
 use Rattle.evaluator.specs.Frames.{bound}
 use Rattle.evaluator.specs.Applying.{Go, fillOf, setOf, overOf}
 use Rattle.refine.specs.Free.{decEq, free, never, free-variable, unbound-same}
-use Rattle.refine.specs.Tables.{EntryAt, is-number, is-variable, is-unbound, is-readings, is-function, is-ask, is-call}
-use Rattle.refine.specs.Tables.{Good, PlainValue, Plain, kept-entry, Sees, here, down, sees-free, sees-below, sees-trans}
+use Rattle.refine.specs.Tables.{Good, Parts, fine, parts, PlainValue, Plain, kept-entry, Sees, here, down, sees-free, sees-below, sees-trans}
 use Rattle.refine.specs.Sweeps.{In, Rising, rising-above, list-moves, list-rises, list-low, list-top, list-down}
 
 -- each reading is within signed 32 bits
@@ -59,16 +60,16 @@ module _ (links cells waits : List ℕ) (xs : List ℤ) (n : ℕ) (φ : ℕ → 
 
   module _ (good : Good links cells waits xs n φ) where
     vars : (j : ℕ) → j < n → kindAt links j ≡ variableKind → (φ j ≡ variable (keyAt cells j)) × ((firstAt links j ≡ 0) × (secondAt links j ≡ 0))
-    vars j h k = by (good .entries j h)
+    vars j h k = by (fine good h) (parts good h)
       where
-        by : EntryAt links cells φ j → (φ j ≡ variable (keyAt cells j)) × ((firstAt links j ≡ 0) × (secondAt links j ≡ 0))
-        by (is-number q _ _) = absurd (omega arith)
-        by (is-variable q a b e) = (e, (a, b))
-        by (is-unbound q _) = absurd (omega arith)
-        by (is-readings q _) = absurd (omega arith)
-        by (is-function _ q _ _ _) = absurd (omega arith)
-        by (is-ask m _ q _ _ _ _) = absurd (omega (arith, q))
-        by (is-call m _ _ q _ _ _ _ _) = absurd (omega (arith, q))
+        by : {q : Node} (k : Fine q) → Parts links cells φ j k → (φ j ≡ variable (keyAt cells j)) × ((firstAt links j ≡ 0) × (secondAt links j ≡ 0))
+        by (aNumber _) e = absurd (omega arith)
+        by (aVariable x) e = (e .form ∙ ap variable (sym (e .key)), (e .first, e .second))
+        by (anUnbound _) e = absurd (omega arith)
+        by theReadings e = absurd (omega arith)
+        by (aFunction _ _) e = absurd (omega arith)
+        by (anAsk _ _ _) e = absurd (omega arith)
+        by (aCall _ _ _ _) e = absurd (omega arith)
 
     -- a variable x, the entry of it, and a value for it
     module _ (j₀ : ℕ) (var-n : j₀ < n) (var-k : kindAt links j₀ ≡ variableKind) (go : Go) (f : ℕ) (right : GoRight go f) (ρ : Environment)
@@ -96,18 +97,18 @@ module _ (links cells waits : List ℕ) (xs : List ℤ) (n : ℕ) (φ : ℕ → 
 
       works : (m : ℕ) → m < n → moves waits v m ≡ true → functionKind ≤ kindAt links m
       unfolding awaited hasName
-      works m h e = by (good .entries m h) (moves-free m h e)
+      works m h e = by (fine good h) (parts good h) (moves-free m h e)
         where
-          by : EntryAt links cells φ m → (free x (φ m) ≡ true) × (m ≡ j₀ → ⊥) → functionKind ≤ kindAt links m
-          by (is-number q _ w) p = never (rw w at (p .0)) refl
-          by (is-variable q _ _ w) p =
-              let z : x ≡ keyAt cells m = eqb-true x (keyAt cells m) (sym (free-variable x (keyAt cells m)) ∙ (rw w at (p .0))) in
-              absurd (p .1 (good .one m j₀ h var-n q var-k (sym z)))
-          by (is-unbound q w) p = never (rw w at (p .0)) refl
-          by (is-readings q w) p = never (rw w at (p .0)) refl
-          by (is-function _ q _ _ _) p = omega arith
-          by (is-ask _ _ q _ _ _ _) p = omega (arith, q)
-          by (is-call _ _ _ q _ _ _ _ _) p = omega (arith, q)
+          by : {q : Node} (k : Fine q) → Parts links cells φ m k → (free x (φ m) ≡ true) × (m ≡ j₀ → ⊥) → functionKind ≤ kindAt links m
+          by (aNumber _) w p = never (rw (w .form) at (p .0)) refl
+          by (aVariable y) w p =
+              let z : x ≡ y = eqb-true x y (sym (free-variable x y) ∙ (rw (w .form) at (p .0))) in
+              absurd (p .1 (good .one m j₀ h var-n (w .kind) var-k (w .key ∙ sym z)))
+          by (anUnbound _) w p = never (rw (w .form) at (p .0)) refl
+          by theReadings w p = never (rw (w .form) at (p .0)) refl
+          by (aFunction _ _) w p = omega arith
+          by (anAsk _ _ _) w p = omega arith
+          by (aCall _ _ _ _) w p = omega arith
 
       -- the variable sees itself alone
       var-sees : (m : ℕ) → Sees links φ j₀ m → m ≡ j₀

@@ -13,9 +13,10 @@ use lib.Dec.{eqb, leb}
 use lib.IntN.{ℤ, pos, natAbs, _+ℤ_}
 use lib.ListN.{length, getD, take, drop}
 use lib.Signed.{mag}
-use Rattle.table.specs.NodeKinds.{member-found}
+use Rattle.table.specs.NodeKinds.{Fine, aNumber, aVariable, anUnbound, theReadings, aFunction, anAsk, aCall, member-found}
 use Rattle.language.specs.Cases.{split, either, or-right}
 use Rattle.language.specs.Limits.{tableEntries, tableReadings}
+use Rattle.members.specs.Members.{arguments}
 use Rattle.members.specs.declared.Member.{Member}
 use Rattle.rules.specs.declared.Value.{Value}
 use Rattle.rules.specs.declared.Value.the-variants.{Number, Window, Function, Delayed, Missing}
@@ -35,8 +36,9 @@ use Rattle.values.specs.Tallies.{begun}
 use Rattle.values.specs.Tallies as Tallies
 use Rattle.values.specs.TallyLaws.{finished-is}
 use Rattle.rules.specs.Windows.{readingsIn}
-use Rattle.meaning.specs.Forms.{Form, variable, ask, call, function}
+use Rattle.meaning.specs.Forms.{Form, variable}
 use Rattle.meaning.specs.Evaluation.{Result, plain, runs, valueOf, runOf, Environment, bind, lookup, settled, functionOf, evaluate, awaited, hasName}
+use Rattle.layout.specs.Memory.{Node}
 use Rattle.layout.specs.Nodes.{variableKind, functionKind, memberKind, memberOfKind}
 use Rattle.layout.specs.Links.{kindAt, firstAt, secondAt, keyAt}
 use Rattle.table.specs.Waits.{slotA, slotB, hasSlot, awaits, ownOf}
@@ -44,8 +46,7 @@ use Rattle.evaluator.specs.Reach.{gathered}
 use Rattle.evaluator.specs.Frames as Code
 use Rattle.evaluator.specs.Applying.{graph, Go, boundedOf, askOf, callOf, doneOf, taskOf, judgeOf, runOf as taskRun, followOf, planOf, fillOf, overOf, concludeOf, finishOf, applyAt}
 use Rattle.refine.specs.Free.{free, never, decEq, free-variable, free-call, free-function, unbound-same, settled-no, settled-find}
-use Rattle.refine.specs.Tables.{EntryAt, is-number, is-variable, is-unbound, is-readings, is-function, is-ask, is-call}
-use Rattle.refine.specs.Tables.{Good, PlainValue, Plain, plain-lookup, kept-entry, Link, Sees, here, down, sees-free, sees-below}
+use Rattle.refine.specs.Tables.{Good, Parts, fine, parts, PlainValue, Plain, plain-lookup, kept-entry, Link, Sees, here, down, sees-free, sees-below}
 use Rattle.refine.specs.Kinds.{isFunction, ask-none, call-none}
 use Rattle.refine.specs.Frames.{Right, GoRight, Small, turn, set-value, over-right}
 
@@ -215,22 +216,22 @@ module _ (links cells waits : List ℕ) (xs : List ℤ) (n : ℕ) (φ : ℕ → 
   seen : (k i y : ℕ) → i < k → i < n → free y (φ i) ≡ true → Seen i y
   unfolding awaited hasName
   seen zero i y h h′ e = absurd (omega arith)
-  seen (suc k) i y h h′ e = by (good .entries i h′) (λ d l q. seen k d y (omega arith) (omega arith) q)
+  seen (suc k) i y h h′ e = by (fine good h′) (parts good h′) (λ d l q. seen k d y (omega arith) (omega arith) q)
     where
-      by : EntryAt links cells φ i → ((d : ℕ) → d < i → free y (φ d) ≡ true → Seen d y) → Seen i y
-      by (is-number _ _ q) again = never (rw q at e) refl
-      by (is-variable a _ _ q) again =
-          let z : y ≡ keyAt cells i = eqb-true y (keyAt cells i) (sym (free-variable y (keyAt cells i)) ∙ (rw q at e)) in
-          record { at = i; kind = a; key = sym z; form = q ∙ ap variable (sym z); sees = here i }
-      by (is-unbound _ q) again = never (rw q at e) refl
-      by (is-readings _ q) again = never (rw q at e) refl
-      by (is-function b _ f l q) again =
-          lift i b y (l, inl f) e (again b l (and-eq-true-iff (not (eqb (keyAt cells i) y)) (free y (φ b)) .0 (sym (free-function y (keyAt cells i) (φ b)) ∙ (rw q at e)) .1))
-      by (is-ask m d _ f _ l q) again = lift i d y (l, inl f) e (again d l (rw q at e))
-      by (is-call m d a _ f s l l′ q) again =
-          either (free y (φ d)) (free y (φ a)) (sym (free-call y m (φ d) (φ a)) ∙ (rw q at e))
-          (λ p. lift i d y (l, inl f) e (again d l p))
-          (λ p. lift i a y (l′, inr s) e (again a l′ p))
+      by : {q : Node} (k : Fine q) → Parts links cells φ i k → ((d : ℕ) → d < i → free y (φ d) ≡ true → Seen d y) → Seen i y
+      by (aNumber _) w again = never (rw (w .form) at e) refl
+      by (aVariable x) w again =
+          let z : y ≡ x = eqb-true y x (sym (free-variable y x) ∙ (rw (w .form) at e)) in
+          record { at = i; kind = w .kind; key = w .key ∙ sym z; form = w .form ∙ ap variable (sym z); sees = here i }
+      by (anUnbound _) w again = never (rw (w .form) at e) refl
+      by theReadings w again = never (rw (w .form) at e) refl
+      by (aFunction x b) w again =
+          lift i b y (w .low, inl (w .first)) e (again b (w .low) (and-eq-true-iff (not (eqb x y)) (free y (φ b)) .0 (sym (free-function y x (φ b)) ∙ (rw (w .form) at e)) .1))
+      by (anAsk m d _) w again = lift i d y (w .low, inl (w .first)) e (again d (w .low) (rw (w .form) at e))
+      by (aCall m d a _) w again =
+          either (free y (φ d)) (free y (φ a)) (sym (free-call y m (φ d) (φ a)) ∙ (rw (w .form) at e))
+          (λ p. lift i d y (w .low, inl (w .first)) e (again d (w .low) p))
+          (λ p. lift i a y (w .next, inr (w .second)) e (again a (w .next) p))
 
   -- a function's own variable: one more than its number where the body awaits it, else 0
   record Own (x b v : ℕ) : Type 0 where
@@ -240,21 +241,18 @@ module _ (links cells waits : List ℕ) (xs : List ℤ) (n : ℕ) (φ : ℕ → 
     key : keyAt cells at ≡ x
     low : at ≤ b
 
-  module _ (i b : ℕ) (i-n : i < n) (b-i : b < i) (form : φ i ≡ function (keyAt cells i) (φ b)) where
+  module _ {i x b : ℕ} (i-n : i < n) (entry : Parts links cells φ i (aFunction x b)) where
     abbrev wb : ℕ
     wb = getD waits b 0
 
     abbrev wi : ℕ
     wi = getD waits i 0
 
-    abbrev x : ℕ
-    x = keyAt cells i
-
     b-n : b < n
     b-n = omega arith
 
     free-outer : (y : ℕ) → free y (φ i) ≡ (not (eqb x y) && free y (φ b))
-    free-outer y = ap (free y) form ∙ free-function y x (φ b)
+    free-outer y = ap (free y) (entry .form) ∙ free-function y x (φ b)
 
     -- a variable that the body awaits and that has another name is awaited by the function
     held : (v : ℕ) → 1 ≤ v → hasSlot wb v ≡ true → ((j : ℕ) → v ≡ suc j → j < n → kindAt links j ≡ variableKind → keyAt cells j ≡ x → ⊥)
@@ -412,19 +410,17 @@ module _ (links cells waits : List ℕ) (xs : List ℤ) (n : ℕ) (φ : ℕ → 
       opened d h e = ap unpackOf e ∙ round (value d) (kept d h ρ plain .held)
 
       -- a member with no argument
-      ask-right : (m : Member) (d : ℕ) → kindAt links i ≡ memberKind m → firstAt links i ≡ suc d → secondAt links i ≡ 0 → d < i → φ i ≡ ask m (φ d) → done ≡ packOf (value i)
+      ask-right : (m : Member) (d : ℕ) (z : arguments m ≡ 0) → Parts links cells φ i (anAsk m d z) → done ≡ packOf (value i)
       unfolding finishOf evaluate valueOf awaited
-      ask-right m d k fs ss l e =
-          ap (finishOf (graph links waits xs) go frame i) (plan-ask links waits xs frame i m d k fs ss l)
-          ∙ ap (λ (v : Value). packOf (apply0 m xs v)) (opened d (omega arith) (see d (l, inl fs) (λ y h. ap (free y) e ∙ h)))
-          ∙ ap (λ (g : Form). packOf (valueOf (evaluate xs ρ g))) (sym e)
+      ask-right m d z e =
+          ap (finishOf (graph links waits xs) go frame i) (plan-ask links waits xs frame i m d (e .kind) (e .first) (e .second) (e .low))
+          ∙ ap (λ (v : Value). packOf (apply0 m xs v)) (opened d (omega arith) (see d (e .low, inl (e .first)) (λ y h. ap (free y) (e .form) ∙ h)))
+          ∙ ap (λ (g : Form). packOf (valueOf (evaluate xs ρ g))) (sym (e .form))
 
       -- the runs of the function that entry a is
-      module _ (m : Member) (a b s l : ℕ) (a-i : a < i) (ka : kindAt links a ≡ functionKind) (fa : firstAt links a ≡ suc b) (b-a : b < a)
-          (ea : φ a ≡ function (keyAt cells a) (φ b))
-          (link : Link links i a) (up : (y : ℕ) → free y (φ a) ≡ true → free y (φ i) ≡ true) where
+      module _ (m : Member) (s l : ℕ) {a x b : ℕ} (entry : Parts links cells φ a (aFunction x b)) (link : Link links i a) (up : (y : ℕ) → free y (φ a) ≡ true → free y (φ i) ≡ true) where
         abbrev run : ℤ → Value
-        run z = valueOf (evaluate xs (bind (keyAt cells a) (Number z) ρ) (φ b))
+        run z = valueOf (evaluate xs (bind x (Number z) ρ) (φ b))
 
         a-n : a < n
         a-n = omega arith
@@ -432,55 +428,53 @@ module _ (links cells waits : List ℕ) (xs : List ℤ) (n : ℕ) (φ : ℕ → 
         b-n′ : b < n
         b-n′ = omega arith
 
-        inner : (y : ℕ) → free y (φ b) ≡ true → (keyAt cells a ≡ y → ⊥) → free y (φ a) ≡ true
-        inner y h q = ap (free y) ea ∙ free-function y (keyAt cells a) (φ b) ∙ rw (ne-eqb (keyAt cells a) y q, h)
+        inner : (y : ℕ) → free y (φ b) ≡ true → (x ≡ y → ⊥) → free y (φ a) ≡ true
+        inner y h q = ap (free y) (entry .form) ∙ free-function y x (φ b) ∙ rw (ne-eqb x y q, h)
 
         -- what the body sees without the function's variable, entry i sees
-        sees-rest : (p : ℕ) → Sees links φ b p → free (keyAt cells a) (φ p) ≡ false → getD frame p 0 ≡ packOf (value p)
+        sees-rest : (p : ℕ) → Sees links φ b p → free x (φ p) ≡ false → getD frame p 0 ≡ packOf (value p)
         sees-rest p t nf =
             let low = sees-below links φ b p t in
             let mid : (y : ℕ) → free y (φ p) ≡ true → free y (φ a) ≡ true = λ y h. inner y (sees-free links φ b p t y h) (λ q. never h (subst (λ (k : ℕ). free k (φ p) ≡ false) q nf)) in
-            below p (omega arith) (down i a p link (down a b p (b-a, inl fa) t mid) (λ y h. up y (mid y h)))
+            below p (omega arith) (down i a p link (down a b p (entry .low, inl (entry .first)) t mid) (λ y h. up y (mid y h)))
 
         conclude-right : (t : Tally) → t ≡ Tallies.gathered begun (map run (readingsIn xs s l)) → concludeOf (memberOfKind (memberKind m)) t ≡ packOf (ofRuns m (map run (readingsIn xs s l)))
         unfolding concludeOf
         conclude-right t e = rw (member-found m, e) (ap packOf (finished-is m (map run (readingsIn xs s l))))
 
-        finish-run : (v : ℕ)
-            → finishOf (graph links waits xs) go frame i (taskOf (memberKind m) s l b v)
+        finish-run : (v : ℕ) → ownOf (getD waits b 0) (getD waits a 0) ≡ v → v ≤ tableEntries
+            → finishOf (graph links waits xs) go frame i (taskRun links waits a (memberKind m) s l)
             ≡ concludeOf (memberOfKind (memberKind m)) (overOf go b (gathered links waits v b) v frame begun (readingsIn xs s l))
         unfolding finishOf
-        finish-run v = rw (ne-eqb (memberKind m) functionKind (λ e. omega arith))
+        finish-run v o h =
+            ap (finishOf (graph links waits xs) go frame i) (run-task links waits xs frame i (memberKind m) a b s l v (entry .kind) (entry .first) (entry .low) o h)
+            ∙ rw (ne-eqb (memberKind m) functionKind (λ e. omega arith))
 
         -- a body that does not await the variable comes to the same for every reading
-        still : free (keyAt cells a) (φ b) ≡ false → (zs : List ℤ) (t : Tally) → overOf go b (gathered links waits 0 b) 0 frame t zs ≡ Tallies.gathered t (map run zs)
+        still : free x (φ b) ≡ false → (zs : List ℤ) (t : Tally) → overOf go b (gathered links waits 0 b) 0 frame t zs ≡ Tallies.gathered t (map run zs)
         unfolding overOf fillOf gathered Code.bound Tallies.gathered
         still e [] t = refl
         still e (z ∷ zs) t =
-            let is : unpackOf (getD frame b 0) ≡ run z = opened b b-n′ (sees-rest b (here b) e) ∙ ap valueOf (sym (unbound-same xs ρ (keyAt cells a) (Number z) (φ b) e)) in
+            let is : unpackOf (getD frame b 0) ≡ run z = opened b b-n′ (sees-rest b (here b) e) ∙ ap valueOf (sym (unbound-same xs ρ x (Number z) (φ b) e)) in
             rw is (turn (Tallies.stepped t (run z)) _ (map run zs) (Tallies.stepped t (run z) .stopped) refl (still e zs (Tallies.stepped t (run z))))
 
         run-right : finishOf (graph links waits xs) go frame i (taskRun links waits a (memberKind m) s l) ≡ packOf (ofRuns m (map run (readingsIn xs s l)))
-        run-right = split (free (keyAt cells a) (φ b)) with-own without-own
+        run-right = split (free x (φ b)) with-own without-own
           where
-            with-own : free (keyAt cells a) (φ b) ≡ true → finishOf (graph links waits xs) go frame i (taskRun links waits a (memberKind m) s l) ≡ packOf (ofRuns m (map run (readingsIn xs s l)))
+            with-own : free x (φ b) ≡ true → finishOf (graph links waits xs) go frame i (taskRun links waits a (memberKind m) s l) ≡ packOf (ofRuns m (map run (readingsIn xs s l)))
             with-own e =
-                let o = own-some a b a-n b-a ea e in
+                let o = own-some a-n entry e in
                 let j : ℕ = o .at in
                 let jn : j < n = omega (arith, o .low) in
                 let rest : (p : ℕ) → Sees links φ b p → free (keyAt cells j) (φ p) ≡ false → getD frame p 0 ≡ packOf (value p) =
                 λ p t nf. sees-rest p t (subst (λ (k : ℕ). free k (φ p) ≡ false) (o .key) nf) in
-                ap (finishOf (graph links waits xs) go frame i) (run-task links waits xs frame i (memberKind m) a b s l (suc j) ka fa b-a (o .is) (omega (arith, good .most)))
-                ∙ finish-run (suc j)
+                finish-run (suc j) (o .is) (omega (arith, good .most))
                 ∙ conclude-right _
                 (over-right links cells waits xs n φ good j jn (o .kind) go f right ρ plain b b-n′ (omega arith) (readingsIn xs s l) (small-window xs (good .small) s l) frame len rest begun
                 ∙ ap (λ (k : ℕ). Tallies.gathered begun (map (λ z. valueOf (evaluate xs (bind k (Number z) ρ) (φ b))) (readingsIn xs s l))) (o .key))
 
-            without-own : free (keyAt cells a) (φ b) ≡ false → finishOf (graph links waits xs) go frame i (taskRun links waits a (memberKind m) s l) ≡ packOf (ofRuns m (map run (readingsIn xs s l)))
-            without-own e =
-                ap (finishOf (graph links waits xs) go frame i) (run-task links waits xs frame i (memberKind m) a b s l 0 ka fa b-a (own-none a b a-n b-a ea e) (omega arith))
-                ∙ finish-run 0
-                ∙ conclude-right _ (still e (readingsIn xs s l) begun)
+            without-own : free x (φ b) ≡ false → finishOf (graph links waits xs) go frame i (taskRun links waits a (memberKind m) s l) ≡ packOf (ofRuns m (map run (readingsIn xs s l)))
+            without-own e = finish-run 0 (own-none a-n entry e) (omega arith) ∙ conclude-right _ (still e (readingsIn xs s l) begun)
 
       -- only a function's entry comes to a function
       plain-none : (v : Value) → PlainValue v → isFunction v ≡ false
@@ -491,90 +485,91 @@ module _ (links cells waits : List ℕ) (xs : List ℤ) (n : ℕ) (φ : ℕ → 
       plain-none (Missing r) h = absurd h
 
       module _ (m : Member) (a : ℕ) (link : Link links i a) (up : (y : ℕ) → free y (φ a) ≡ true → free y (φ i) ≡ true) where
-        ran : (s l : ℕ) → value a ≡ Function → EntryAt links cells φ a
+        ran : (s l : ℕ) → value a ≡ Function → {q : Node} (k : Fine q) → Parts links cells φ a k
             → finishOf (graph links waits xs) go frame i (taskRun links waits a (memberKind m) s l) ≡ packOf (ofRuns m (map (λ z. runOf (evaluate xs ρ (φ a)) z) (readingsIn xs s l)))
         unfolding evaluate valueOf runOf
-        ran s l r (is-number _ _ e) = never (ap isFunction r) (rw e)
-        ran s l r (is-variable _ _ _ e) = never (ap isFunction r) (rw e (plain-none (lookup ρ (keyAt cells a)) (plain-lookup ρ plain (keyAt cells a))))
-        ran s l r (is-unbound _ e) = never (ap isFunction r) (rw e)
-        ran s l r (is-readings _ e) = never (ap isFunction r) (rw e)
-        ran s l r (is-ask k d _ _ _ _ e) = never (ap isFunction r) (rw e (ask-none k xs (valueOf (evaluate xs ρ (φ d)))))
-        ran s l r (is-call k d c _ _ _ _ _ e) = never (ap isFunction r) (rw e (call-none k xs (valueOf (evaluate xs ρ (φ d))) (valueOf (evaluate xs ρ (φ c))) (runOf (evaluate xs ρ (φ c)))))
-        ran s l r (is-function b ka fa ba e) =
-            let q : evaluate xs ρ (φ a) ≡ runs (λ z. evaluate xs (bind (keyAt cells a) (Number z) ρ) (φ b)) =
-            ap (evaluate xs ρ) e
-            ∙ function-runs (valueOf (evaluate xs (bind (keyAt cells a) Delayed ρ) (φ b))) (settled (bind (keyAt cells a) (Number (pos 0)) ρ) (φ b))
-            (λ z. evaluate xs (bind (keyAt cells a) (Number z) ρ) (φ b))
-            (ap (λ (g : Form). valueOf (evaluate xs ρ g)) (sym e) ∙ r) in
-            run-right m a b s l (link .0) ka fa ba e link up ∙ sym (λ k. packOf (ofRuns m (map (λ z. runOf (q k) z) (readingsIn xs s l))))
+        ran s l r (aNumber _) e = never (ap isFunction r) (rw (e .form))
+        ran s l r (aVariable x) e = never (ap isFunction r) (rw (e .form) (plain-none (lookup ρ x) (plain-lookup ρ plain x)))
+        ran s l r (anUnbound _) e = never (ap isFunction r) (rw (e .form))
+        ran s l r theReadings e = never (ap isFunction r) (rw (e .form))
+        ran s l r (anAsk k d _) e = never (ap isFunction r) (rw (e .form) (ask-none k xs (valueOf (evaluate xs ρ (φ d)))))
+        ran s l r (aCall k d c _) e = never (ap isFunction r) (rw (e .form) (call-none k xs (valueOf (evaluate xs ρ (φ d))) (valueOf (evaluate xs ρ (φ c))) (runOf (evaluate xs ρ (φ c)))))
+        ran s l r (aFunction x b) e =
+            let q : evaluate xs ρ (φ a) ≡ runs (λ z. evaluate xs (bind x (Number z) ρ) (φ b)) =
+            ap (evaluate xs ρ) (e .form)
+            ∙ function-runs (valueOf (evaluate xs (bind x Delayed ρ) (φ b))) (settled (bind x (Number (pos 0)) ρ) (φ b)) (λ z. evaluate xs (bind x (Number z) ρ) (φ b))
+            (ap (λ (g : Form). valueOf (evaluate xs ρ g)) (sym (e .form)) ∙ r) in
+            run-right m s l e link up ∙ sym (λ k. packOf (ofRuns m (map (λ z. runOf (q k) z) (readingsIn xs s l))))
 
         followed : (u : Applied) → RunsOn (value a) u → finishOf (graph links waits xs) go frame i (followOf links waits a (memberKind m) u) ≡ packOf (completed m xs (runOf (evaluate xs ρ (φ a))) u)
         unfolding followOf completed finishOf
         followed (Done v) r = refl
-        followed (Run s l) r = ran s l r (good .entries a (omega (arith, link .0)))
+        followed (Run s l) r = let h : a < n = omega arith in ran s l r (fine good h) (parts good h)
 
       -- a member with one argument
-      call-right : (m : Member) (d a : ℕ) → kindAt links i ≡ memberKind m → firstAt links i ≡ suc d → secondAt links i ≡ suc a → d < i → a < i → φ i ≡ call m (φ d) (φ a) → done ≡ packOf (value i)
+      call-right : (m : Member) (d a : ℕ) (z : arguments m ≡ 1) → Parts links cells φ i (aCall m d a z) → done ≡ packOf (value i)
       unfolding evaluate valueOf
-      call-right m d a k fs ss l l′ e =
-          let left : (y : ℕ) → free y (φ d) ≡ true → free y (φ i) ≡ true = λ y h. ap (free y) e ∙ free-call y m (φ d) (φ a) ∙ rw h in
-          let up : (y : ℕ) → free y (φ a) ≡ true → free y (φ i) ≡ true = λ y h. ap (free y) e ∙ free-call y m (φ d) (φ a) ∙ or-right (free y (φ d)) (free y (φ a)) h in
+      call-right m d a z e =
+          let left : (y : ℕ) → free y (φ d) ≡ true → free y (φ i) ≡ true = λ y h. ap (free y) (e .form) ∙ free-call y m (φ d) (φ a) ∙ rw h in
+          let up : (y : ℕ) → free y (φ a) ≡ true → free y (φ i) ≡ true = λ y h. ap (free y) (e .form) ∙ free-call y m (φ d) (φ a) ∙ or-right (free y (φ d)) (free y (φ a)) h in
           let od : boundedOf (unpackOf (getD frame d 0)) ≡ value d =
-          ap boundedOf (opened d (omega arith) (see d (l, inl fs) left))
+          ap boundedOf (opened d (omega arith) (see d (e .low, inl (e .first)) left))
           ∙ bounded-kept (length xs) (good .few) (value d) (kept d (omega arith) ρ plain) in
-          let oa : unpackOf (getD frame a 0) ≡ value a = opened a (omega arith) (see a (l′, inr ss) up) in
-          ap (finishOf (graph links waits xs) go frame i) (plan-call links waits xs frame i m d a k fs ss l l′)
+          let oa : unpackOf (getD frame a 0) ≡ value a = opened a (omega arith) (see a (e .next, inr (e .second)) up) in
+          ap (finishOf (graph links waits xs) go frame i) (plan-call links waits xs frame i m d a (e .kind) (e .first) (e .second) (e .low) (e .next))
           ∙ (λ t. finishOf (graph links waits xs) go frame i (followOf links waits a (memberKind m) (applied1 m xs (od t) (oa t))))
-          ∙ followed m a (l′, inr ss) up (applied1 m xs (value d) (value a)) (runs-function m xs (value d) (value a))
+          ∙ followed m a (e .next, inr (e .second)) up (applied1 m xs (value d) (value a)) (runs-function m xs (value d) (value a))
           ∙ ap packOf (completed-is m xs (runOf (evaluate xs ρ (φ a))) (value d) (value a))
-          ∙ ap (λ (g : Form). packOf (valueOf (evaluate xs ρ g))) (sym e)
+          ∙ ap (λ (g : Form). packOf (valueOf (evaluate xs ρ g))) (sym (e .form))
 
       -- a function
-      module _ (b : ℕ) (k : kindAt links i ≡ functionKind) (fs : firstAt links i ≡ suc b) (l : b < i) (e : φ i ≡ function (keyAt cells i) (φ b)) where
+      module _ {x b : ℕ} (entry : Parts links cells φ i (aFunction x b)) where
         abbrev base : Value
-        base = valueOf (evaluate xs (bind (keyAt cells i) Delayed ρ) (φ b))
+        base = valueOf (evaluate xs (bind x Delayed ρ) (φ b))
 
         judged : done ≡ Code.functionOf frame (getD waits i 0) (packOf base)
         unfolding finishOf
-        judged = split (free (keyAt cells i) (φ b))
+        judged =
+            ap (finishOf (graph links waits xs) go frame i) (plan-function links waits xs frame i b (entry .kind) (entry .first) (entry .low))
+            ∙ split (free x (φ b))
             (λ h.
-            let o = own-some i b i-n l e h in
+            let o = own-some i-n entry h in
             let j : ℕ = o .at in
             let jn : j < n = omega (arith, o .low) in
-            ap (finishOf (graph links waits xs) go frame i) (plan-function links waits xs frame i b k fs l ∙ judge-again links waits xs frame i b j (o .is) (omega (arith, good .most)))
+            ap (finishOf (graph links waits xs) go frame i) (judge-again links waits xs frame i b j (o .is) (omega (arith, good .most)))
             ∙ ap (Code.functionOf frame (getD waits i 0))
             (set-value links cells waits xs n φ good j jn (o .kind) go f right ρ plain b (omega arith) (omega arith) Delayed tt frame len
             (λ p t nf. rest p t (subst (λ (m : ℕ). free m (φ p) ≡ false) (o .key) nf))
             ∙ ap (λ (m : ℕ). packOf (valueOf (evaluate xs (bind m Delayed ρ) (φ b)))) (o .key)))
             (λ h.
-            ap (finishOf (graph links waits xs) go frame i) (plan-function links waits xs frame i b k fs l ∙ judge-kept links waits xs frame i b (own-none i b i-n l e h))
-            ∙ ap (Code.functionOf frame (getD waits i 0)) (rest b (here b) h ∙ ap (λ r. packOf (valueOf r)) (sym (unbound-same xs ρ (keyAt cells i) Delayed (φ b) h))))
+            ap (finishOf (graph links waits xs) go frame i) (judge-kept links waits xs frame i b (own-none i-n entry h))
+            ∙ ap (Code.functionOf frame (getD waits i 0)) (rest b (here b) h ∙ ap (λ r. packOf (valueOf r)) (sym (unbound-same xs ρ x Delayed (φ b) h))))
           where
-            rest : (p : ℕ) → Sees links φ b p → free (keyAt cells i) (φ p) ≡ false → getD frame p 0 ≡ packOf (value p)
+            rest : (p : ℕ) → Sees links φ b p → free x (φ p) ≡ false → getD frame p 0 ≡ packOf (value p)
             rest p t nf =
                 let low = sees-below links φ b p t in
-                below p (omega arith) (down i b p (l, inl fs) t (λ y h.
-                free-outer i b i-n l e y ∙ rw (ne-eqb (keyAt cells i) y (λ q. never h (subst (λ (m : ℕ). free m (φ p) ≡ false) q nf)), sees-free links φ b p t y h)))
+                below p (omega arith) (down i b p (entry .low, inl (entry .first)) t (λ y h.
+                free-outer i-n entry y ∙ rw (ne-eqb x y (λ q. never h (subst (λ (m : ℕ). free m (φ p) ≡ false) q nf)), sees-free links φ b p t y h)))
 
         function-right : done ≡ packOf (value i)
         unfolding evaluate settled
         function-right =
             judged
-            ∙ function-cell (length xs) (good .few) frame (getD waits i 0) base (settled (bind (keyAt cells i) (Number (pos 0)) ρ) (φ b)) (λ z. evaluate xs (bind (keyAt cells i) (Number z) ρ) (φ b))
-            (kept b (omega arith) (bind (keyAt cells i) Delayed ρ) (tt, plain)) (open-right k ∙ ap (λ (g : Form). not (settled ρ g)) e)
-            ∙ ap (λ (g : Form). packOf (valueOf (evaluate xs ρ g))) (sym e)
+            ∙ function-cell (length xs) (good .few) frame (getD waits i 0) base (settled (bind x (Number (pos 0)) ρ) (φ b)) (λ z. evaluate xs (bind x (Number z) ρ) (φ b))
+            (kept b (omega arith) (bind x Delayed ρ) (tt, plain)) (open-right (entry .kind) ∙ ap (λ (g : Form). not (settled ρ g)) (entry .form))
+            ∙ ap (λ (g : Form). packOf (valueOf (evaluate xs ρ g))) (sym (entry .form))
 
-      step : functionKind ≤ kindAt links i → EntryAt links cells φ i → done ≡ packOf (value i)
-      step h (is-number k _ _) = absurd (omega arith)
-      step h (is-variable k _ _ _) = absurd (omega arith)
-      step h (is-unbound k _) = absurd (omega arith)
-      step h (is-readings k _) = absurd (omega arith)
-      step h (is-function b k fs l e) = function-right b k fs l e
-      step h (is-ask m d k fs ss l e) = ask-right m d k fs ss l e
-      step h (is-call m d a k fs ss l l′ e) = call-right m d a k fs ss l l′ e
+      step : functionKind ≤ kindAt links i → {q : Node} (k : Fine q) → Parts links cells φ i k → done ≡ packOf (value i)
+      step h (aNumber _) e = absurd (omega arith)
+      step h (aVariable _) e = absurd (omega arith)
+      step h (anUnbound _) e = absurd (omega arith)
+      step h theReadings e = absurd (omega arith)
+      step h (aFunction _ _) e = function-right e
+      step h (anAsk m d z) e = ask-right m d z e
+      step h (aCall m d a z) e = call-right m d a z e
 
   -- in every environment, for every fuel above the entry's number
   pub apply-right : (f : ℕ) → GoRight links cells waits xs n φ (applyAt (graph links waits xs) f) f
   unfolding applyAt
   apply-right zero ρ ps frame i i-n i-f k len below = absurd (omega arith)
-  apply-right (suc f) ρ ps frame i i-n i-f k len below = step ρ ps frame i i-n below (applyAt (graph links waits xs) f) f (apply-right f) (omega arith) len k (good .entries i i-n)
+  apply-right (suc f) ρ ps frame i i-n i-f k len below = step ρ ps frame i i-n below (applyAt (graph links waits xs) f) f (apply-right f) (omega arith) len k (fine good i-n) (parts good i-n)

@@ -1,40 +1,34 @@
 -- A table whose entries stand for forms, and what an entry sees of those below it: an entry whose every free name is free all the way up.
 -- Assumes nothing.
-use mathlib.Core.Path.{_≡_}
+use mathlib.Core.Path.{_≡_, refl, _∙_}
 use mathlib.Core.Logic.{_⊎_}
 use mathlib.Core.Bool.{Bool, true, false, cond}
 use mathlib.Core.List.{List}
 use Prim.Native.Nat.{ℕ, zero, suc, _≤_, _<_}
 use native.Mathlib.Omega.{arith}
+use borrow.Author.Tests.{ltb-true}
 use lib.Dec.{eqb}
 use lib.IntN.{ℤ, pos}
 use lib.ListN.{length, getD}
 use lib.Signed.{mag}
 use Rattle.language.specs.Cases.{split}
 use Rattle.language.specs.Limits.{tableEntries, tableReadings}
-use Rattle.members.specs.declared.Member.{Member}
 use Rattle.rules.specs.declared.Value.{Value}
 use Rattle.rules.specs.declared.Value.the-variants.{Number, Window, Function, Delayed, Missing}
 use Rattle.values.specs.Keepable.{Keepable}
 use Rattle.values.specs.Ranges.{down-range}
 use Rattle.values.specs.KeepableApply.{kept-apply0, kept-apply1}
-use Rattle.meaning.specs.Forms.{Form, number, variable, unbound, readings, ask, call, function}
+use Rattle.meaning.specs.Forms.{Form}
 use Rattle.meaning.specs.Evaluation.{Result, plain, runs, valueOf, runOf, Environment, nowhere, bind, lookup, settled, functionOf, evaluate}
-use Rattle.layout.specs.Nodes.{numberKind, variableKind, unboundKind, readingsKind, functionKind, memberKind, numberOfKey}
+use Rattle.layout.specs.Memory.{Node, nodeAt}
+use Rattle.layout.specs.Nodes.{variableKind, build}
 use Rattle.layout.specs.Links.{kindAt, firstAt, secondAt, keyAt}
+use Rattle.table.specs.WellFormed.{keyRight}
+use Rattle.table.specs.Right.{nodeRight}
+use Rattle.table.specs.RightLaws.{right-key, first-low, second-low}
+use Rattle.table.specs.NodeKinds.{Fine, aNumber, aVariable, anUnbound, theReadings, aFunction, anAsk, aCall, nodeForm, build-fine, right-fine}
 use Rattle.table.specs.Waits.{slotA, slotB, hasSlot, awaits}
 use Rattle.refine.specs.Free.{free}
-
--- what entry i is, with the form that it stands for
-pub data EntryAt (links cells : List ℕ) (φ : ℕ → Form) (i : ℕ) : Type 0 where
-  is-number : kindAt links i ≡ numberKind → keyAt cells i < 4294967296 → φ i ≡ number (numberOfKey (keyAt cells i)) → EntryAt links cells φ i
-  is-variable : kindAt links i ≡ variableKind → firstAt links i ≡ 0 → secondAt links i ≡ 0 → φ i ≡ variable (keyAt cells i) → EntryAt links cells φ i
-  is-unbound : kindAt links i ≡ unboundKind → φ i ≡ unbound (keyAt cells i) → EntryAt links cells φ i
-  is-readings : kindAt links i ≡ readingsKind → φ i ≡ readings → EntryAt links cells φ i
-  is-function : (b : ℕ) → kindAt links i ≡ functionKind → firstAt links i ≡ suc b → b < i → φ i ≡ function (keyAt cells i) (φ b)
-      → EntryAt links cells φ i
-  is-ask : (m : Member) (d : ℕ) → kindAt links i ≡ memberKind m → firstAt links i ≡ suc d → secondAt links i ≡ 0 → d < i → φ i ≡ ask m (φ d) → EntryAt links cells φ i
-  is-call : (m : Member) (d a : ℕ) → kindAt links i ≡ memberKind m → firstAt links i ≡ suc d → secondAt links i ≡ suc a → d < i → a < i → φ i ≡ call m (φ d) (φ a) → EntryAt links cells φ i
 
 -- a slot of what an entry awaits is a variable's entry, not above it
 pub record Slot (links : List ℕ) (i v : ℕ) : Type 0 where
@@ -47,7 +41,9 @@ pub record Good (links cells waits : List ℕ) (xs : List ℤ) (n : ℕ) (φ : �
   pub most : n ≤ tableEntries
   pub few : length xs ≤ tableReadings
   pub small : (k : ℕ) → k < length xs → mag (getD xs k (pos 0)) < 2147483648
-  pub entries : (i : ℕ) → i < n → EntryAt links cells φ i
+  -- each entry has a right node, and the form that the node builds
+  pub right : (i : ℕ) → i < n → nodeRight i (nodeAt links cells i) ≡ true
+  pub forms : (i : ℕ) → i < n → φ i ≡ build (nodeAt links cells i) φ
   -- what is awaited is what is free
   pub awaited : (i j : ℕ) → i < n → j < n → kindAt links j ≡ variableKind → awaits (getD waits i 0) (suc j) ≡ free (keyAt cells j) (φ i)
   pub slots : (i v : ℕ) → i < n → 1 ≤ v → hasSlot (getD waits i 0) v ≡ true → Slot links i v
@@ -55,6 +51,38 @@ pub record Good (links cells waits : List ℕ) (xs : List ℤ) (n : ℕ) (φ : �
   pub one : (i j : ℕ) → i < n → j < n → kindAt links i ≡ variableKind → kindAt links j ≡ variableKind → keyAt cells i ≡ keyAt cells j → i ≡ j
   pub filled : (i : ℕ) → i < n → slotA (getD waits i 0) ≡ 0 → slotB (getD waits i 0) ≡ 0
 
+-- ---- an entry by its node
+-- what entry i has: the cells of its node, a right key, lower dependencies, and the form of its kind
+pub record Parts (links cells : List ℕ) (φ : ℕ → Form) (i : ℕ) {q : Node} (k : Fine q) : Type 0 where
+  pub kind : kindAt links i ≡ q .kind
+  pub key : keyAt cells i ≡ q .key
+  pub first : firstAt links i ≡ q .first
+  pub second : secondAt links i ≡ q .second
+  pub keyed : keyRight q ≡ true
+  pub low : q .first ≤ i
+  pub next : q .second ≤ i
+  pub form : φ i ≡ nodeForm k φ
+
+module _ {links cells waits : List ℕ} {xs : List ℤ} {n : ℕ} {φ : ℕ → Form} (good : Good links cells waits xs n φ) {i : ℕ} (h : i < n) where
+  pub fine : Fine (nodeAt links cells i)
+  fine = right-fine i _ (good .right i h)
+
+  pub parts : Parts links cells φ i fine
+  unfolding nodeAt
+  parts =
+      let r = good .right i h in
+      record {
+        kind = refl;
+        key = refl;
+        first = refl;
+        second = refl;
+        keyed = right-key i _ r;
+        low = first-low i _ r;
+        next = second-low i _ r;
+        form = good .forms i h ∙ build-fine fine φ;
+      }
+
+-- ---- what an entry comes to can be kept
 -- the values that variables have: numbers within signed 32 bits, or none yet
 abbrev pub PlainValue : Value → Type 0
 PlainValue (Number z) = mag z < 2147483648
@@ -116,35 +144,37 @@ module _ (links cells waits : List ℕ) (xs : List ℤ) (n : ℕ) (φ : ℕ → 
   -- what every entry comes to can be kept, and so can what a run of it gives
   mutual-kept : (k i : ℕ) → i < k → i < n → (ρ : Environment) → Plain ρ
       → Keepable (length xs) (valueOf (evaluate xs ρ (φ i))) × ((z : ℤ) → mag z < 2147483648 → Keepable (length xs) (runOf (evaluate xs ρ (φ i)) z))
-  unfolding evaluate valueOf runOf
+  unfolding evaluate valueOf runOf keyRight
   mutual-kept zero i h h′ ρ p = absurd (omega arith)
-  mutual-kept (suc k) i h h′ ρ p = by (good .entries i h′) (λ j l σ q. mutual-kept k j (omega arith) (omega arith) σ q)
+  mutual-kept (suc k) i h h′ ρ p = by (fine good h′) (parts good h′) (λ j l σ q. mutual-kept k j (omega arith) (omega arith) σ q)
     where
       wrong : Keepable (length xs) (Missing 2)
       wrong = reason-kept (length xs) 2 (omega arith) (omega arith)
 
-      by : EntryAt links cells φ i
+      by : {q : Node} (k : Fine q) → Parts links cells φ i k
           → ((j : ℕ) → j < i → (σ : Environment) → Plain σ
           → Keepable (length xs) (valueOf (evaluate xs σ (φ j))) × ((z : ℤ) → mag z < 2147483648 → Keepable (length xs) (runOf (evaluate xs σ (φ j)) z)))
           → Keepable (length xs) (valueOf (evaluate xs ρ (φ i))) × ((z : ℤ) → mag z < 2147483648 → Keepable (length xs) (runOf (evaluate xs ρ (φ i)) z))
-      by (is-number _ l e) again = rw e (record { held = down-range 2147483648 (keyAt cells i) (omega arith); inside = tt; reasoned = tt }, λ z m. wrong)
-      by (is-variable _ _ _ e) again = rw e (plain-kept (length xs) (lookup ρ (keyAt cells i)) (plain-lookup ρ p (keyAt cells i)), λ z m. wrong)
-      by (is-unbound _ e) again = rw e (reason-kept (length xs) 1 (omega arith) (omega arith), λ z m. wrong)
-      by (is-readings _ e) again = rw e (record { held = (omega arith, omega (arith, good .few)); inside = omega arith; reasoned = tt }, λ z m. wrong)
-      by (is-function b _ _ l e) again =
-          rw e (
-            function-kept (length xs) (valueOf (evaluate xs (bind (keyAt cells i) Delayed ρ) (φ b)))
-                (settled (bind (keyAt cells i) (Number (pos 0)) ρ) (φ b)) (λ z. evaluate xs (bind (keyAt cells i) (Number z) ρ) (φ b))
-                (again b l (bind (keyAt cells i) Delayed ρ) (tt, p) .0),
-            λ z m. run-function (length xs) (valueOf (evaluate xs (bind (keyAt cells i) Delayed ρ) (φ b)))
-                (settled (bind (keyAt cells i) (Number (pos 0)) ρ) (φ b)) (λ y. evaluate xs (bind (keyAt cells i) (Number y) ρ) (φ b)) z
-                (again b l (bind (keyAt cells i) (Number z) ρ) (m, p) .0),
+      by (aNumber key) e again =
+          rw (e .form) (record { held = down-range 2147483648 key (omega (arith, ltb-true key 4294967296 (e .keyed))); inside = tt; reasoned = tt }, λ z m. wrong)
+      by (aVariable x) e again = rw (e .form) (plain-kept (length xs) (lookup ρ x) (plain-lookup ρ p x), λ z m. wrong)
+      by (anUnbound x) e again = rw (e .form) (reason-kept (length xs) 1 (omega arith) (omega arith), λ z m. wrong)
+      by theReadings e again = rw (e .form) (record { held = (omega arith, omega (arith, good .few)); inside = omega arith; reasoned = tt }, λ z m. wrong)
+      by (aFunction x b) e again =
+          rw (e .form) (
+            function-kept (length xs) (valueOf (evaluate xs (bind x Delayed ρ) (φ b)))
+                (settled (bind x (Number (pos 0)) ρ) (φ b)) (λ z. evaluate xs (bind x (Number z) ρ) (φ b))
+                (again b (e .low) (bind x Delayed ρ) (tt, p) .0),
+            λ z m. run-function (length xs) (valueOf (evaluate xs (bind x Delayed ρ) (φ b)))
+                (settled (bind x (Number (pos 0)) ρ) (φ b)) (λ y. evaluate xs (bind x (Number y) ρ) (φ b)) z
+                (again b (e .low) (bind x (Number z) ρ) (m, p) .0),
           )
-      by (is-ask m d _ _ _ l e) again = rw e (kept-apply0 (length xs) (omega (arith, good .few)) m xs (good .small) (valueOf (evaluate xs ρ (φ d))) (again d l ρ p .0), λ z m. wrong)
-      by (is-call m d a _ _ _ l l′ e) again =
-          rw e (
+      by (anAsk m d _) e again =
+          rw (e .form) (kept-apply0 (length xs) (omega (arith, good .few)) m xs (good .small) (valueOf (evaluate xs ρ (φ d))) (again d (e .low) ρ p .0), λ z m. wrong)
+      by (aCall m d a _) e again =
+          rw (e .form) (
             kept-apply1 (length xs) (omega (arith, good .few)) m xs (good .small) (runOf (evaluate xs ρ (φ a)))
-                (λ z q. again a l′ ρ p .1 z (q .held)) (valueOf (evaluate xs ρ (φ d))) (valueOf (evaluate xs ρ (φ a))) (again d l ρ p .0) (again a l′ ρ p .0),
+                (λ z q. again a (e .next) ρ p .1 z (q .held)) (valueOf (evaluate xs ρ (φ d))) (valueOf (evaluate xs ρ (φ a))) (again d (e .low) ρ p .0) (again a (e .next) ρ p .0),
             λ z m. wrong,
           )
 

@@ -1,11 +1,11 @@
 -- The variables that the pass finds for an entry are those that its form awaits, in the order of first occurrence: so a table of right
 -- nodes, with the forms that they stand for, is one that working out can rely on. Assumes nothing.
-use mathlib.Core.Path.{_≡_, refl, sym, ap, _∙_}
+use mathlib.Core.Path.{_≡_, sym, _∙_}
 use mathlib.Core.Bool.{true, false}
 use mathlib.Core.List.{List}
 use Prim.Native.Nat.{ℕ, suc, _≤_, _<_}
 use native.Mathlib.Omega.{arith}
-use borrow.Author.Tests.{eqb-true, ltb-true, leb-false}
+use borrow.Author.Tests.{eqb-true, leb-false}
 use lib.Dec.{leb, eqb}
 use lib.IntN.{ℤ, pos}
 use lib.ListN.{length, getD, replicate}
@@ -14,57 +14,16 @@ use Rattle.language.specs.Cases.{either}
 use Rattle.language.specs.Limits.{tableEntries, tableReadings}
 use Rattle.meaning.specs.Forms.{Form}
 use Rattle.meaning.specs.Evaluation.{awaited}
-use Rattle.layout.specs.Memory.{Node, nodeAt}
-use Rattle.layout.specs.Nodes.{numberKind, variableKind, unboundKind, readingsKind, functionKind, build}
-use Rattle.table.specs.WellFormed.{keyRight}
+use Rattle.layout.specs.Memory.{nodeAt}
+use Rattle.layout.specs.Nodes.{build}
 use Rattle.table.specs.Right.{nodeRight}
-use Rattle.table.specs.RightLaws.{right-key, first-low, second-low}
-use Rattle.layout.specs.Links.{kindAt, firstAt, secondAt, keyAt}
 use Rattle.table.specs.Waits.{slotA, slotB, hasSlot, waitsFrom}
-use Rattle.table.specs.NodeKinds.{Fine, aNumber, aVariable, anUnbound, theReadings, aFunction, anAsk, aCall, less-one, build-ask, build-call, right-fine}
+use Rattle.table.specs.NodeKinds.{less-one}
 use Rattle.table.specs.AwaitsLaws.{namesOf}
 use Rattle.table.specs.AwaitedForms.{awaited-forms}
 use Rattle.table.specs.WaitsLaws.{Variable, Holds, none, one, two, positive, single, holds-of, found}
-use Rattle.refine.specs.Tables.{EntryAt, is-number, is-variable, is-unbound, is-readings, is-function, is-ask, is-call, Slot, Good}
+use Rattle.refine.specs.Tables.{Slot, Good}
 use Rattle.refine.specs.Shows.{slotNames}
-
--- ---- an entry by its node
-module _ (links cells : List ℕ) (φ : ℕ → Form) (i : ℕ) (right : nodeRight i (nodeAt links cells i) ≡ true)
-    (form : φ i ≡ build (nodeAt links cells i) φ) where
-  entry : EntryAt links cells φ i
-  unfolding nodeAt build keyRight
-  entry = by (nodeAt links cells i) refl (right-fine i (nodeAt links cells i) right)
-    where
-      kind : {n : Node} → nodeAt links cells i ≡ n → kindAt links i ≡ n .kind
-      kind e = ap (λ (n : Node). n .kind) e
-
-      first : {n : Node} → nodeAt links cells i ≡ n → firstAt links i ≡ n .first
-      first e = ap (λ (n : Node). n .first) e
-
-      second : {n : Node} → nodeAt links cells i ≡ n → secondAt links i ≡ n .second
-      second e = ap (λ (n : Node). n .second) e
-
-      low : {d : ℕ} → firstAt links i ≡ suc d → d < i
-      low e = omega (arith, first-low i (nodeAt links cells i) right)
-
-      next : {d : ℕ} → secondAt links i ≡ suc d → d < i
-      next e = omega (arith, second-low i (nodeAt links cells i) right)
-
-      by : (n : Node) → nodeAt links cells i ≡ n → Fine n → EntryAt links cells φ i
-      by _ e (aNumber x) =
-          let k : kindAt links i ≡ numberKind = kind e in
-          is-number k (ltb-true (keyAt cells i) 4294967296 (rw k at (right-key i (nodeAt links cells i) right))) (form ∙ rw k)
-      by _ e (aVariable x) = let k : kindAt links i ≡ variableKind = kind e in is-variable k (first e) (second e) (form ∙ rw k)
-      by _ e (anUnbound x) = let k : kindAt links i ≡ unboundKind = kind e in is-unbound k (form ∙ rw k)
-      by _ e theReadings = let k : kindAt links i ≡ readingsKind = kind e in is-readings k (form ∙ rw k)
-      by _ e (aFunction x b) =
-          let k : kindAt links i ≡ functionKind = kind e in
-          let f : firstAt links i ≡ suc b = first e in
-          is-function b k f (low f) (form ∙ rw (k, f, less-one b))
-      by _ e (anAsk m d a) =
-          is-ask m d (kind e) (first e) (second e) (low (first e)) (form ∙ ap (λ (n : Node). build n φ) e ∙ build-ask m d φ a)
-      by _ e (aCall m d c a) =
-          is-call m d c (kind e) (first e) (second e) (low (first e)) (next (second e)) (form ∙ ap (λ (n : Node). build n φ) e ∙ build-call m d c φ a)
 
 -- ---- what is found, by its slots
 module _ {links cells : List ℕ} {i w : ℕ} {xs : List ℕ} where
@@ -103,9 +62,6 @@ module _ (links cells : List ℕ) (xs : List ℤ) (n : ℕ) (φ : ℕ → Form)
   abbrev pub waits : List ℕ
   waits = waitsFrom links cells n 0 (replicate tableEntries 0)
 
-  entries : (i : ℕ) → i < n → EntryAt links cells φ i
-  entries i h = entry links cells φ i (right i h) (forms i h)
-
   awaits-as : (i : ℕ) → i < n → namesOf (nodeAt links cells) i ≡ awaited (φ i)
   awaits-as = awaited-forms (nodeAt links cells) φ n right forms
 
@@ -128,7 +84,8 @@ module _ (links cells : List ℕ) (xs : List ℤ) (n : ℕ) (φ : ℕ → Form)
         most = most;
         few = few;
         small = small;
-        entries = entries;
+        right = right;
+        forms = forms;
         awaited = λ i j h m k. rw (positive j) (holds-of links cells n most right alone i h (of-form i h) j m k);
         slots = λ i v h. slot-of (of-form i h) v;
         one = single links cells n most right alone;

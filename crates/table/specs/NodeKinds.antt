@@ -12,10 +12,10 @@ use Rattle.members.specs.Members.{arguments, members, memberNumber, memberAt}
 use Rattle.members.specs.MembersLaws.{foundIn, none-of, number-found, few-arguments}
 use Rattle.members.specs.declared.Member.{Member}
 use Rattle.members.specs.declared.Found.the-variants.{Is}
-use Rattle.meaning.specs.Forms.{Form, ask, call}
+use Rattle.meaning.specs.Forms.{Form, number, variable, unbound, readings, ask, call, function}
 use Rattle.layout.specs.Memory.{Node, node}
 use Rattle.layout.specs.Nodes.{numberKind, variableKind, unboundKind, readingsKind, functionKind, firstMember, memberKind, kindCount}
-use Rattle.layout.specs.Nodes.{memberOfKind, memberForm, arity, build}
+use Rattle.layout.specs.Nodes.{memberOfKind, memberForm, arity, numberOfKey, build}
 use Rattle.table.specs.WellFormed.{keyRight}
 use Rattle.table.specs.Right.{nodeRight}
 use Rattle.table.specs.RightLaws.{right-kind, right-key, first-given}
@@ -61,11 +61,31 @@ build-member m f a φ =
       member-found m,
     )
 
-pub build-ask : (m : Member) (f : ℕ) (φ : ℕ → Form) → arguments m ≡ 0 → build (node (memberKind m) 0 (suc f) 0) φ ≡ ask m (φ f)
+build-ask : (m : Member) (f : ℕ) (φ : ℕ → Form) → arguments m ≡ 0 → build (node (memberKind m) 0 (suc f) 0) φ ≡ ask m (φ f)
 build-ask m f φ e = build-member m (suc f) 0 φ ∙ rw (e, less-one f)
 
-pub build-call : (m : Member) (f a : ℕ) (φ : ℕ → Form) → arguments m ≡ 1 → build (node (memberKind m) 0 (suc f) (suc a)) φ ≡ call m (φ f) (φ a)
+build-call : (m : Member) (f a : ℕ) (φ : ℕ → Form) → arguments m ≡ 1 → build (node (memberKind m) 0 (suc f) (suc a)) φ ≡ call m (φ f) (φ a)
 build-call m f a φ e = build-member m (suc f) (suc a) φ ∙ rw (e, less-one f, less-one a)
+
+-- ---- the form that a node stands for, by its kind
+abbrev pub nodeForm : {q : Node} → Fine q → (ℕ → Form) → Form
+nodeForm (aNumber key) φ = number (numberOfKey key)
+nodeForm (aVariable x) φ = variable x
+nodeForm (anUnbound x) φ = unbound x
+nodeForm theReadings φ = readings
+nodeForm (aFunction x b) φ = function x (φ b)
+nodeForm (anAsk m f _) φ = ask m (φ f)
+nodeForm (aCall m f a _) φ = call m (φ f) (φ a)
+
+pub build-fine : {q : Node} (k : Fine q) (φ : ℕ → Form) → build q φ ≡ nodeForm k φ
+unfolding build
+build-fine (aNumber key) φ = refl
+build-fine (aVariable x) φ = refl
+build-fine (anUnbound x) φ = refl
+build-fine theReadings φ = refl
+build-fine (aFunction x b) φ = rw (less-one b)
+build-fine (anAsk m f e) φ = build-ask m f φ e
+build-fine (aCall m f a e) φ = build-call m f a φ e
 
 -- ---- the member of a kind
 record Numbered (ms : List Member) (j n : ℕ) : Type 0 where
