@@ -320,7 +320,8 @@ static inline unsigned formula_cache_run_depth(const formula_cache *cache, uint3
 
 /*
  * Writes a packed name as text, with a zero at its end. A name is packed in base 256, its first byte
- * highest, and is 0 where there is none: that gives the empty text.
+ * highest, and is 0 where there is none: that gives the empty text. Two packed names are equal exactly
+ * if their texts are.
  */
 static inline void formula_name_text(uint64_t name, char text[FORMULA_NAME_BYTES + 1])
 {

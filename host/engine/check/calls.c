@@ -82,6 +82,10 @@ int main(void)
     preview(36, 512);
     edit("-7.div(2)");
     preview(38, 512);
+    edit("\\abcdefgi -> \\abcdefgh -> abcdefgi.add(abcdefgh)");
+    preview(40, 512);
+    edit("\\abcdefgh -> abcdefghi");
+    edit("data.countWhen(1)");
     memset(&cache, 0xff, sizeof cache);
     depth(511);
     depth(512);

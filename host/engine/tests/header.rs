@@ -244,6 +244,10 @@ fn calls_from_c() {
         preview 0 1 1 5 5 0 [] []\n\
         edit 0 0 38 3 2: 37 38 0\n\
         preview 0 1 1 1 -4 0 [] []\n\
+        edit 0 0 42 5 4: 42 41 39 40 7\n\
+        preview 0 1 1 4 0 0 [abcdefgi] [abcdefgh]\n\
+        edit 7 13 0 0 0:\n\
+        edit 9 5 0 0 0:\n\
         depth 0\ndepth 0\n";
     assert_eq!(said("calls"), expected);
 }

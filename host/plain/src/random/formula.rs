@@ -5,7 +5,8 @@ use super::rng::Rng;
 use crate::member::{Kind, Member};
 
 const KINDS: [Kind; 3] = [Kind::Number, Kind::Window, Kind::Function];
-pub(super) const NAMES: [&str; 8] = ["a", "b", "x", "y", "h", "x1", "abcdefgh", "abcdefgi"];
+pub(super) const NAMES: [&str; 12] =
+    ["a", "b", "x", "y", "h", "x1", "abcdefgh", "abcdefgi", "bbcdefgh", "dat", "inn", "let1"];
 const NUMBERS: [&str; 12] =
     ["0", "1", "2", "3", "5", "-1", "-7", "007", "150", "2147483647", "-2147483648", "-0"];
 
