@@ -1,6 +1,7 @@
 //! Words that are spelled nearly alike, in every place that a word can have: two are one name exactly if their bytes are the same.
 
 use engine::compare::Pair;
+use engine::program::root;
 use plain::member::Member;
 use plain::model::Answer;
 use plain::refusal::{DATA_BOUND, NAME_TOO_LONG, UNGRAMMATICAL, WRONG_CALL};
@@ -93,4 +94,24 @@ fn members_by_their_bytes() {
         }
     }
     assert_eq!(found, Member::all().map(|member| member.name()).collect());
+}
+
+/// The crates that read a text declare no array of bytes and write none out: a word is read where it stands.
+#[test]
+fn no_array_of_bytes() {
+    let mut sources = 0;
+    for name in ["language", "members", "lexer", "steps", "reader"] {
+        let folder = root().join("crates").join(name).join("src");
+        for entry in std::fs::read_dir(&folder).expect("the crate has sources") {
+            let path = entry.expect("a file").path();
+            let text = std::fs::read_to_string(&path).expect("the source is text");
+            let code: String =
+                text.lines().map(|line| line.split("//").next().unwrap_or("")).collect();
+            for array in ["u8;", "b\""] {
+                assert!(!code.contains(array), "{}: {array}", path.display());
+            }
+            sources += 1;
+        }
+    }
+    assert!(sources > 10, "{sources}");
 }
