@@ -199,7 +199,7 @@ packed-exactly = Naming.packed-exactly
 pub packed-fits : (text : List ℕ) (p : ℕ) (w : List ℕ) → HasWord text p w → length w ≤ nameBytes → packed w < 2 ^ 64
 packed-fits = Naming.packed-fits
 
--- So a name in use is that of a let or a lambda, and is `data`, exactly if it has its bytes; and so has the name of a member.
+-- So a name in use is that of a let or a lambda, or is `data`, exactly if it is spelled alike; and a word names a member exactly if it is.
 pub same-name-exactly : (text text′ : List ℕ) (p p′ : ℕ) (v w : List ℕ) → HasWord text p v → HasWord text′ p′ w → (sameName v w ≡ true) ↔ (v ≡ w)
 same-name-exactly = Naming.same-name-exactly
 
