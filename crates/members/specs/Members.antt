@@ -81,6 +81,7 @@ namedIn (m ∷ ms) w = cond (sameBytes w (spelled m)) (Is m) (namedIn ms w)
 unfoldable pub memberOf : List ℕ → Found
 memberOf w = namedIn members w
 
+-- none was found
 abbrev pub isUnknown : Found → Bool
 isUnknown f = ifMember true f (λ m. false)
 
