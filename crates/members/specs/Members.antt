@@ -118,10 +118,11 @@ kindNumber Kinds.Number = 1
 kindNumber Kinds.Window = 2
 kindNumber Kinds.Function = 3
 
--- a name as the code has it: its first bytes packed, the others packed, and how many there are; each number has room for eight
+-- the most bytes of a name as the code has it: two numbers, with room for eight each
 abbrev pub longestName : ℕ
 longestName = 2 * nameBytes
 
+-- a name as the code has it: its first eight bytes packed, the others packed, and how many there are
 unfoldable pub packedName : List ℕ → Name
 packedName w = (packed (take nameBytes w), packed (drop nameBytes w), length w)
 

@@ -1,4 +1,4 @@
-//! Words that are spelled nearly alike, in every place that a word can have: two are one name exactly if their bytes are the same.
+//! Words that are spelled nearly alike, in use, bound and as members: two are one name exactly if their bytes are the same.
 
 use engine::compare::Pair;
 use engine::program::root;
@@ -107,7 +107,7 @@ fn no_array_of_bytes() {
             let text = std::fs::read_to_string(&path).expect("the source is text");
             let code: String =
                 text.lines().map(|line| line.split("//").next().unwrap_or("")).collect();
-            for array in ["u8;", "b\""] {
+            for array in ["u8;", "b\"", "[b'"] {
                 assert!(!code.contains(array), "{}: {array}", path.display());
             }
             sources += 1;
