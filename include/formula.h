@@ -1,5 +1,5 @@
 /*
- * The formula engine: open, edit and preview, over memory that the caller lends. C99 or later, and C++.
+ * The formula engine: open, edit, preview and print, over memory that the caller lends. C99 or later, and C++.
  *
  * The engine has no memory of its own. All that it keeps between calls stands in a cache of four slices
  * (23,560 bytes); all else is on the stack during a call. It allocates nothing, keeps no pointer after a
@@ -56,14 +56,14 @@ extern "C" {
 
 /*
  * Refusals. Where more than one applies: 1 to 4 by number; then, of 5 to 12, the one with the lowest byte
- * place, and at one place the lowest number; then 13 or 14.
+ * place, and at one place the lowest number; then 13 or 14; then 15; then 16.
  */
 enum formula_refusal {
     FORMULA_ACCEPTED = 0,
     FORMULA_REFUSAL_TEXT_TOO_LONG = 1,      /* edit: text over 1,024 bytes */
     FORMULA_REFUSAL_RECORDING_TOO_LONG = 2, /* open: over 1,024 readings */
     FORMULA_REFUSAL_MEMORY_TOO_SMALL = 3,   /* all: a slice of the cache, or the list of places, is too short */
-    FORMULA_REFUSAL_CACHE_ILL_FORMED = 4,   /* edit, preview: ill-formed contents; open it again */
+    FORMULA_REFUSAL_CACHE_ILL_FORMED = 4,   /* edit, preview, print: ill-formed contents; open it again */
     FORMULA_REFUSAL_UNGRAMMATICAL = 5,      /* edit: no grammatical text goes on with this token or end */
     FORMULA_REFUSAL_NUMBER_OUTSIDE = 6,     /* edit: number outside -2147483648 to 2147483647 */
     FORMULA_REFUSAL_NAME_TOO_LONG = 7,      /* edit: name over 8 bytes, not after a dot */
@@ -73,7 +73,9 @@ enum formula_refusal {
     FORMULA_REFUSAL_LAMBDA_REPEATED = 11,   /* edit: \ with the name of a \ around it */
     FORMULA_REFUSAL_TEXT_LIMIT = 12,        /* edit: 17th open mark or 129th part */
     FORMULA_REFUSAL_TABLE_FULL = 13,        /* edit: entries held plus new ones exceed 512 */
-    FORMULA_REFUSAL_NO_SUCH_ENTRY = 14      /* preview: the cache has no entry of this number */
+    FORMULA_REFUSAL_NO_SUCH_ENTRY = 14,     /* preview, print: the cache has no entry of this number */
+    FORMULA_REFUSAL_TEXT_UNFIT = 15,        /* print: the lent bytes are too few, or an edit would give 1 or 5 to 12 */
+    FORMULA_REFUSAL_OTHER_FORM = 16         /* print: the text by itself means another part, as where one waits */
 };
 
 /*
@@ -118,6 +120,12 @@ typedef struct {
     uint64_t other;
 } formula_preview_answer;
 
+/* The answer to a print, 8 bytes. */
+typedef struct {
+    uint32_t refusal; /* enum formula_refusal */
+    uint32_t length;  /* how many bytes the text has; 0 where refused */
+} formula_print_answer;
+
 /*
  * Empties the cache and copies in a recording of 0 to 1,024 readings. The cache may hold anything before.
  * Writes: the readings of the recording, and both heads. The links and cells are not touched.
@@ -152,7 +160,19 @@ formula_preview_answer formula_preview(uint32_t entry, uint32_t allowance, const
                                        size_t cells_length);
 
 /*
- * A whole cache. Only open it, edit and preview it by the calls below; what stands in it is described in
+ * Writes an entry in full, as a text: what its lets stand for is put in their place. The text has no blanks but one
+ * on either side of `->`, no brackets that it can do without, and shortest decimals. An edit of it gives this very
+ * entry again and adds none. Nothing is worked out.
+ * Writes: bytes 0 to length - 1, with no zero behind them. The bytes past them keep their contents.
+ * Refusals: 3, 4, 14, 15, 16.
+ */
+formula_print_answer formula_print(uint32_t entry, uint8_t *bytes, size_t bytes_length, const int32_t *readings,
+                                   size_t readings_length, const uint32_t *heads, size_t heads_length,
+                                   const uint16_t *links, size_t links_length, const uint64_t *cells,
+                                   size_t cells_length);
+
+/*
+ * A whole cache. Only open it, edit, preview and print it by the calls below; what stands in it is described in
  * docs/MEMORY.md. The readings of a window that a preview shows are readings[first] up to
  * readings[first + second - 1].
  */
@@ -176,6 +196,7 @@ FORMULA_ASSERT(edit_answer_has_20_bytes, sizeof(formula_edit_answer) == 20);
 FORMULA_ASSERT(preview_answer_has_40_bytes, sizeof(formula_preview_answer) == 40);
 FORMULA_ASSERT(names_are_at_24_and_32, offsetof(formula_preview_answer, name) == 24 &&
                                            offsetof(formula_preview_answer, other) == 32);
+FORMULA_ASSERT(print_answer_has_8_bytes, sizeof(formula_print_answer) == 8);
 FORMULA_ASSERT(cache_has_its_bytes, sizeof(formula_cache) == FORMULA_CACHE_BYTES);
 FORMULA_ASSERT(cells_make_up_the_cache,
                4 * FORMULA_READINGS_CELLS + 4 * FORMULA_HEADS_CELLS + 2 * FORMULA_LINKS_CELLS +
@@ -212,6 +233,15 @@ static inline formula_preview_answer formula_cache_preview(formula_cache *cache,
     return formula_preview(entry, allowance, cache->readings, FORMULA_READINGS_CELLS, cache->heads,
                            FORMULA_HEADS_CELLS, cache->links, FORMULA_LINKS_CELLS, cache->cells,
                            FORMULA_CELLS_CELLS);
+}
+
+/* As formula_print. FORMULA_TEXT_BYTES bytes are room for any text that is printed. */
+static inline formula_print_answer formula_cache_print(const formula_cache *cache, uint32_t entry, char *text,
+                                                       size_t text_length)
+{
+    return formula_print(entry, (uint8_t *)text, text_length, cache->readings, FORMULA_READINGS_CELLS,
+                         cache->heads, FORMULA_HEADS_CELLS, cache->links, FORMULA_LINKS_CELLS, cache->cells,
+                         FORMULA_CELLS_CELLS);
 }
 
 /*

@@ -5,8 +5,10 @@
  *     formula [RECORDING]
  *
  * The recording is a text file of whole numbers parted by blanks; '#' begins a comment up to the end of its line.
- * Blank lines of the input, and lines that begin with '#', are passed over. The exit status is 0 at the input's
- * end, 1 where the recording can't be used or the output can't be written, 2 for other arguments.
+ * Blank lines of the input, and lines that begin with '#', are passed over. A line of '?' and the number of a part
+ * shows that part of the last formula that was taken in full: as a text of its own, with what its lets stand for put
+ * in. The exit status is 0 at the input's end, 1 where the recording can't be used or the output can't be written, 2
+ * for other arguments.
  */
 #define _POSIX_C_SOURCE 200809L
 
@@ -46,6 +48,9 @@
 /* A word of a recording's file; a longer one is no number. */
 #define WORD_BYTES 32
 
+/* What can be typed. */
+#define HELP "a formula, or ? and the number of a part of the last one, to see it in full"
+
 struct recording {
     int32_t readings[FORMULA_RECORDING_READINGS];
     size_t length;
@@ -57,7 +62,7 @@ struct part {
     size_t word, word_length;
 };
 
-/* A formula on the screen. */
+/* A formula on the screen. The text is the line that was typed last, which may be a question about the formula. */
 struct screen {
     const char *text;
     size_t length;
@@ -273,6 +278,8 @@ static const char *refusal_words(uint32_t refusal)
         "over 16 open marks or 128 parts",
         "the table of 512 entries is full",
         "no such entry",
+        "its text is too long, or would be refused",
+        "its text by itself would mean another part",
     };
     return refusal < sizeof words / sizeof words[0] ? words[refusal] : "an unknown refusal";
 }
@@ -306,6 +313,17 @@ static void label(const struct screen *screen, const struct part *part, char tex
     (void)snprintf(text, 16, "%.*s%s%.*s", mark, screen->text + part->mark, blank, word, screen->text + part->word);
 }
 
+static void print_refused(uint32_t refusal)
+{
+    printf("refused (%" PRIu32 "): %s", refusal, refusal_words(refusal));
+}
+
+/* A part's row, up to what is shown for it. */
+static void print_row(const struct screen *screen, uint32_t part, const char *text)
+{
+    printf("  %3" PRIu32 "  %-15s  entry %3u  ", part, text, (unsigned)screen->places[part]);
+}
+
 static void print_window(const formula_cache *cache, const formula_preview_answer *shown)
 {
     uint32_t at;
@@ -323,7 +341,7 @@ static void print_shown(const formula_cache *cache, const formula_preview_answer
     formula_name_text(shown->name, name);
     formula_name_text(shown->other, other);
     if (shown->refusal != FORMULA_ACCEPTED) {
-        printf("refused (%" PRIu32 "): %s", shown->refusal, refusal_words(shown->refusal));
+        print_refused(shown->refusal);
     } else if (!shown->finished) {
         printf("not yet");
     } else if (shown->kind == FORMULA_KIND_NUMBER) {
@@ -345,7 +363,7 @@ static void print_parts(const formula_cache *cache, const struct screen *screen)
     uint32_t part;
     for (part = 0; part < screen->count; part++) {
         label(screen, &screen->parts[part], text);
-        printf("  %3" PRIu32 "  %-15s  entry %3u  ", part, text, (unsigned)screen->places[part]);
+        print_row(screen, part, text);
         if (screen->is_too_much[part]) {
             printf("too much work: runs %u deep", formula_cache_run_depth(cache, screen->places[part]));
         } else {
@@ -373,7 +391,8 @@ static void print_refusal(const struct screen *screen, const formula_edit_answer
 {
     bool has_place =
         answer->refusal >= FORMULA_REFUSAL_UNGRAMMATICAL && answer->refusal <= FORMULA_REFUSAL_TEXT_LIMIT;
-    printf("  refused (%" PRIu32 "): %s", answer->refusal, refusal_words(answer->refusal));
+    printf("  ");
+    print_refused(answer->refusal);
     if (has_place) {
         printf(", at byte %" PRIu32 "\n", answer->place);
         print_place(screen->text, screen->length, answer->place);
@@ -497,7 +516,7 @@ static void show(formula_cache *cache, struct screen *screen, const formula_edit
            frames == 1 ? "" : "s");
 }
 
-/* ---- Formulas ---- */
+/* ---- Lines ---- */
 
 /* Reads a line, as much of it as there is room for. Gives whether there was one. */
 static bool read_line(FILE *file, char *line, size_t room, size_t *length)
@@ -514,13 +533,19 @@ static bool read_line(FILE *file, char *line, size_t room, size_t *length)
     return is_there;
 }
 
-static bool is_formula(const char *line, size_t length)
+/* The place behind the blanks from a place on. */
+static size_t skip_blanks(const char *line, size_t length, size_t at)
 {
-    size_t at = 0;
     while (at < length && is_blank(line[at])) {
         at++;
     }
-    return at < length && line[0] != '#';
+    return at;
+}
+
+/* Whether a line is blank or a comment. */
+static bool is_passed_over(const char *line, size_t length)
+{
+    return skip_blanks(line, length, 0) == length || line[0] == '#';
 }
 
 static void echo(const char *text, size_t length)
@@ -567,6 +592,46 @@ static void take_formula(formula_cache *cache, const struct recording *recording
     *held += answer.added;
 }
 
+/* The part that a line asks for, by '?' and its number. FORMULA_TEXT_PARTS or more is none. */
+static uint32_t asked_part(const char *line, size_t length)
+{
+    size_t first = skip_blanks(line, length, 1);
+    size_t at = first;
+    uint32_t part = 0;
+    while (at < length && is_digit(line[at]) && part < FORMULA_TEXT_PARTS) {
+        part = 10 * part + (uint32_t)(line[at++] - '0');
+    }
+    return at > first && skip_blanks(line, length, at) == length ? part : FORMULA_TEXT_PARTS;
+}
+
+/* Shows the part that was asked for, of the last formula that was taken. */
+static void show_in_full(const formula_cache *cache, const struct screen *screen)
+{
+    char text[FORMULA_TEXT_BYTES];
+    uint32_t part = asked_part(screen->text, screen->length);
+    formula_print_answer answer;
+    if (part >= screen->count) {
+        printf("  no such part; type " HELP "\n");
+        return;
+    }
+    answer = formula_cache_print(cache, screen->places[part], text, sizeof text);
+    print_row(screen, part, "in full");
+    if (answer.refusal != FORMULA_ACCEPTED) {
+        print_refused(answer.refusal);
+    }
+    echo(text, answer.length);
+}
+
+/* Answers a line: a formula, or a question for a part of the last one. No formula begins with '?'. */
+static void take_line(formula_cache *cache, const struct recording *recording, struct screen *screen, uint32_t *held)
+{
+    if (screen->text[0] == '?') {
+        show_in_full(cache, screen);
+    } else {
+        take_formula(cache, recording, screen, held);
+    }
+}
+
 static void run(formula_cache *cache, const struct recording *recording)
 {
     /* One byte more than a text may have, so that a longer line is refused as one. */
@@ -575,18 +640,19 @@ static void run(formula_cache *cache, const struct recording *recording)
     bool is_typed = isatty(fileno(stdin)) == 1;
     uint32_t held = 0;
     screen.text = line;
+    printf("%s", is_typed ? "type " HELP "\n" : "");
     for (;;) {
         printf("%s", is_typed ? "> " : "");
         fflush(stdout);
         if (!read_line(stdin, line, sizeof line, &screen.length)) {
             break;
         }
-        if (is_formula(line, screen.length)) {
+        if (!is_passed_over(line, screen.length)) {
             if (!is_typed) {
                 printf("> ");
                 echo(line, screen.length);
             }
-            take_formula(cache, recording, &screen, &held);
+            take_line(cache, recording, &screen, &held);
         }
     }
 }

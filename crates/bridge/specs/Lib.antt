@@ -1,4 +1,3 @@
-pub mod EntryForms
 pub mod Graphs
 pub mod Recorded
 pub mod Words

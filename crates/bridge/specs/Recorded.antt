@@ -37,7 +37,7 @@ use Rattle.layout.specs.Nodes.{numberKind, functionKind, memberKind, numberOfKe
 use Rattle.table.specs.NodeKinds.{Fine, aNumber, aVariable, anUnbound, theReadings, aFunction, anAsk, aCall, nodeForm, build-fine}
 use Rattle.records.specs.Records.{Named, Recorded, newRecord, numberKey, linked, recordScoped, recordName, behind, recordE, recordC, recordA, recordM, recordsOf}
 use Rattle.formulas.specs.Formulas.{formulas}
-use Rattle.bridge.specs.EntryForms.{formsOf}
+use Rattle.table.specs.EntryForms.{formsOf}
 use Rattle.bridge.specs.Graphs.{nodes, kids-function, kids-ask, kids-call, among-one, among-two}
 
 -- the form of a record

@@ -1,24 +1,20 @@
 -- Why the steps of an edit are those of its definition. Assumes nothing.
 use mathlib.Core.Path.{_≡_, refl, sym, ap, _∙_}
-use mathlib.Core.Bool.{true, false, _&&_, and-eq-true-iff}
+use mathlib.Core.Bool.{true, false}
 use mathlib.Core.List.{List, [], _∷_, map}
 use Prim.Native.Nat.{ℕ, _-_, _≤_, _<_}
 use native.Mathlib.Omega.{arith}
-use borrow.Author.Tests.{lt-ltb, le-ltb, le-leb, lt-leb, leb-true}
-use lib.Dec.{leb}
+use borrow.Author.Tests.{lt-ltb, le-ltb, le-leb, lt-leb}
 use lib.IntN.{ℤ}
 use lib.ListN.{length, getD, take, length-map}
 use lib.Seq.{take-at, length-take-le}
-use Rattle.language.specs.Limits.{textBytes, textParts, tableEntries, tableReadings}
+use Rattle.language.specs.Limits.{textBytes, textParts, tableEntries}
 use Rattle.model.specs.Model.{edited, written}
-use Rattle.layout.specs.Memory.{Memory, fits, entryCount, nodeAt, memory}
-use Rattle.table.specs.WellFormed.{distinct, wellFormed}
+use Rattle.layout.specs.Memory.{Memory, fits, entryCount, memory}
+use Rattle.table.specs.WellFormed.{wellFormed}
 use Rattle.table.specs.Bind.{appendAll}
-use Rattle.table.specs.Right.{rightAt}
-use Rattle.layout.specs.Numbered.{numbered, allFrom}
+use Rattle.layout.specs.Numbered.{numbered}
 use Rattle.layout.specs.Held.{freshAt}
-use Rattle.table.specs.Checked.{entriesRight}
-use Rattle.table.specs.CheckedLaws.{well-is}
 use Rattle.binder.specs.Written.{placed}
 use Rattle.planner.specs.declared.plan.Plan.{Plan}
 use Rattle.planner.specs.Plans.{Planned}
@@ -27,20 +23,6 @@ use Rattle.interface.specs.declared.answers.Edited.the-variants as E
 use Rattle.interface.specs.Calls.{editAnswer, editMemory}
 use Rattle.interface.specs.Effects.{Edits}
 use Rattle.calls.specs.Editing.{EditsRead}
-
--- What a well-formed cache promises to binding.
-module _ (heads links cells : List ℕ) (well : (readings : List ℤ) → wellFormed (memory readings heads links cells) ≡ true) (count : ℕ) (is : count ≡ getD heads 0 0) where
-  tests : (leb count tableEntries && (leb (getD heads 1 0) tableReadings && entriesRight links cells (getD heads 1 0) count)) ≡ true
-  tests = rw is (sym (well-is [] heads links cells) ∙ well [])
-
-  pub well-few : count ≤ tableEntries
-  well-few = leb-true count tableEntries (and-eq-true-iff _ _ .0 tests .0)
-
-  pub well-distinct : distinct (numbered (nodeAt links cells) 0 count) ≡ true
-  unfolding entriesRight
-  well-distinct =
-      let entries = and-eq-true-iff (leb (getD heads 1 0) tableReadings) _ .0 (and-eq-true-iff (leb count tableEntries) _ .0 tests .1) .1 in
-      and-eq-true-iff _ _ .0 (and-eq-true-iff (allFrom (rightAt links cells) count 0) _ .0 entries .1) .0
 
 -- What an accepted plan promises to the writes.
 pub plan-room : (links cells text : List ℕ) (count : ℕ) (p : Plan) (P N F : List ℕ)

@@ -40,7 +40,7 @@ use Rattle.table.specs.AwaitedBuild.{awaited-build}
 use Rattle.table.specs.NodeKinds.{Fine, aNumber, aVariable, anUnbound, theReadings, aFunction, anAsk, aCall, not-member, member-arity, nodeForm, build-fine}
 use Rattle.formulas.specs.Formulas.{formulas, IsReading}
 use Rattle.bridge.specs.Graphs.{nodes, graph-laws, equality, kids-function, kids-ask, kids-call, among-first, among-second}
-use Rattle.bridge.specs.EntryForms.{formsOf}
+use Rattle.table.specs.EntryForms.{formsOf}
 use Rattle.bridge.specs.Proper.{Shape, Proper}
 use Rattle.bridge.specs.FormulaLaws.{formula-laws}
 use Rattle.demand.specs.Holds.{withMarks, holds, markOf, keptFor, Ok, Written}

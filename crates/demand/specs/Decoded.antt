@@ -23,7 +23,7 @@ use Rattle.table.specs.NodeKinds.{right-fine}
 use Rattle.binder.specs.AppendedLaws.{Well}
 use Rattle.formulas.specs.Formulas.{formulas}
 use Rattle.bridge.specs.Graphs.{nodes, graph-laws, equality, among-one, among-two}
-use Rattle.bridge.specs.EntryForms.{formsOf}
+use Rattle.table.specs.EntryForms.{formsOf}
 use Rattle.bridge.specs.FormulaLaws.{tests}
 use Rattle.demand.specs.Standing.{placed-all, count-nodes}
 use Rattle.demand.specs.Needs.{node-nth}
@@ -31,7 +31,7 @@ use Rattle.demand.specs.Needs.{node-nth}
 -- ---- a right node is of one of the kinds, and its dependencies are lower
 
 module _ (i : ℕ) (n : Node) (r : nodeRight i n ≡ true) where
-  lower : (j : ℕ) → among j (kids n) ≡ true → j < i
+  pub lower : (j : ℕ) → among j (kids n) ≡ true → j < i
   unfolding kids member
   lower j = by (arity (n .kind)) refl
     where

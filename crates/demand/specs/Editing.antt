@@ -27,20 +27,20 @@ use Rattle.model.specs.Entries.{forms-holdAll, holdAll-as}
 use Rattle.model.specs.Invariant.{Invariant}
 use Rattle.model.specs.Graph.{AllPlaced, decodes}
 use Rattle.model.specs.Binder as Binder
-use Rattle.layout.specs.Memory.{Memory, Node, Entry, entryCount, entriesOf, nodesOf}
+use Rattle.layout.specs.Memory.{Memory, Node, Entry, fits, entryCount, entriesOf, nodesOf}
 use Rattle.table.specs.WellFormed.{wellFormed}
 use Rattle.table.specs.Bind.{Bound, appendAll}
 use Rattle.records.specs.Records.{Recorded, recordsOf}
 use Rattle.formulas.specs.Formulas.{formulas, parsed}
 use Rattle.bridge.specs.Graphs.{nodes, graph-laws}
 use Rattle.bridge.specs.Recorded.{formIn, length-forms, decode-append, Unfolds, unfolds}
-use Rattle.bridge.specs.EntryForms.{formsOf}
+use Rattle.table.specs.EntryForms.{formsOf}
 use Rattle.bridge.specs.FormulaLaws.{formula-laws}
 use Rattle.interface.specs.Calls.{boundTo, editedAs, editedMemory, readAnswer, readMemory, editAnswer, editMemory}
 use Rattle.demand.specs.Holds.{withMarks, holds, Ok, Written}
 use Rattle.demand.specs.Bound.{relinkBy, relinks, asBound, all-same, forms-same, valid-same}
 use Rattle.binder.specs.AppendedLaws.{newEntry}
-use Rattle.demand.specs.Appended.{lengths, long-enough, entries-length, grown}
+use Rattle.demand.specs.Appended.{lengths, long-enough, entries-length, Grown, grown}
 use Rattle.demand.specs.Standing.{stands-placed, decoded, more, forms-joined, joined-append, size-held, count-nodes}
 
 -- the entries held, before a record is bound
@@ -161,6 +161,23 @@ module _ (m : Memory) (placed : AllPlaced formulas nodes 0 (nodesOf (entriesOf m
   nodes-new [] = refl
   nodes-new (n ∷ l) = ap (λ (r : List Node). n ∷ r) (nodes-new l)
 
+  -- the entries after an edit that is accepted, in memory of the cache's size
+  module _ (whole : fits m ≡ true) (h : ltb tableEntries (length (b .nodes)) ≡ false) where
+    pub grows : Grown m (appendAll m new) new
+    grows =
+        let room = ltb-false tableEntries (length (b .nodes)) h in
+        let all = ap length nodes-are ∙ length-append ns new in
+        let cn = count-nodes m in
+        grown m new (lengths m whole) (omega arith)
+
+    pub nodes-after : nodesOf (entriesOf (appendAll m new)) ≡ b .nodes
+    nodes-after =
+        ap nodesOf (grows .entries) ∙ map-append (λ (x : Entry). x .node) (entriesOf m) (map newEntry new) ∙ ap (λ (l : List Node). ns ++ l) (nodes-new new)
+        ∙ sym nodes-are
+
+    pub forms-after : formsOf (nodesOf (entriesOf (appendAll m new))) ≡ gs
+    forms-after = ap formsOf nodes-after ∙ sym (decoded (b .nodes) gs (fitted .stands))
+
   -- of a cache that was opened and kept
   module _ (o : Ok m) where
     written-new : (l : List Node) → All Written (map newEntry l)
@@ -171,14 +188,10 @@ module _ (m : Memory) (placed : AllPlaced formulas nodes 0 (nodesOf (entriesOf m
         → Done (appendAll m new) (Model.editedTo formulas (holds m) es (formsByPlace e) (formOf e))
         (edited (getD (b .numbers) (R .root) 0) (length (R .places)) (length (b .nodes) - entryCount m) (map (λ (j : ℕ). getD (b .numbers) j 0) (R .places)))
     accepted h =
-        let room = ltb-false tableEntries (length (b .nodes)) h in
-        let all = ap length nodes-are ∙ length-append ns new in
-        let cn = count-nodes m in
-        let G = grown m new (lengths m (o .whole)) (omega arith) in
+        let G = grows (o .whole) h in
         let ge = G .entries in
-        let gn : nodesOf (entriesOf (appendAll m new)) ≡ b .nodes =
-        ap nodesOf ge ∙ map-append (λ (x : Entry). x .node) (entriesOf m) (map newEntry new) ∙ ap (λ (l : List Node). ns ++ l) (nodes-new new) ∙ sym nodes-are in
-        let gf : formsOf (nodesOf (entriesOf (appendAll m new))) ≡ fs ++ added = ap formsOf gn ∙ sym (decoded (b .nodes) gs (fitted .stands)) ∙ grown-forms in
+        let gn = nodes-after (o .whole) h in
+        let gf : formsOf (nodesOf (entriesOf (appendAll m new))) ≡ fs ++ added = forms-after (o .whole) h ∙ grown-forms in
         record {
           answer =
               λ t.

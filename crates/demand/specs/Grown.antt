@@ -34,7 +34,7 @@ use Rattle.records.specs.Records.{recordsOf}
 use Rattle.formulas.specs.Formulas.{formulas, parsed}
 use Rattle.bridge.specs.Graphs.{nodes, graph-laws, equality}
 use Rattle.bridge.specs.Recorded.{length-forms}
-use Rattle.bridge.specs.EntryForms.{formsOf}
+use Rattle.table.specs.EntryForms.{formsOf}
 use Rattle.bridge.specs.Proper.{Proper}
 use Rattle.bridge.specs.FormulaLaws.{readable}
 use Rattle.interface.specs.Calls.{boundTo, tooMany, editedMemory, readMemory}

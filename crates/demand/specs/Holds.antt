@@ -19,7 +19,7 @@ use Rattle.model.specs.Graph.{AllPlaced}
 use Rattle.layout.specs.Memory.{Memory, Kept, Entry, fits, readingCount, recordingOf, entriesOf, nodesOf, nothingKept}
 use Rattle.formulas.specs.Formulas.{formulas}
 use Rattle.bridge.specs.Graphs.{nodes}
-use Rattle.bridge.specs.EntryForms.{formsOf}
+use Rattle.table.specs.EntryForms.{formsOf}
 use Rattle.interface.specs.Answers.{namesOf}
 
 -- what an entry shows, by what is kept of it

@@ -16,3 +16,7 @@ pub mod WorkedCount
 pub mod AnyCache
 pub mod Decoded
 pub mod Grown
+pub mod ReadBack
+pub mod Printing
+pub mod EditedForms
+pub mod PrintedEntries

@@ -43,7 +43,7 @@ use Rattle.refine.specs.Waiting.{waits-names, waits-full, good}
 use Rattle.refine.specs.Counts.{chosenIn, work-count, work-left}
 use Rattle.formulas.specs.Formulas.{formulas, IsReading}
 use Rattle.bridge.specs.Graphs.{nodes, graph-laws, kids-function, kids-ask, kids-call, among-first, among-second}
-use Rattle.bridge.specs.EntryForms.{formsOf}
+use Rattle.table.specs.EntryForms.{formsOf}
 use Rattle.bridge.specs.Proper.{Proper}
 use Rattle.bridge.specs.FormulaLaws.{formula-laws}
 use Rattle.interface.specs.Answers.{shownOf, previewReply}

@@ -21,7 +21,7 @@ use Rattle.table.specs.Bind.{relink, Bound, bindOne, bindAll}
 use Rattle.formulas.specs.Formulas.{formulas}
 use Rattle.bridge.specs.Graphs.{nodes, graph-laws}
 use Rattle.bridge.specs.Recorded.{length-forms}
-use Rattle.bridge.specs.EntryForms.{formsOf}
+use Rattle.table.specs.EntryForms.{formsOf}
 use Rattle.demand.specs.Holds.{withMarks, markOf}
 use Rattle.binder.specs.AppendedLaws.{newEntry}
 use Rattle.demand.specs.Appended.{entries-length}

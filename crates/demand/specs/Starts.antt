@@ -34,7 +34,7 @@ use Rattle.table.specs.CheckedLaws.{well-is}
 use Rattle.table.specs.RightLaws.{right-key, right-at}
 use Rattle.formulas.specs.Formulas.{formulas}
 use Rattle.bridge.specs.Graphs.{nodes, graph-laws, number-key}
-use Rattle.bridge.specs.EntryForms.{formsOf}
+use Rattle.table.specs.EntryForms.{formsOf}
 use Rattle.bridge.specs.FormulaLaws.{formula-laws}
 use Rattle.layout.specs.Links.{kindAt, keyAt}
 use Rattle.table.specs.Waits.{slotA, slotB}

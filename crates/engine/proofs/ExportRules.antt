@@ -14,7 +14,7 @@ use Rattle.language.specs.Cases.{split}
 use Rattle.language.specs.Limits.{textBytes, textParts}
 use Rattle.grammar.specs.Reading.{Reading, tree, refused as refusedAt}
 use Rattle.grammar.specs.Machine.{readText}
-use Rattle.model.specs.Model.{refused, opened, edited, notYet, finished}
+use Rattle.model.specs.Model.{refused, opened, edited, notYet, finished, printed}
 use Rattle.layout.specs.Memory.{Memory, fits}
 use Rattle.table.specs.WellFormed.{wellFormed}
 use Rattle.schedule.specs.declared.View.{View}
@@ -26,11 +26,14 @@ use Rattle.interface.specs.declared.answers.Edited.{Edited}
 use Rattle.interface.specs.declared.answers.Edited.the-variants as E
 use Rattle.interface.specs.declared.answers.Previewed.{Previewed}
 use Rattle.interface.specs.declared.answers.Previewed.the-variants as P
+use Rattle.interface.specs.declared.answers.Printed.{Printed}
+use Rattle.interface.specs.declared.answers.Printed.the-variants as R
 use Rattle.interface.specs.declared.answers.EditAnswer.{EditAnswer}
 use Rattle.interface.specs.declared.answers.PreviewAnswer.{PreviewAnswer}
-use Rattle.interface.specs.Answers.{Reply, openNumber, editNumbers, previewNumbers}
+use Rattle.interface.specs.declared.answers.PrintAnswer.{PrintAnswer}
+use Rattle.interface.specs.Answers.{Reply, openNumber, editNumbers, previewNumbers, printNumbers}
 use Rattle.interface.specs.Calls.{tooMany, boundTo, readAnswer, editAnswer}
-use Rattle.interface.specs.Effects.{Opens, Edits, Previews, OpensForC, EditsForC, PreviewsForC, PlaceFits}
+use Rattle.interface.specs.Effects.{Opens, Edits, Previews, Prints, OpensForC, EditsForC, PreviewsForC, PrintsForC, PlaceFits}
 
 module _ (x : Edited) where
   pub edit-done : (w p a : ℕ) → x ≡ E.Done w p a → editNumbers (E.Done w p a) ≡ editNumbers x
@@ -52,7 +55,14 @@ module _ (x : Previewed) where
   pub preview-finished : (k : ℕ) (v : View) (r : PreviewAnswer) → r ≡ previewNumbers (P.Finished k v) → x ≡ P.Finished k v → r ≡ previewNumbers x
   preview-finished k v r h e = h ∙ ap previewNumbers (sym e)
 
-pub ruleset numbers = (needs, edit-done, edit-refused, preview-not-yet, preview-finished, preview-refused)
+module _ (x : Printed) where
+  pub print-done : (l : ℕ) → x ≡ R.Done l → printNumbers (R.Done l) ≡ printNumbers x
+  print-done l e = ap printNumbers (sym e)
+
+  pub print-refused : (n : ℕ) → x ≡ R.Refused n → printNumbers (R.Refused n) ≡ printNumbers x
+  print-refused n e = ap printNumbers (sym e)
+
+pub ruleset numbers = (needs, edit-done, edit-refused, preview-not-yet, preview-finished, preview-refused, print-done, print-refused)
 
 -- the place of a refusal is one of the text's, or its end
 abbrev ReplyFits : Reply → Type 0
@@ -61,6 +71,7 @@ ReplyFits opened = Unit {0}
 ReplyFits (edited whole parts added numbers) = Unit {0}
 ReplyFits (notYet k) = Unit {0}
 ReplyFits (finished k v) = Unit {0}
+ReplyFits (printed t) = Unit {0}
 
 read-place : (m : Memory) (text : List ℕ) (x : Reading) → readText text ≡ x → length text ≤ textBytes → ReplyFits (readAnswer m x)
 unfolding readAnswer parsed
@@ -89,3 +100,7 @@ edits-for-c m places text m′ places′ x r h e = record { answer = x; edits = 
 
 pub previews-for-c : (m : Memory) (n a : ℕ) (m′ : Memory) (x : Previewed) (r : PreviewAnswer) → Previews m n a m′ x → r ≡ previewNumbers x → PreviewsForC m n a m′ r
 previews-for-c m n a m′ x r h e = record { answer = x; previews = h; numbers = e }
+
+pub prints-for-c : (m : Memory) (n : ℕ) (bytes bytes′ : List ℕ) (x : Printed) (r : PrintAnswer) → Prints m n bytes bytes′ x → r ≡ printNumbers x
+    → PrintsForC m n bytes bytes′ r
+prints-for-c m n bytes bytes′ x r h e = record { answer = x; prints = h; numbers = e }

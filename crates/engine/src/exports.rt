@@ -7,12 +7,15 @@ use interface::answers::Edited;
 use interface::answers::Opened;
 use interface::answers::PreviewAnswer;
 use interface::answers::Previewed;
+use interface::answers::PrintAnswer;
+use interface::answers::Printed;
+use printer::print::print;
 use schedule::View;
 ghost use mathlib.Core.Path.{_≡_};
 ghost use Rattle.layout.specs.Memory.{memory};
 ghost use Rattle.interface.specs.declared.answers.Previewed.the-variants.{Finished};
-ghost use Rattle.interface.specs.Answers.{openNumber, editNumbers, previewNumbers};
-ghost use Rattle.interface.specs.Effects.{PlaceFits, OpensForC, EditsForC, PreviewsForC};
+ghost use Rattle.interface.specs.Answers.{openNumber, editNumbers, previewNumbers, printNumbers};
+ghost use Rattle.interface.specs.Effects.{PlaceFits, OpensForC, EditsForC, PreviewsForC, PrintsForC};
 
 fn open_number(x: Opened) -> u32
     ensures { λ r. ⌜ r ≡ openNumber x ⌝ }
@@ -92,6 +95,21 @@ fn preview_numbers(x: Previewed) -> PreviewAnswer
     }
 }
 
+fn print_numbers(x: Printed) -> PrintAnswer
+    ensures { λ r. ⌜ r ≡ printNumbers x ⌝ }
+{
+    match x {
+        Printed::Done { length } => PrintAnswer {
+            refusal: 0,
+            length: length as u32,
+        },
+        Printed::Refused { number } => PrintAnswer {
+            refusal: number as u32,
+            length: 0,
+        },
+    }
+}
+
 // 0, or the number of the refusal.
 #[no_mangle]
 pub extern "C" fn formula_open(
@@ -144,4 +162,21 @@ pub extern "C" fn formula_preview(
         (memory (now (readings .entry)) (now (heads .entry)) (now (links .entry)) (now (cells .exit))) r ⌝ }
 {
     preview_numbers(preview(entry, allowance, readings, heads, links, cells))
+}
+
+// The print's answer as plain numbers; the text is written to the bytes.
+#[no_mangle]
+pub extern "C" fn formula_print(
+    entry: u32,
+    bytes: &mut [u8],
+    readings: &[i32],
+    heads: &[u32],
+    links: &[u16],
+    cells: &[u64],
+) -> PrintAnswer
+    ensures { λ r. ⌜ PrintsForC
+        (memory (now (readings .entry)) (now (heads .entry)) (now (links .entry)) (now (cells .entry)))
+        entry (now (bytes .entry)) (now (bytes .exit)) r ⌝ }
+{
+    print_numbers(print(entry, bytes, readings, heads, links, cells))
 }

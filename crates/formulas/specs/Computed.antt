@@ -15,6 +15,7 @@ use Rattle.rules.specs.Apply
 use Rattle.meaning.specs.Forms
 use Rattle.meaning.specs.Binding
 use Rattle.meaning.specs.Evaluation
+use Rattle.printing.specs.Printed
 use Rattle.model.specs.Lists
 use Rattle.model.specs.Model
 use Rattle.formulas.specs.Formulas.{formulas, parsed}
@@ -31,5 +32,5 @@ unfolding parsed Names.bytes Names.packOnto Names.letWord Names.inWord! Names.da
     Binding.member Binding.formE Binding.called Binding.placesE Binding.orderE Evaluation.valueOf Evaluation.runOf Evaluation.lookup
     Evaluation.settled Evaluation.evaluate Evaluation.hasName Evaluation.joined Evaluation.without Evaluation.awaited Evaluation.shows Lists.countIf
     Lists.onFirsts Lists.member Lists.index Model.onOpen Model.hold Model.holdAll Model.bind Model.onEdit Model.pending Model.look Model.onPreview
-    Model.onRequest
+    Model.printing Model.printFound Model.onPrint Model.onRequest Printed.digitsOnto Printed.decimals Printed.unpackOnto Printed.textOf
 run s c = Model.respond formulas s c

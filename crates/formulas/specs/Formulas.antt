@@ -1,4 +1,4 @@
--- The language of formulas, as the reference model takes it: forms, what they show, and the reader. Assumes nothing: these are definitions.
+-- The language of formulas, as the reference model takes it: forms, what they show, the reader, and the printed texts. Assumes nothing: these are definitions.
 use Prim.Native.Nat.{_<_, _^_}
 use lib.IntN.{ℤ}
 use lib.Signed.{mag}
@@ -7,6 +7,7 @@ use Rattle.grammar.specs.Machine.{readText}
 use Rattle.meaning.specs.Forms.{Form, same, dependency, within, works}
 use Rattle.meaning.specs.Binding.{formOf, formsByPlace, formsInOrder}
 use Rattle.meaning.specs.Evaluation.{Shown, shows}
+use Rattle.printing.specs.Printed.{textOf}
 use Rattle.model.specs.Lists.{All}
 use Rattle.model.specs.Language.{Language, Parsed, rejected, parts}
 
@@ -33,4 +34,5 @@ formulas =
       works = works;
       shows = shows;
       read = λ text. parsed (readText text);
+      print = textOf;
     }

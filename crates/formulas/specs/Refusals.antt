@@ -1,5 +1,5 @@
--- 01, "When a call is declined": refusals 1 to 3, 13 and 14 as calls of the reference model with the number that it answers; one computed
--- check over the list. 5 to 12 are the text's (grammar/Refusals); 4 speaks of memory, which the model has none of. Assumes nothing.
+-- 01, "When a call is declined": refusals 1 to 3, 13 and 14, and 15 and 16 of 02, as calls of the reference model with the number that it
+-- answers; one computed check over the list. 5 to 12 are the text's (grammar/Refusals); 4 speaks of memory, which the model has none of. Assumes nothing.
 use mathlib.Core.Path.{_≡_, refl}
 use mathlib.Core.Bool.{false}
 use mathlib.Core.List.{List, [], _∷_, map}
@@ -7,13 +7,13 @@ use Prim.Native.Nat.{ℕ, zero, suc}
 use lib.IntN.{pos}
 use lib.ListN.{replicate}
 use Rattle.language.specs.Names.{bytes}
-use Rattle.meaning.specs.Forms.{number}
-use Rattle.model.specs.Model.{State, Entry, unmarked, Request, Open, Edit, Preview, Call, refused, edited, start}
+use Rattle.meaning.specs.Forms.{number, variable, function}
+use Rattle.model.specs.Model.{State, Entry, unmarked, Request, Open, Edit, Preview, Print, Call, refused, edited, start}
 use Rattle.formulas.specs.Formulas.{formulas}
 use Rattle.formulas.specs.Computed.{run}
 use Rattle.formulas.specs.Samples.{recording, lent, editOf}
 
--- 1 to 3 by number, 13 and 14
+-- 1 to 3 by number, 13 to 16
 abbrev short : Request formulas → Call formulas
 short q = record { enough = false; request = q }
 
@@ -31,6 +31,14 @@ begun = start formulas recording
 abbrev places : ℕ → List ℕ
 places n = replicate n 0
 
+-- a number; a lambda variable; and a function whose body is a function of the same name
+abbrev heldState : State formulas
+heldState =
+    record {
+      recording = recording;
+      entries = unmarked formulas (number (pos 12345)) ∷ unmarked formulas (variable 97) ∷ unmarked formulas (function 97 (function 97 (variable 97))) ∷ [];
+    }
+
 abbrev declined : List (State formulas × Call formulas × ℕ)
 declined =
     (begun, editOf (replicate 1025 32), 1)
@@ -45,6 +53,14 @@ declined =
     ∷ (fullState, editOf (bytes "512"), 13)
     ∷ (begun, lent (Preview 0 1), 14)
     ∷ (fullState, lent (Preview 512 1), 14)
+    ∷ (begun, short (Print 0 []), 3)
+    ∷ (begun, lent (Print 0 []), 14)
+    -- one byte too few; a lambda with the name of one around it, which the reader declines with 11; both before 16
+    ∷ (heldState, lent (Print 0 (places 4)), 15)
+    ∷ (heldState, lent (Print 2 (places 1024)), 15)
+    ∷ (heldState, lent (Print 1 []), 15)
+    -- a delayed part would be read as an unbound name
+    ∷ (heldState, lent (Print 1 (places 1024)), 16)
     ∷ []
 
 abbrev Declining : Type 0

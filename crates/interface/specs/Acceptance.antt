@@ -1,24 +1,25 @@
--- 01, "When a call is declined": the numbers and places of each call's refusals, what an edit is accepted for, and what a text must be so that
--- no edit is declined for it. That the calls do so is in AcceptanceLaws. Assumes nothing: these are definitions.
+-- 01, "When a call is declined", and 02, T-04: the numbers and places of each call's refusals, what an edit is accepted for, what a text must be
+-- so that no edit is declined for it, and what print reads. That the calls do so is in AcceptanceLaws. Assumes nothing: these are definitions.
 use mathlib.Core.Path.{_≡_}
 use mathlib.Core.Logic.{_⊎_}
 use mathlib.Core.Bool.{true}
 use mathlib.Core.List.{List}
-use Prim.Native.Nat.{ℕ, _≤_}
+use Prim.Native.Nat.{ℕ, _≤_, _<_}
 use lib.ListN.{length}
 use Rattle.language.specs.Limits.{textBytes, textParts, tableEntries}
 use Rattle.grammar.specs.Grammar.{Expression, Spells}
 use Rattle.grammar.specs.KeptLimits.{KeepsLimits}
 use Rattle.grammar.specs.Reading.{tree, tokensOf}
 use Rattle.grammar.specs.Machine.{readText}
-use Rattle.model.specs.Model.{refused, edited}
-use Rattle.layout.specs.Memory.{Memory, fits}
+use Rattle.printing.specs.Printed.{textOf}
+use Rattle.model.specs.Model.{refused, edited, printed}
+use Rattle.layout.specs.Memory.{Memory, fits, entryCount}
 use Rattle.table.specs.WellFormed.{wellFormed}
 use Rattle.records.specs.Records.{recordsOf}
 use Rattle.interface.specs.Answers.{Reply}
-use Rattle.interface.specs.Calls.{boundTo}
+use Rattle.interface.specs.Calls.{boundTo, formAt}
 
--- the numbers and places of the refusals of an open, an edit and a preview: the text's, 5 to 12, have a place in the text or at its end
+-- the numbers and places of the refusals of an open, an edit, a preview and a print: the text's, 5 to 12, have a place in the text or at its end
 abbrev pub OpenRefusal : (number place : ℕ) → Type 0
 OpenRefusal n at = ((n ≡ 2) ⊎ (n ≡ 3)) × (at ≡ 0)
 
@@ -27,6 +28,9 @@ EditRefusal text n at = ((((n ≡ 1) ⊎ (n ≡ 3)) ⊎ ((n ≡ 4) ⊎ (n ≡ 13
 
 abbrev pub PreviewRefusal : (number : ℕ) → Type 0
 PreviewRefusal n = ((n ≡ 3) ⊎ (n ≡ 4)) ⊎ (n ≡ 14)
+
+abbrev pub PrintRefusal : (number : ℕ) → Type 0
+PrintRefusal n = PreviewRefusal n ⊎ ((n ≡ 15) ⊎ (n ≡ 16))
 
 -- the answer to an edit that was accepted
 abbrev pub IsEdited : Reply → Type 0
@@ -53,3 +57,17 @@ InLanguage text = (length text ≤ textBytes) × ((e : Expression) × Spells e (
 -- declined for its text: too long, or refused by the reader
 abbrev pub TextDeclined : Reply → Type 0
 TextDeclined x = (number : ℕ) × (place : ℕ) × (x ≡ refused number place) × ((number ≡ 1) ⊎ ((5 ≤ number) × (number ≤ 12)))
+
+-- none of 3, 4 and 14 comes up: the memory fits, the cache is well-formed, and it holds entry n
+pub record Held (m : Memory) (n : ℕ) : Type 0 where
+  pub whole : fits m ≡ true
+  pub well : wellFormed m ≡ true
+  pub inside : n < entryCount m
+
+-- the text that entry n's form is printed as
+abbrev pub textAt : Memory → ℕ → List ℕ
+textAt m n = textOf (formAt m n)
+
+-- the answer to a print that was accepted
+abbrev pub IsPrinted : Reply → Type 0
+IsPrinted x = (text : List ℕ) × (x ≡ printed text)

@@ -27,13 +27,14 @@ use Rattle.interface.specs.declared.answers.Edited.{Edited}
 use Rattle.interface.specs.declared.answers.Edited.the-variants as E
 use Rattle.interface.specs.declared.answers.EditAnswer.{EditAnswer}
 use Rattle.interface.specs.declared.answers.PreviewAnswer.{PreviewAnswer}
+use Rattle.interface.specs.declared.answers.PrintAnswer.{PrintAnswer}
 use Rattle.interface.specs.declared.answers.Previewed.{Previewed}
 use Rattle.interface.specs.declared.answers.Previewed.the-variants.{NotYet, Finished, Refused}
-use Rattle.interface.specs.Answers.{Reply, openReply, editReply, openNumber, editNumbers, previewNumbers}
-use Rattle.interface.specs.Calls.{boundTo, openAnswer, editAnswer, previewed}
-use Rattle.interface.specs.Effects.{OpensForC, EditsForC, PreviewsForC}
-use Rattle.interface.specs.Acceptance.{OpenRefusal, EditRefusal, PreviewRefusal, IsEdited, Ready, CanBind, InLanguage, TextDeclined}
-use Rattle.interface.specs.Outcomes.{OpenOutcome, open-outcome, is-edited, EditOutcome, edit-outcome, PreviewOutcome, preview-outcome}
+use Rattle.interface.specs.Answers.{Reply, openReply, editReply, printedAs, openNumber, editNumbers, previewNumbers, printNumbers}
+use Rattle.interface.specs.Calls.{boundTo, openAnswer, editAnswer, previewed, printAnswer}
+use Rattle.interface.specs.Effects.{OpensForC, EditsForC, PreviewsForC, PrintsForC}
+use Rattle.interface.specs.Acceptance.{OpenRefusal, EditRefusal, PreviewRefusal, PrintRefusal, IsEdited, Ready, CanBind, InLanguage, TextDeclined, textAt, IsPrinted}
+use Rattle.interface.specs.Outcomes.{OpenOutcome, open-outcome, is-edited, EditOutcome, edit-outcome, PreviewOutcome, preview-outcome, PrintOutcome, print-outcome}
 
 -- ---- open
 
@@ -96,10 +97,10 @@ edit-refusals m places text n at h = by (edit-outcome m places text)
     by (EditOutcome.full t r u l e) = inl (inr (inr (cc)), cc)
     by (EditOutcome.taken t r u l e) = impossible (not-edited h e)
 
-read-in : (text : List ℕ) (e : Expression) → length text ≤ textBytes → readText text ≡ tree e → InLanguage text
+pub read-in : (text : List ℕ) (e : Expression) → length text ≤ textBytes → readText text ≡ tree e → InLanguage text
 read-in text e l h = let r = text-read-plainly text e .0 h in (l, (e, r .0, r .1))
 
-not-read : (text : List ℕ) (n at : ℕ) → readText text ≡ refusedAt n at → ¬ InLanguage text
+pub not-read : (text : List ℕ) (n at : ℕ) → readText text ≡ refusedAt n at → ¬ InLanguage text
 not-read text n at h i = let z = text-read-plainly text (i .1 .0) .1 (i .1 .1, i .1 .2) in impossible (cc)
 
 -- refusal 13 is none of the text's
@@ -142,6 +143,21 @@ preview-refusals m n a k h = by (preview-outcome m n a)
     by (PreviewOutcome.unfinished f w l j e) = impossible (cc)
     by (PreviewOutcome.finished f w l j v e) = impossible (cc)
 
+-- ---- print
+
+pub print-refusals : (m : Memory) (n : ℕ) (bytes : List ℕ) (k at : ℕ) → printAnswer m n bytes ≡ refused k at → PrintRefusal k × (at ≡ 0)
+print-refusals m n bytes k at h = by (print-outcome m n bytes)
+  where
+    by : PrintOutcome m n bytes → PrintRefusal k × (at ≡ 0)
+    by (PrintOutcome.little f e) = (inl (inl (inl (cc))), cc)
+    by (PrintOutcome.ill w e) = (inl (inl (inr (cc))), cc)
+    by (PrintOutcome.none l e) = (inl (inr (cc)), cc)
+    by (PrintOutcome.cramped q l e) = (inr (inl (cc)), cc)
+    by (PrintOutcome.long q l e) = (inr (inl (cc)), cc)
+    by (PrintOutcome.unread q j p u e) = (inr (inl (cc)), cc)
+    by (PrintOutcome.other r d e) = (inr (inr (cc)), cc)
+    by (PrintOutcome.taken r d e) = impossible (cc)
+
 -- ---- for callers in C: a refusal has no number 0
 
 open-some : (m : Memory) (r : List ℤ) (n at : ℕ) → openAnswer m r ≡ refused n at → ¬ (n ≡ 0)
@@ -156,6 +172,11 @@ edit-some m places text n at h z =
 
 preview-some : (m : Memory) (n a k : ℕ) → previewed m n a ≡ Refused k → ¬ (k ≡ 0)
 preview-some m n a k h z = ⊎-elim (⊎-elim (λ p. omega arith) (λ p. omega arith)) (λ p. omega arith) (preview-refusals m n a k h)
+
+print-some : (m : Memory) (n : ℕ) (bytes : List ℕ) (k at : ℕ) → printAnswer m n bytes ≡ refused k at → ¬ (k ≡ 0)
+print-some m n bytes k at h z =
+    ⊎-elim (⊎-elim (⊎-elim (λ p. omega arith) (λ p. omega arith)) (λ p. omega arith)) (⊎-elim (λ p. omega arith) (λ p. omega arith))
+    (print-refusals m n bytes k at h .0)
 
 pub open-zero : (m : Memory) (r : List ℤ) (m′ : Memory) (c : ℕ) → OpensForC m r m′ c → (c ≡ 0) ↔ (openAnswer m r ≡ opened)
 open-zero m r m′ c o = by (o .answer) (o .opens .answer) (o .numbers)
@@ -182,3 +203,23 @@ preview-zero m n a m′ c o = by (o .answer) (o .previews .answer) (ap (λ (y : 
     by (NotYet j) e q = (λ z k h. impossible (cc), λ h. q)
     by (Finished j v) e q = (λ z k h. impossible (cc), λ h. q)
     by (Refused j) e q = (λ z. absurd (preview-some m n a j (sym e) (sym q ∙ z)), λ h. absurd (h j (sym e)))
+
+pub print-zero : (m : Memory) (n : ℕ) (bytes bytes′ : List ℕ) (c : PrintAnswer) → PrintsForC m n bytes bytes′ c
+    → (c .refusal ≡ 0) ↔ IsPrinted (printAnswer m n bytes)
+print-zero m n bytes bytes′ c o = by (print-outcome m n bytes)
+  where
+    given : c .refusal ≡ printNumbers (printedAs (printAnswer m n bytes)) .refusal
+    given = ap (λ (y : PrintAnswer). y .refusal) (o .numbers ∙ ap printNumbers (o .prints .answer))
+
+    declined : {k at : ℕ} → printAnswer m n bytes ≡ refused k at → (c .refusal ≡ 0) ↔ IsPrinted (printAnswer m n bytes)
+    declined {k} {at} e = (λ z. absurd (print-some m n bytes k at e (sym (rw e at given) ∙ z)), λ h. let t = h .1 in impossible (cc))
+
+    by : PrintOutcome m n bytes → (c .refusal ≡ 0) ↔ IsPrinted (printAnswer m n bytes)
+    by (PrintOutcome.little f e) = declined e
+    by (PrintOutcome.ill w e) = declined e
+    by (PrintOutcome.none l e) = declined e
+    by (PrintOutcome.cramped q l e) = declined e
+    by (PrintOutcome.long q l e) = declined e
+    by (PrintOutcome.unread q j p u e) = declined e
+    by (PrintOutcome.other r d e) = declined e
+    by (PrintOutcome.taken r d e) = (λ z. (textAt m n, e), λ h. rw e at given)

@@ -4,9 +4,9 @@ use mathlib.Core.List.{List, [], _∷_}
 use Prim.Native.Nat.{ℕ}
 use lib.Dec.{eqb}
 use lib.IntN.{ℤ, pos, negsuc}
-use lib.ListN.{take}
+use lib.ListN.{length, take}
 use Rattle.meaning.specs.Evaluation.{Shown, aNumber, aWindow, aFunction, aDelay, aReason}
-use Rattle.model.specs.Model.{Answer, refused, opened, edited, notYet, finished}
+use Rattle.model.specs.Model.{Answer, refused, opened, edited, notYet, finished, printed}
 use Rattle.formulas.specs.Formulas.{formulas}
 use Rattle.schedule.specs.declared.View.{View}
 use Rattle.interface.specs.declared.answers.Opened.{Opened}
@@ -15,8 +15,11 @@ use Rattle.interface.specs.declared.answers.Edited.{Edited}
 use Rattle.interface.specs.declared.answers.Edited.the-variants as E
 use Rattle.interface.specs.declared.answers.Previewed.{Previewed}
 use Rattle.interface.specs.declared.answers.Previewed.the-variants as P
+use Rattle.interface.specs.declared.answers.Printed.{Printed}
+use Rattle.interface.specs.declared.answers.Printed.the-variants as R
 use Rattle.interface.specs.declared.answers.EditAnswer.{EditAnswer}
 use Rattle.interface.specs.declared.answers.PreviewAnswer.{PreviewAnswer}
+use Rattle.interface.specs.declared.answers.PrintAnswer.{PrintAnswer}
 
 -- the answers of the reference model
 abbrev pub Reply : Type 0
@@ -57,6 +60,15 @@ previewReply (P.NotYet k) = notYet k
 previewReply (P.Finished k v) = finished k (shownOf v)
 previewReply (P.Refused n) = refused n 0
 
+-- a print answers the length of its text; the answers of other calls are none of a print's, and there is no refusal 0
+abbrev pub printedAs : Reply → Printed
+printedAs (printed text) = R.Done (length text)
+printedAs (refused n at) = R.Refused n
+printedAs opened = R.Refused 0
+printedAs (edited whole parts added numbers) = R.Refused 0
+printedAs (notYet k) = R.Refused 0
+printedAs (finished k v) = R.Refused 0
+
 -- the answers as plain numbers, for callers in C: a refusal's number, 0 for an accepted call, and then its values
 abbrev pub openNumber : Opened → ℕ
 openNumber O.Done = 0
@@ -71,3 +83,7 @@ previewNumbers (P.NotYet k) = record { refusal = 0; finished = 0; worked = k; ki
 previewNumbers (P.Finished k v) =
     record { refusal = 0; finished = 1; worked = k; kind = v .kind; first = v .first; second = v .second; name = v .name; other = v .other }
 previewNumbers (P.Refused n) = record { refusal = n; finished = 0; worked = 0; kind = 0; first = pos 0; second = 0; name = 0; other = 0 }
+
+abbrev pub printNumbers : Printed → PrintAnswer
+printNumbers (R.Done length) = record { refusal = 0; length = length }
+printNumbers (R.Refused n) = record { refusal = n; length = 0 }

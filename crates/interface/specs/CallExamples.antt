@@ -1,23 +1,34 @@
--- Open, preview and fetch over a small cache, computed: what each answers and leaves. Assumes nothing.
+-- Open, preview, fetch and print over a small cache, computed: what each answers and leaves. Assumes nothing.
 use mathlib.Core.Path.{_≡_, refl}
 use mathlib.Core.List.{List, [], _∷_, _++_, map}
 use Prim.Native.Nat.{ℕ, _+_, _*_}
 use lib.IntN.{ℤ, pos}
 use lib.ListN.{replicate, take, drop, length}
 use Rattle.language.specs.Names
+use Rattle.language.specs.Names.{bytes}
 use Rattle.members.specs.Members
+use Rattle.grammar.specs.Tokens
+use Rattle.grammar.specs.Faults
+use Rattle.grammar.specs.Reading
+use Rattle.grammar.specs.Machine
 use Rattle.rules.specs.Values
 use Rattle.rules.specs.Windows
 use Rattle.rules.specs.Rules
 use Rattle.rules.specs.Apply
 use Rattle.values.specs.Packing
 use Rattle.values.specs.Applied
+use Rattle.meaning.specs.Forms
+use Rattle.meaning.specs.Binding
 use Rattle.meaning.specs.Evaluation
+use Rattle.printing.specs.Printed
 use Rattle.layout.specs.Links
 use Rattle.layout.specs.Links.{valueAt}
 use Rattle.layout.specs.Memory
 use Rattle.layout.specs.Memory.{Memory}
 use Rattle.model.specs.Decoding
+use Rattle.model.specs.Model
+use Rattle.model.specs.Model.{refused, printed}
+use Rattle.formulas.specs.Formulas
 use Rattle.layout.specs.Nodes
 use Rattle.table.specs.WellFormed
 use Rattle.table.specs.Waits
@@ -27,8 +38,9 @@ use Rattle.schedule.specs.Works
 use Rattle.schedule.specs.declared.View.{View}
 use Rattle.interface.specs.declared.answers.Previewed.{Previewed}
 use Rattle.interface.specs.declared.answers.Previewed.the-variants.{NotYet, Finished, Refused}
+use Rattle.interface.specs.Answers.{Reply}
 use Rattle.interface.specs.Calls
-use Rattle.interface.specs.Calls.{openMemory, previewed, previewMemory, fetched}
+use Rattle.interface.specs.Calls.{openMemory, previewed, previewMemory, fetched, printAnswer, printBytes}
 
 -- 0 data, 1 and 2 the numbers 1 and 2, 3 data.skip(1), 4 data.skip(1).take(2), 5 data.sum(), none of them worked out; the recording has five of
 -- the readings lent
@@ -99,3 +111,42 @@ pub outcomes-hold :
     ∷ []
 unfolding outcome
 outcomes-hold = refl
+
+-- what a print of entry n answers, and the lent bytes after it
+unfoldable pub printOf : Memory → ℕ → List ℕ → Reply × List ℕ
+unfolding Calls.printAnswer Model.printing Model.filled Formulas.parsed Printed.digitsOnto Printed.decimals Printed.unpackOnto Printed.textOf
+    Memory.fits Memory.nodeAt Memory.keptAt Memory.entriesFrom Nodes.memberOfKind Members.memberAt Nodes.arity Nodes.kids Nodes.sameNode
+    Nodes.wordNumber Nodes.isName WellFormed.wellFormed WellFormed.every WellFormed.keyRight WellFormed.arityRight WellFormed.hasNode WellFormed.distinct
+    Decoding.decodeFrom Nodes.build Evaluation.awaited WellFormed.doneAt WellFormed.allDone WellFormed.namesRight WellFormed.keptRight
+    Packing.isPacked Evaluation.hasName Evaluation.joined Evaluation.without
+    Names.bytes Names.packOnto Names.letWord Names.inWord! Names.dataWord Names.isData Members.spelled Members.arguments Members.sameBytes
+    Members.namedIn Members.memberOf Members.takes Tokens.when Tokens.leading Tokens.decimalOnto Tokens.wordToken Tokens.wordAt Tokens.digitsAt
+    Tokens.minusAt Tokens.markToken Tokens.tokenAt Tokens.scan Faults.faultNumber Faults.opened Faults.inLambda Faults.isAmong Faults.markFault
+    Faults.lambdaFault Faults.letNameFault Faults.lambdaNameFault Faults.nameFault Faults.literalFault Faults.callFault Faults.fault Faults.counted
+    Reading.placeIn Machine.step Machine.finish Machine.further Machine.ended Machine.judge Machine.readFrom Machine.read Machine.readText
+    Forms.shapeOf Forms.integerOf Forms.nameOf Forms.memberOf Forms.firstOf Forms.secondOf Forms.same Binding.lookUp Binding.named Binding.member
+    Binding.formE Binding.called Binding.placesE Binding.orderE
+printOf m n bytes = (printAnswer m n bytes, printBytes m n bytes)
+
+-- a cache of one lambda variable
+abbrev variable : Memory
+variable = record { readings = replicate 1024 (pos 0); heads = 1 ∷ 5 ∷ []; links = 1 ∷ replicate 1535 0; cells = 97 ∷ replicate 2047 0 }
+
+abbrev lentBytes : ℕ → List ℕ
+lentBytes n = replicate n 7
+
+unfoldable pub takeText : List ℕ
+unfolding Names.bytes
+takeText = bytes "data.skip(1).take(2)"
+
+-- of the take, in 22 bytes, of which two are left, and in one byte too few; of an entry that is not held; of a lambda variable, which would be
+-- read as an unbound name
+pub prints-hold :
+    printOf cache 4 (lentBytes 22) ∷ printOf cache 4 (lentBytes 19) ∷ printOf cache 6 (lentBytes 22) ∷ printOf variable 0 (lentBytes 22) ∷ []
+    ≡ (printed takeText, takeText ++ lentBytes 2)
+    ∷ (refused 15 0, lentBytes 19)
+    ∷ (refused 14 0, lentBytes 22)
+    ∷ (refused 16 0, lentBytes 22)
+    ∷ []
+unfolding printOf takeText
+prints-hold = refl

@@ -1,5 +1,5 @@
--- 01, "Four calls" and "When a call is declined": what open, edit and preview answer and what they leave in the lent memory, and what fetch
--- hands out, for every text, recording, number and memory. Assumes nothing: these are definitions.
+-- 01, "Four calls" and "When a call is declined", and 02, T-04: what open, edit, preview and print answer and what they leave in the lent memory,
+-- and what fetch hands out, for every text, recording, number and memory. Assumes nothing: these are definitions.
 use mathlib.Core.Bool.{Bool, cond, not, _&&_, _||_}
 use mathlib.Core.List.{List, [], _++_, map}
 use Prim.Native.Nat.{ℕ, _-_}
@@ -10,12 +10,14 @@ use Rattle.language.specs.Limits.{textBytes, textParts, tableEntries, tableRead
 use Rattle.grammar.specs.Reading.{Reading, tree, refused as refusedAt}
 use Rattle.grammar.specs.Machine.{readText}
 use Rattle.records.specs.Records.{Recorded, recordsOf}
-use Rattle.model.specs.Model.{refused, opened, edited, written}
+use Rattle.model.specs.Model.{refused, opened, edited, written, filled, printing}
 use Rattle.formulas.specs.Formulas.{formulas}
+use Rattle.meaning.specs.Forms.{Form, readings}
 use Rattle.rules.specs.declared.Value.{Value}
 use Rattle.rules.specs.Values.{ifWindow}
 use Rattle.values.specs.Packing.{unpackOf}
 use Rattle.layout.specs.Memory.{Memory, memory, fits, entryCount, readingCount, recordingOf, entriesOf, nodesOf}
+use Rattle.table.specs.EntryForms.{formsOf}
 use Rattle.table.specs.WellFormed.{doneAt, wellFormed}
 use Rattle.table.specs.Bind.{Bound, bindAll, appendAll}
 use Rattle.evaluator.specs.Frames.{startAt}
@@ -123,3 +125,19 @@ partOf m n =
 -- that very part of the kept readings
 abbrev pub fetched : Memory → ℕ → List ℤ
 fetched m n = take (partOf m n .length) (drop (partOf m n .start) (m .readings))
+
+-- Print: the let-free form that entry n stands for, as text in the lent bytes. The cache is only read.
+abbrev pub formAt : Memory → ℕ → Form
+formAt m n = getD (formsOf (nodesOf (entriesOf m))) n readings
+
+-- 02, T-04: 3, 4 and 14 as for preview; then 15 and 16, as the reference model has them
+unfoldable pub printAnswer : Memory → (number : ℕ) (bytes : List ℕ) → Reply
+printAnswer m n bytes =
+    cond (not (fits m)) (refused 3 0)
+    (cond (not (wellFormed m)) (refused 4 0)
+    (cond (not (ltb n (entryCount m))) (refused 14 0)
+    (printing formulas (formAt m n) (length bytes))))
+
+-- the first bytes get the text, and the others keep their contents
+abbrev pub printBytes : Memory → (number : ℕ) (bytes : List ℕ) → List ℕ
+printBytes m n bytes = filled formulas (printAnswer m n bytes) bytes

@@ -8,10 +8,12 @@ use Rattle.interface.specs.declared.answers.Opened.{Opened}
 use Rattle.interface.specs.declared.answers.Edited.{Edited}
 use Rattle.interface.specs.declared.answers.Edited.the-variants as Edit
 use Rattle.interface.specs.declared.answers.Previewed.{Previewed}
+use Rattle.interface.specs.declared.answers.Printed.{Printed}
 use Rattle.interface.specs.declared.answers.EditAnswer.{EditAnswer}
 use Rattle.interface.specs.declared.answers.PreviewAnswer.{PreviewAnswer}
-use Rattle.interface.specs.Answers.{openReply, editReply, openNumber, editNumbers, previewNumbers}
-use Rattle.interface.specs.Calls.{openAnswer, openMemory, editAnswer, editMemory, editPlaces, previewed, previewMemory}
+use Rattle.interface.specs.declared.answers.PrintAnswer.{PrintAnswer}
+use Rattle.interface.specs.Answers.{openReply, editReply, printedAs, openNumber, editNumbers, previewNumbers, printNumbers}
+use Rattle.interface.specs.Calls.{openAnswer, openMemory, editAnswer, editMemory, editPlaces, previewed, previewMemory, printAnswer, printBytes}
 
 -- the memory m before a call and m′ after it
 pub record Opens (m : Memory) (recording : List ℤ) (m′ : Memory) (r : Opened) : Type 0 where
@@ -26,6 +28,10 @@ pub record Edits (m : Memory) (places text : List ℕ) (m′ : Memory) (places�
 pub record Previews (m : Memory) (entry allowance : ℕ) (m′ : Memory) (r : Previewed) : Type 0 where
   pub answer : r ≡ previewed m entry allowance
   pub memory : m′ ≡ previewMemory m entry allowance
+
+pub record Prints (m : Memory) (entry : ℕ) (bytes bytes′ : List ℕ) (r : Printed) : Type 0 where
+  pub answer : r ≡ printedAs (printAnswer m entry bytes)
+  pub filled : bytes′ ≡ printBytes m entry bytes
 
 -- the same for C: the numbers of an answer for which that holds
 pub record OpensForC (m : Memory) (recording : List ℤ) (m′ : Memory) (r : ℕ) : Type 0 where
@@ -42,6 +48,11 @@ pub record PreviewsForC (m : Memory) (entry allowance : ℕ) (m′ : Memory) (r 
   pub answer : Previewed
   pub previews : Previews m entry allowance m′ answer
   pub numbers : r ≡ previewNumbers answer
+
+pub record PrintsForC (m : Memory) (entry : ℕ) (bytes bytes′ : List ℕ) (r : PrintAnswer) : Type 0 where
+  pub answer : Printed
+  pub prints : Prints m entry bytes bytes′ answer
+  pub numbers : r ≡ printNumbers answer
 
 -- a refusal's place is a number of 32 bits
 abbrev pub PlaceFits : Edited → Type 0

@@ -16,7 +16,7 @@ use Rattle.model.specs.Model.{refused}
 use Rattle.layout.specs.Memory.{Memory, fits, nodeAt, keptAt, entriesFrom}
 use Rattle.layout.specs.Nodes.{kindCount, memberOfKind, arity, kids, sameNode, build, wordNumber, isName}
 use Rattle.table.specs.WellFormed.{every, keyRight, arityRight, hasNode, distinct, doneAt, allDone, namesRight, keptRight, wellFormed}
-use Rattle.interface.specs.Calls.{editAnswer, previewed, previewAnswer}
+use Rattle.interface.specs.Calls.{editAnswer, previewed, previewAnswer, printAnswer}
 
 -- links and cells of entries, in memory of the cache's size, over a recording of five readings
 abbrev memory : ℕ → List ℕ → List ℕ → Memory
@@ -76,13 +76,14 @@ caches-judged = refl
 abbrev cut : Memory
 cut = record { readings = replicate 1024 (pos 0); heads = 1 ∷ 5 ∷ []; links = []; cells = replicate 2048 0 }
 
--- a text that is too long, and too few places; too few places; too little of the cache; the cache alone; and likewise for preview, of an
--- entry that is not held
+-- a text that is too long, and too few places; too few places; too little of the cache; the cache alone; and likewise for preview and for
+-- print, of an entry that is not held
 pub refusals-ordered :
     editAnswer itself (replicate 127 0) (replicate 1025 32) ∷ editAnswer itself (replicate 127 0) [] ∷ editAnswer cut (replicate 128 0) []
-    ∷ editAnswer itself (replicate 128 0) [] ∷ previewAnswer cut 9 1 ∷ previewAnswer itself 9 1 ∷ []
-    ≡ refused 1 0 ∷ refused 3 0 ∷ refused 3 0 ∷ refused 4 0 ∷ refused 3 0 ∷ refused 4 0 ∷ []
-unfolding editAnswer previewed fits wellFormed every nodeAt keptAt entriesFrom memberOfKind memberAt arity kids sameNode wordNumber isName keyRight
+    ∷ editAnswer itself (replicate 128 0) [] ∷ previewAnswer cut 9 1 ∷ previewAnswer itself 9 1 ∷ printAnswer cut 9 []
+    ∷ printAnswer itself 9 [] ∷ []
+    ≡ refused 1 0 ∷ refused 3 0 ∷ refused 3 0 ∷ refused 4 0 ∷ refused 3 0 ∷ refused 4 0 ∷ refused 3 0 ∷ refused 4 0 ∷ []
+unfolding editAnswer previewed printAnswer fits wellFormed every nodeAt keptAt entriesFrom memberOfKind memberAt arity kids sameNode wordNumber isName keyRight
     arityRight hasNode distinct decodeFrom build awaited doneAt allDone namesRight keptRight isPacked spelled arguments bytes packOnto letWord inWord! dataWord
     hasName joined without
 refusals-ordered = refl

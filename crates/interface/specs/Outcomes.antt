@@ -1,27 +1,31 @@
 -- Each call's answer, case by case, with what is known in each: the tests of Calls in their order. Assumes nothing.
-use mathlib.Core.Path.{_≡_, refl}
-use mathlib.Core.Bool.{true, false, _&&_, and-eq-true-iff}
+use mathlib.Core.Path.{_≡_, refl, sym, _∙_}
+use mathlib.Core.Bool.{true, false, cond, _&&_, and-eq-true-iff}
 use mathlib.Core.List.{List}
 use Prim.Native.Nat.{ℕ, _≤_, _<_}
 use borrow.Author.Tests.{leb-true, ltb-true, ltb-false}
 use lib.Dec.{leb, ltb}
 use lib.IntN.{ℤ}
 use lib.ListN.{length}
-use Rattle.language.specs.Cases.{split}
+use Rattle.language.specs.Cases.{impossible, split}
 use Rattle.language.specs.Limits.{textBytes, textParts, tableEntries, tableReadings}
 use Rattle.grammar.specs.Grammar.{Expression}
 use Rattle.grammar.specs.Reading.{Reading, tree, refused as refusedAt}
 use Rattle.grammar.specs.Machine.{readText}
-use Rattle.model.specs.Model.{refused, opened, edited}
+use Rattle.meaning.specs.Forms.{same}
+use Rattle.meaning.specs.FormsLaws.{same-exactly}
+use Rattle.meaning.specs.Binding.{formOf}
+use Rattle.model.specs.Model.{refused, opened, edited, printed, rejects, readsAs, printing}
 use Rattle.layout.specs.Memory.{Memory, fits, entryCount, readingCount}
 use Rattle.table.specs.WellFormed.{wellFormed}
 use Rattle.records.specs.Records.{recordsOf}
+use Rattle.formulas.specs.Formulas.{formulas, parsed}
 use Rattle.schedule.specs.declared.View.{View}
 use Rattle.schedule.specs.Works.{showOf}
 use Rattle.interface.specs.declared.answers.Previewed.the-variants.{NotYet, Finished, Refused}
 use Rattle.interface.specs.Answers.{Reply}
-use Rattle.interface.specs.Acceptance.{IsEdited, Ready}
-use Rattle.interface.specs.Calls.{boundTo, readAnswer, openAnswer, editAnswer, workOn, previewed}
+use Rattle.interface.specs.Acceptance.{IsEdited, Ready, Held, textAt}
+use Rattle.interface.specs.Calls.{boundTo, readAnswer, openAnswer, editAnswer, workOn, previewed, formAt, printAnswer}
 
 -- ---- open
 
@@ -95,6 +99,59 @@ preview-outcome m n a =
     (λ t. unfinished f w (ltb-true n (entryCount m) l) (workOn m n a .count) (rw (f, w, l, t)))
     (λ t.
     finished f w (ltb-true n (entryCount m) l) (workOn m n a .count) (showOf (readingCount m) (m .links) (workOn m n a .cells) n) (rw (f, w, l, t))))
+    (λ l. none (ltb-false n (entryCount m) l) (rw (f, w, l))))
+    (λ w. ill w (rw (f, w))))
+    (λ f. little f (rw f))
+
+-- ---- print
+
+-- the text of entry n fits the lent bytes, and is read
+pub record ReadsBack (m : Memory) (n : ℕ) (bytes : List ℕ) : Type 0 where
+  pub held : Held m n
+  pub room : length (textAt m n) ≤ length bytes
+  pub short : length (textAt m n) ≤ textBytes
+  pub expression : Expression
+  pub read : readText (textAt m n) ≡ tree expression
+
+pub data PrintOutcome (m : Memory) (n : ℕ) (bytes : List ℕ) : Type 0 where
+  little : fits m ≡ false → printAnswer m n bytes ≡ refused 3 0 → PrintOutcome m n bytes
+  ill : wellFormed m ≡ false → printAnswer m n bytes ≡ refused 4 0 → PrintOutcome m n bytes
+  none : entryCount m ≤ n → printAnswer m n bytes ≡ refused 14 0 → PrintOutcome m n bytes
+  cramped : Held m n → length bytes < length (textAt m n) → printAnswer m n bytes ≡ refused 15 0 → PrintOutcome m n bytes
+  long : Held m n → textBytes < length (textAt m n) → printAnswer m n bytes ≡ refused 15 0 → PrintOutcome m n bytes
+  unread : Held m n → (k at : ℕ) → readText (textAt m n) ≡ refusedAt k at → printAnswer m n bytes ≡ refused 15 0 → PrintOutcome m n bytes
+  other : (r : ReadsBack m n bytes) → ¬ (formOf (r .expression) ≡ formAt m n) → printAnswer m n bytes ≡ refused 16 0 → PrintOutcome m n bytes
+  taken : (r : ReadsBack m n bytes) → formOf (r .expression) ≡ formAt m n → printAnswer m n bytes ≡ printed (textAt m n) → PrintOutcome m n bytes
+
+-- of an entry that is held, whose text is short enough, once that is read
+module _ (m : Memory) (n : ℕ) (bytes : List ℕ) (h : Held m n) where
+  again-outcome : length (textAt m n) ≤ length bytes → length (textAt m n) ≤ textBytes → (x : Reading) → readText (textAt m n) ≡ x
+      → printAnswer m n bytes
+      ≡ cond (rejects formulas (parsed x)) (refused 15 0) (cond (readsAs formulas (formAt m n) (parsed x)) (printed (textAt m n)) (refused 16 0))
+      → PrintOutcome m n bytes
+  unfolding parsed
+  again-outcome room short (refusedAt k at) r e = unread h k at r e
+  again-outcome room short (tree t) r e =
+      let b : ReadsBack m n bytes = record { held = h; room = room; short = short; expression = t; read = r } in
+      split (same (formOf t) (formAt m n))
+      (λ s. taken b (same-exactly (formOf t) (formAt m n) .0 s) (rw s at e))
+      (λ s. other b (λ q. impossible (sym s ∙ same-exactly (formOf t) (formAt m n) .1 q)) (rw s at e))
+
+  held-outcome : printAnswer m n bytes ≡ printing formulas (formAt m n) (length bytes) → PrintOutcome m n bytes
+  unfolding printing
+  held-outcome e =
+      let t : List ℕ = textAt m n in
+      split (ltb (length bytes) (length t)) (λ a. cramped h (ltb-true _ _ a) (rw a at e))
+      (λ a. split (ltb textBytes (length t)) (λ b. long h (ltb-true _ _ b) (rw (a, b) at e))
+      (λ b. again-outcome (ltb-false _ _ a) (ltb-false _ _ b) (readText t) refl (rw (a, b) at e)))
+
+pub print-outcome : (m : Memory) (n : ℕ) (bytes : List ℕ) → PrintOutcome m n bytes
+unfolding printAnswer
+print-outcome m n bytes =
+    split (fits m)
+    (λ f. split (wellFormed m)
+    (λ w. split (ltb n (entryCount m))
+    (λ l. held-outcome m n bytes (record { whole = f; well = w; inside = ltb-true n (entryCount m) l }) (rw (f, w, l)))
     (λ l. none (ltb-false n (entryCount m) l) (rw (f, w, l))))
     (λ w. ill w (rw (f, w))))
     (λ f. little f (rw f))

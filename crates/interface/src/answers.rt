@@ -20,6 +20,12 @@ pub enum Previewed {
     Refused { number: u8 },
 }
 
+// The length of the text that was written to the lent bytes.
+pub enum Printed {
+    Done { length: u16 },
+    Refused { number: u8 },
+}
+
 // The answers as plain numbers: refusal is 0 where the call was accepted, and the other fields are 0 where they have no value.
 #[repr(C)]
 pub struct EditAnswer {
@@ -42,4 +48,10 @@ pub struct PreviewAnswer {
     pub second: u32,
     pub name: u64,
     pub other: u64,
+}
+
+#[repr(C)]
+pub struct PrintAnswer {
+    pub refusal: u32,
+    pub length: u32,
 }

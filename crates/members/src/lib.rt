@@ -52,7 +52,7 @@ pub enum Signature {
 }
 
 // A name of at most 16 bytes: its first eight packed, the others packed, and how many there are.
-struct Name(pub u64, pub u64, pub usize);
+pub struct Name(pub u64, pub u64, pub usize);
 
 // How many members there are.
 pub const MEMBERS: usize = 18;
@@ -113,7 +113,7 @@ pub fn number_of(m: Member) -> u8
 // The member table: a name and a signature for each member. Reader and evaluator look members up here alone. It goes by cases: a constant
 // array is laid out anew at each look-up, on the stack of the reader at every open mark. A name stands in its row packed: 0x616464 are the bytes
 // of `add`.
-fn name_of(m: Member) -> Name
+pub fn name_of(m: Member) -> Name
     ensures { λ r. ⌜ r ≡ packedName (spelled m) ⌝ }
 {
     match m {

@@ -10,10 +10,10 @@ use lib.ListN.{length}
 use Rattle.language.specs.Cases.{impossible, split}
 use Rattle.language.specs.Limits.{tableReadings}
 use Rattle.model.specs.Language.{Language}
-use Rattle.model.specs.Model.{Request, Open, Edit, Preview, Answer, opened, placesAfter, start, onOpen, onRequest, respond, said}
+use Rattle.model.specs.Model.{Request, Open, Edit, Preview, Print, Answer, opened, lentAfter, start, onOpen, onRequest, respond, said}
 use Rattle.model.specs.Responses.{answer, next}
 use Rattle.model.specs.Since.{SoundRequest, Sendable}
-use Rattle.model.specs.Runs.{model, newlyMarked, answers, placesLeft, after, workLog, inTheEnd}
+use Rattle.model.specs.Runs.{model, newlyMarked, answers, lentLeft, after, workLog, inTheEnd}
 use Rattle.model.specs.Laws.{Laws}
 use Rattle.model.specs.Invariant.{Invariant}
 use Rattle.model.specs.Steps.{accepts-open, declines-open, short-next}
@@ -66,6 +66,7 @@ module _ (L : Language) (H : Laws L) (E : Engine L) (I : Implements L H E) where
       (λ p. let l = ltb-false _ _ p in rw (accepts-open L (E .holds m) r l) (I .opening m r f l sound))
   agree-on m (Edit ps t) sound k = unfold onRequest in I .edit m ps t (k .ok) (k .invariant)
   agree-on m (Preview n a) sound k = unfold onRequest in I .preview m n a (k .ok) (k .invariant)
+  agree-on m (Print n bs) sound k = unfold onRequest in I .print m n bs (k .ok) (k .invariant)
 
   -- over what is lent of a cache
   abbrev AgreesLent : Memory → Memory → Request L → Type 0
@@ -111,22 +112,22 @@ module _ (L : Language) (H : Laws L) (E : Engine L) (I : Implements L H E) where
   -- A run of calls.
   pub record Carried (m : Memory) (cs : List (Sent E)) : Type 0 where
     pub answers : answers (machine E) m cs ≡ answers (model L) (E .holds m) (map (told E) cs)
-    pub places : placesLeft (machine E) m cs ≡ placesLeft (model L) (E .holds m) (map (told E) cs)
+    pub places : lentLeft (machine E) m cs ≡ lentLeft (model L) (E .holds m) (map (told E) cs)
     pub holds : E .holds (after (machine E) m cs) ≡ after (model L) (E .holds m) (map (told E) cs)
     pub cache : Cache (after (machine E) m cs)
 
   pub carry : (m : Memory) (cs : List (Sent E)) → Sendable L (map (told E) cs) → Cache m → Carried m cs
-  unfolding answers placesLeft after
+  unfolding answers lentLeft after
   carry m [] sent k = record { answers = refl; places = refl; holds = refl; cache = k }
   carry m (c ∷ cs) sent k =
       let one = agree m c (sent .0) k in
       let h = one .holds in
       let s = one .answer in
-      let f = I .places (E .lend (c .lent) m) (c .request) in
+      let f = I .lent-after (E .lend (c .lent) m) (c .request) in
       let more = carry (machine E .next m c) cs (sent .1) (one .cache) in
       record {
         answers = rw s (ap (λ (l : List (Answer L)). answer L (E .holds m) (told E c) ∷ l) (rw h at (more .answers)));
-        places = rw (f, s) (ap (λ (l : List (List ℕ)). placesAfter L (c .request) (answer L (E .holds m) (told E c)) ∷ l) (rw h at (more .places)));
+        places = rw (f, s) (ap (λ (l : List (List ℕ)). lentAfter L (c .request) (answer L (E .holds m) (told E c)) ∷ l) (rw h at (more .places)));
         holds = rw h at (more .holds);
         cache = more .cache;
       }

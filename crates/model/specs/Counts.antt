@@ -17,7 +17,7 @@ use Rattle.model.specs.Since.{total, Sendable}
 use Rattle.model.specs.Runs.{model, marks, newlyMarked, answers, after, workLog}
 use Rattle.model.specs.Laws.{Laws}
 use Rattle.model.specs.Entries.{marksOf, extends, marks-holdAll, marksOf-holdAll, is-pending, worked, length-worked, marks-workOut, marksOf-workOut, marksOf-one}
-use Rattle.model.specs.Steps.{Step, declines, opens, edits, previews, step}
+use Rattle.model.specs.Steps.{Step, declines, opens, edits, previews, prints, step}
 use Rattle.model.specs.Preserved.{invariant-start, invariant-after}
 use Rattle.model.specs.Numbers.{of-preview}
 
@@ -64,6 +64,9 @@ module _ (L : Language) where
     where
       go : Step L s c → Counted s c
       go (declines n at four e) =
+          let z = new-same (s .entries) in
+          record { rise = rw (e, answer, next) (omega arith); each = λ f. rw (e, answer, next) (rw z (omega arith)); size = λ q. rw (e, answer, next) (rw z) }
+      go (prints n bs t q e) =
           let z = new-same (s .entries) in
           record { rise = rw (e, answer, next) (omega arith); each = λ f. rw (e, answer, next) (rw z (omega arith)); size = λ q. rw (e, answer, next) (rw z) }
       go (opens r q z e) = record { rise = rw (e, answer, next); each = λ f. rw (e, answer, next); size = λ o. impossible (sym (rw (e, answer) at o)) }

@@ -12,7 +12,7 @@ use Rattle.model.specs.Lists.{All, occurrences}
 use Rattle.model.specs.Language.{Language}
 use Rattle.model.specs.Model.{Entry, forms, start, Open, Edit, Preview, Call, Answer, refused, opened, finished, left, said}
 use Rattle.model.specs.Since.{Part, partsGiven, noOpening, lastRecording, total, previewsOf, Sendable}
-use Rattle.model.specs.Runs.{model, marks, rounds, answers, placesLeft, after, workLog, inTheEnd}
+use Rattle.model.specs.Runs.{model, marks, rounds, answers, lentLeft, after, workLog, inTheEnd}
 use Rattle.model.specs.Engine.{Engine, Sent, told, machine}
 
 module _ (L : Language) (E : Engine L) where
@@ -72,10 +72,10 @@ module _ (L : Language) (E : Engine L) where
 
     -- 01, "The plain book": all that is demanded of the answers and of what the cache holds in the end
     pub record Demand : Type 0 where
-      -- Each call gets the model's answer and leaves the lent places as the model says, and the last memory holds what the model holds: the
+      -- Each call gets the model's answer and leaves the lent places or bytes as the model says, and the last memory holds what the model holds: the
       -- recording, the forms by number, and the marks with what their forms show. Number 4 never comes up.
       pub answered : replies ≡ answers (model L) (start L r) calls
-      pub placed : placesLeft (machine E) (leaves m (Open r)) cs ≡ placesLeft (model L) (start L r) calls
+      pub placed : lentLeft (machine E) (leaves m (Open r)) cs ≡ lentLeft (model L) (start L r) calls
       pub held : holds last ≡ after (model L) (start L r) calls
       pub recording : holds last .recording ≡ lastRecording L r calls replies
       pub never-four : All (λ (x : Answer L). (place : ℕ) → x ≡ refused 4 place → ⊥) replies

@@ -16,7 +16,7 @@ pub record Engine (L : Language) : Type 1 where
   -- of it is back as p
   pub lend : Memory → Memory → Memory
   pub back : Memory → Memory → Memory
-  -- what a call over lent memory answers, the lent places afterwards, and the lent memory afterwards
+  -- what a call over lent memory answers, the lent places or bytes afterwards, and the lent memory afterwards
   pub says : Memory → Request L → Answer L
   pub fills : Memory → Request L → List ℕ
   pub leaves : Memory → Request L → Memory
@@ -44,7 +44,7 @@ module _ {L : Language} (E : Engine L) where
         Memory = Memory;
         Sent = Sent;
         answer = λ m c. E .says (E .lend (c .lent) m) (c .request);
-        places = λ m c. E .fills (E .lend (c .lent) m) (c .request);
+        lent = λ m c. E .fills (E .lend (c .lent) m) (c .request);
         next = λ m c. E .back m (E .leaves (E .lend (c .lent) m) (c .request));
         holds = E .holds;
       }

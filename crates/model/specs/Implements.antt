@@ -7,7 +7,7 @@ use Prim.Native.Nat.{ℕ, _≤_, _<_}
 use lib.ListN.{length, getElem?}
 use Rattle.language.specs.Limits.{tableReadings}
 use Rattle.model.specs.Language.{Language}
-use Rattle.model.specs.Model.{Entry, State, Request, Open, Edit, Preview, Answer, refused, opened, placesAfter, Outcome, start, onEdit, onPreview}
+use Rattle.model.specs.Model.{Entry, State, Request, Open, Edit, Preview, Print, Answer, refused, opened, lentAfter, Outcome, start, onEdit, onPreview, onPrint}
 use Rattle.model.specs.Responses.{answer}
 use Rattle.model.specs.Laws.{Laws}
 use Rattle.model.specs.Invariant.{Invariant}
@@ -46,10 +46,12 @@ pub record Implements (L : Language) (H : Laws L) (E : Engine L) : Type 1 where
       → (E .says m (Open r) ≡ refused 2 0) × (E .leaves m (Open r) ≡ m)
   pub opening : (m : E .Memory) (r : List (L .Reading)) → E .fits m ≡ true → length r ≤ tableReadings → L .Sound r
       → Agrees E Ok (record { answer = opened; state = start L r }) (E .says m (Open r)) (E .leaves m (Open r))
-  -- edit and preview, over a cache that was opened and kept
+  -- edit, preview and print, over a cache that was opened and kept
   pub edit : (m : E .Memory) (places text : List ℕ) → Ok m → Invariant L H (E .holds m)
       → Agrees E Ok (onEdit L (E .holds m) true places text) (E .says m (Edit places text)) (E .leaves m (Edit places text))
   pub preview : (m : E .Memory) (n a : ℕ) → Ok m → Invariant L H (E .holds m)
       → Agrees E Ok (onPreview L (E .holds m) true n a) (E .says m (Preview n a)) (E .leaves m (Preview n a))
-  -- an edit's lent places, over every memory
-  pub places : (m : E .Memory) (q : Request L) → E .fills m q ≡ placesAfter L q (E .says m q)
+  pub print : (m : E .Memory) (n : ℕ) (bytes : List ℕ) → Ok m → Invariant L H (E .holds m)
+      → Agrees E Ok (onPrint L (E .holds m) true n bytes) (E .says m (Print n bytes)) (E .leaves m (Print n bytes))
+  -- an edit's lent places and a print's lent bytes, over every memory
+  pub lent-after : (m : E .Memory) (q : Request L) → E .fills m q ≡ lentAfter L q (E .says m q)

@@ -8,7 +8,7 @@ use Rattle.model.specs.Responses.{answer, next}
 use Rattle.model.specs.Since.{recordingOf, lastRecording}
 use Rattle.model.specs.Runs.{model, answers, after}
 use Rattle.model.specs.Laws.{Laws}
-use Rattle.model.specs.Steps.{Step, declines, opens, edits, previews, step}
+use Rattle.model.specs.Steps.{Step, declines, opens, edits, previews, prints, step}
 use Rattle.model.specs.Numbers.{of-preview}
 
 module _ (L : Language) (H : Laws L) where
@@ -20,6 +20,7 @@ module _ (L : Language) (H : Laws L) where
     where
       go : Step L s c → next L s c .recording ≡ cond (said L (answer L s c) .opening) (recordingOf L (s .recording) (c .request)) (s .recording)
       go (declines n at four x) = rw (x, answer, next)
+      go (prints n bs t q x) = rw (x, answer, next)
       go (opens r q z x) = rw (x, q, answer, next)
       go (edits ps t order places whole q l room rd z x) = rw (x, answer, next)
       go (previews n a f q z x) = rw (x, answer, next) (rw (of-preview L (λ (x : Answer L). said L x .opening) false _ _ _ refl refl))

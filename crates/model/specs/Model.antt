@@ -11,7 +11,7 @@ use Rattle.model.specs.Lists.{isSome, countIf, onFirsts, member, index}
 use Rattle.model.specs.Language.{Language, Parsed, rejected, parts}
 
 module _ (L : Language) where
-  open Language L using (Form, Shown, Reading, same, reach, works, shows, read)
+  open Language L using (Form, Shown, Reading, same, reach, works, shows, read, print)
 
   -- What the model holds: a recording, forms numbered from 0, and marks on some of them. A mark is what its form shows.
   pub record Entry : Type 0 where
@@ -29,49 +29,62 @@ module _ (L : Language) where
   abbrev pub marked : Entry → Bool
   marked e = isSome (e .mark)
 
-  -- What it is fed: a call's arguments, with an edit's lent places, and whether the memory lent has the cache's size.
+  -- What it is fed: a call's arguments, with an edit's lent places and a print's lent bytes, and whether the memory lent has the cache's size.
   pub data Request : Type 0 where
     Open : (readings : List Reading) → Request
     Edit : (places text : List ℕ) → Request
     Preview : (number allowance : ℕ) → Request
+    Print : (number : ℕ) (bytes : List ℕ) → Request
 
   pub record Call : Type 0 where
     pub enough : Bool
     pub request : Request
 
   -- What it answers: a refusal's number and byte place; of an edit the whole's number, the number of parts, the number of forms added and each
-  -- part's number by place; of a preview how many it marked, and 'not yet' or what the form shows.
+  -- part's number by place; of a preview how many it marked, and 'not yet' or what the form shows; of a print the text.
   pub data Answer : Type 0 where
     refused : (number place : ℕ) → Answer
     opened : Answer
     edited : (whole parts added : ℕ) (numbers : List ℕ) → Answer
     notYet : (worked : ℕ) → Answer
     finished : (worked : ℕ) (shown : Shown) → Answer
+    printed : (text : List ℕ) → Answer
 
   -- What an answer says: whether it is an opening, which is an accepted open; the parts' numbers by place that an accepted edit gives; whether it is
-  -- an accepted preview; how many this marked, and what it shows if it is finished.
+  -- an accepted preview; how many this marked, and what it shows if it is finished; the text that an accepted print gives.
   pub record Said : Type 0 where
     pub opening : Bool
     pub numbers : List ℕ
     pub preview : Bool
     pub worked : ℕ
     pub shown : Option Shown
+    pub text : List ℕ
 
   abbrev pub said : Answer → Said
-  said (refused n at) = record { opening = false; numbers = []; preview = false; worked = 0; shown = none }
-  said opened = record { opening = true; numbers = []; preview = false; worked = 0; shown = none }
-  said (edited w p k ns) = record { opening = false; numbers = ns; preview = false; worked = 0; shown = none }
-  said (notYet k) = record { opening = false; numbers = []; preview = true; worked = k; shown = none }
-  said (finished k v) = record { opening = false; numbers = []; preview = true; worked = k; shown = some v }
+  said (refused n at) = record { opening = false; numbers = []; preview = false; worked = 0; shown = none; text = [] }
+  said opened = record { opening = true; numbers = []; preview = false; worked = 0; shown = none; text = [] }
+  said (edited w p k ns) = record { opening = false; numbers = ns; preview = false; worked = 0; shown = none; text = [] }
+  said (notYet k) = record { opening = false; numbers = []; preview = true; worked = k; shown = none; text = [] }
+  said (finished k v) = record { opening = false; numbers = []; preview = true; worked = k; shown = some v; text = [] }
+  said (printed t) = record { opening = false; numbers = []; preview = false; worked = 0; shown = none; text = t }
 
-  -- The lent places after an edit's answer: an accepted edit writes its parts' numbers to the first, and all others keep their contents.
+  -- What is written to the first of lent cells; all others keep their contents.
+  abbrev pub overwritten : (new old : List ℕ) → List ℕ
+  overwritten new old = new ++ drop (length new) old
+
+  -- The lent places after an edit's answer: an accepted edit writes its parts' numbers. The lent bytes after a print's: an accepted one writes
+  -- its text.
   unfoldable pub written : Answer → List ℕ → List ℕ
-  written x places = said x .numbers ++ drop (length (said x .numbers)) places
+  written x places = overwritten (said x .numbers) places
 
-  abbrev pub placesAfter : Request → Answer → List ℕ
-  placesAfter (Open r) x = []
-  placesAfter (Edit places text) x = written x places
-  placesAfter (Preview n a) x = []
+  unfoldable pub filled : Answer → List ℕ → List ℕ
+  filled x bytes = overwritten (said x .text) bytes
+
+  abbrev pub lentAfter : Request → Answer → List ℕ
+  lentAfter (Open r) x = []
+  lentAfter (Edit places text) x = written x places
+  lentAfter (Preview n a) x = []
+  lentAfter (Print n bytes) x = filled x bytes
 
   -- What a call gets, and what the model then holds.
   pub record Outcome : Type 0 where
@@ -159,11 +172,37 @@ module _ (L : Language) where
   unfoldable pub onPreview : State → Bool → ℕ → ℕ → Outcome
   onPreview s enough n a = refuseIf (not enough) 3 s (look s a (getElem? (forms (s .entries)) n))
 
+  -- Print: nothing changes. 15: the text exceeds the lent bytes, or the reader would decline it with 1 or 5 to 12. 16: read by itself, it has
+  -- another form.
+  abbrev pub rejects : Parsed Form → Bool
+  rejects (rejected n at) = true
+  rejects (parts order places whole) = false
+
+  abbrev pub readsAs : Form → Parsed Form → Bool
+  readsAs f (rejected n at) = false
+  readsAs f (parts order places whole) = same whole f
+
+  unfoldable pub printing : Form → (room : ℕ) → Answer
+  printing f room =
+      let t : List ℕ = print f in
+      cond (ltb room (length t) || (ltb textBytes (length t) || rejects (read t))) (refused 15 0)
+      (cond (readsAs f (read t)) (printed t) (refused 16 0))
+
+  -- 14: no such entry.
+  unfoldable pub printFound : State → ℕ → Option Form → Outcome
+  printFound s room none = refuse 14 0 s
+  printFound s room (some f) = record { answer = printing f room; state = s }
+
+  -- 3: cache memory under its size.
+  unfoldable pub onPrint : State → Bool → ℕ → List ℕ → Outcome
+  onPrint s enough n bytes = refuseIf (not enough) 3 s (printFound s (length bytes) (getElem? (forms (s .entries)) n))
+
   -- Any call: what it gets, and what is then held.
   unfoldable pub onRequest : State → Bool → Request → Outcome
   onRequest s enough (Open r) = onOpen s enough r
   onRequest s enough (Edit places text) = onEdit s enough places text
   onRequest s enough (Preview n a) = onPreview s enough n a
+  onRequest s enough (Print n bytes) = onPrint s enough n bytes
 
   abbrev pub respond : State → Call → Outcome
   respond s c = onRequest s (c .enough) (c .request)

@@ -12,13 +12,13 @@ use Rattle.language.specs.Limits.{textBytes}
 use Rattle.model.specs.Lists.{All, member, index, insertAll}
 use Rattle.model.specs.ListLaws.{all-append, all-in, member-tail, member-nth, nth-index, index-one, member-insertAll, insertAll-has, index-insertAll}
 use Rattle.model.specs.Language.{Language, parts}
-use Rattle.model.specs.Model.{State, forms, start, Request, Open, Edit, Preview, Call, Answer, notYet, finished, refused, holdAll, said}
+use Rattle.model.specs.Model.{State, forms, start, Request, Open, Edit, Preview, Print, Call, Answer, notYet, finished, refused, printed, holdAll, said}
 use Rattle.model.specs.Responses.{answer, next}
 use Rattle.model.specs.Since.{Part, partsFrom, formsByPlace, partsIn, partsGiven}
 use Rattle.model.specs.Runs.{model, answers, after}
 use Rattle.model.specs.Laws.{Laws}
 use Rattle.model.specs.Entries.{forms-holdAll, forms-workOut}
-use Rattle.model.specs.Steps.{Step, declines, opens, edits, previews, step}
+use Rattle.model.specs.Steps.{Step, declines, opens, edits, previews, prints, step}
 
 module _ (L : Language) where
   open Language L using (Form, Shown, Reading, same, read)
@@ -38,6 +38,7 @@ module _ (L : Language) where
       empty [] = refl
       empty (f ∷ fs) = refl
   no-parts (Preview n a) x e = refl
+  no-parts (Print n bs) x e = refl
 
   -- A part is known: its form stands at its place of its text, which can be read, and has its number among the forms held.
   pub record Known (fs : List Form) (x : Part L) : Type 0 where
@@ -107,6 +108,7 @@ module _ (L : Language) where
             (rw fh (known-more order (forms L (s .entries)) xs k))))
         go (previews n a f q z e) =
             rw (e, q, answer, next) (rw (of-preview (λ (x : Answer L). said L x .opening) false _ _ _ refl refl) (rw (forms-workOut L (s .recording) a f (s .entries)) k))
+        go (prints n bs t q e) = rw (e, answer, next) (rw (no-parts (c .request) (printed t) refl) k)
 
     known-run : (s : State L) (xs : List (Part L)) (cs : List (Call L)) → All (Known (forms L (s .entries))) xs
         → All (Known (forms L (after (model L) s cs .entries))) (partsGiven L xs cs (answers (model L) s cs))

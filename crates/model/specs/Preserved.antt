@@ -19,7 +19,7 @@ use Rattle.model.specs.Laws.{Laws}
 use Rattle.model.specs.Forms.{ordered-insertAll}
 use Rattle.model.specs.Invariant.{Invariant}
 use Rattle.model.specs.Entries.{forms-holdAll, kept-holdAll, settled-holdAll, forms-workOut, length-workOut, kept-workOut, settled-workOut}
-use Rattle.model.specs.Steps.{Step, declines, opens, edits, previews, step}
+use Rattle.model.specs.Steps.{Step, declines, opens, edits, previews, prints, step}
 
 module _ (L : Language) (H : Laws L) where
   open Language L using (Form, Reading, Sound, same, read)
@@ -73,6 +73,7 @@ module _ (L : Language) (H : Laws L) where
       go (opens r q z e) = rw (e, next) (invariant-start r z (rw q at sound))
       go (edits ps t order places whole q l room rd z e) = rw (e, next) (invariant-edit s t order places whole l rd z i)
       go (previews n a f q z e) = rw (e, next) (invariant-preview s a f i)
+      go (prints n bs t q e) = rw (e, next) i
 
   pub invariant-after : (s : State L) (cs : List (Call L)) → Sendable L cs → Invariant L H s → Invariant L H (after (model L) s cs)
   unfolding after
@@ -93,3 +94,4 @@ module _ (L : Language) (H : Laws L) where
           let y = rw (x, answer) at e in
           split (eqb (left L f (workOut L (s .recording) a f (s .entries))) 0)
           (λ p. let w = rw p at y in false≢true (cc)) (λ p. let w = rw p at y in false≢true (cc))
+      go place e (prints n bs t q x) = let y = rw (x, answer) at e in false≢true (cc)

@@ -19,7 +19,7 @@ use Rattle.model.specs.Runs.{model, rounds, answers, after}
 use Rattle.model.specs.Laws.{Laws}
 use Rattle.model.specs.Invariant.{Invariant}
 use Rattle.model.specs.Entries.{forms-holdAll, left-holdAll, forms-workOut, left-workOut, left-other}
-use Rattle.model.specs.Steps.{Step, declines, opens, edits, previews, step, accepts-preview}
+use Rattle.model.specs.Steps.{Step, declines, opens, edits, previews, prints, step, accepts-preview}
 use Rattle.model.specs.Preserved.{invariant-next}
 use Rattle.model.specs.Numbers.{of-preview}
 
@@ -78,6 +78,7 @@ module _ (L : Language) where
 
         go : Step L s c → Later n a f s (next L s c) (turn n a c (answer L s c))
         go (declines m at four x) = record { form = rw (x, next) e; recording = rw (x, next); fewer = rw (x, answer, next) (omega arith) }
+        go (prints m bs t q x) = record { form = rw (x, next) e; recording = rw (x, next); fewer = rw (x, answer, next) (omega arith) }
         go (opens r q z x) = impossible (sym (rw (x, answer) at o))
         go (edits ps t order places whole q l room rd z x) =
             let fh = forms-holdAll L order (s .entries) in
@@ -140,6 +141,7 @@ module _ (L : Language) where
         go : Step L s c → Finished f (s .recording) (next L s c) v
         go (declines m at four y) = let u = rw (y, answer) at x in impossible (cc)
         go (opens r y z w) = impossible (cc)
+        go (prints m bs t y w) = impossible (cc)
         go (edits ps t order places whole y l room rd z w) = impossible (cc)
         go (previews m b g y z w) =
             let nm : n ≡ m = cc in

@@ -1,4 +1,4 @@
--- Runs of calls, of the model or of an engine: the answers, the lent places and the memory afterwards, the forms worked out, and what a repeated
+-- Runs of calls, of the model or of an engine: the answers, the lent places or bytes and the memory afterwards, the forms worked out, and what a repeated
 -- preview shows in the end. Assumes nothing.
 use mathlib.Core.Bool.{cond, not, _&&_}
 use mathlib.Core.List.{List, [], _∷_, _++_}
@@ -6,14 +6,14 @@ use mathlib.Core.Option.{Option, none, orElse}
 use Prim.Native.Nat.{ℕ, zero, suc, _+_, _-_, _/_, max}
 use Rattle.model.specs.Lists.{countIf}
 use Rattle.model.specs.Language.{Language}
-use Rattle.model.specs.Model.{Entry, State, marked, Call, Answer, placesAfter, said, respond}
+use Rattle.model.specs.Model.{Entry, State, marked, Call, Answer, lentAfter, said, respond}
 
--- Something that is sent calls: to each it gives an answer and leaves the lent places and its memory, which holds a state of the model.
+-- Something that is sent calls: to each it gives an answer and leaves the lent places or bytes and its memory, which holds a state of the model.
 pub record Machine (L : Language) : Type 1 where
   pub Memory : Type 0
   pub Sent : Type 0
   pub answer : Memory → Sent → Answer L
-  pub places : Memory → Sent → List ℕ
+  pub lent : Memory → Sent → List ℕ
   pub next : Memory → Sent → Memory
   pub holds : Memory → State L
 
@@ -24,7 +24,7 @@ model L =
       Memory = State L;
       Sent = Call L;
       answer = λ s c. respond L s c .answer;
-      places = λ s c. placesAfter L (c .request) (respond L s c .answer);
+      lent = λ s c. lentAfter L (c .request) (respond L s c .answer);
       next = λ s c. respond L s c .state;
       holds = λ s. s;
     }
@@ -41,14 +41,14 @@ module _ (L : Language) where
   newlyMarked (e ∷ es) (f ∷ fs) = cond (not (marked L e) && marked L f) (f .form ∷ newlyMarked es fs) (newlyMarked es fs)
 
 module _ {L : Language} (M : Machine L) where
-  -- The answers to a list of calls, the lent places after each of them, and the memory after all.
+  -- The answers to a list of calls, the lent places or bytes after each of them, and the memory after all.
   unfoldable pub answers : M .Memory → List (M .Sent) → List (Answer L)
   answers m [] = []
   answers m (c ∷ cs) = M .answer m c ∷ answers (M .next m c) cs
 
-  unfoldable pub placesLeft : M .Memory → List (M .Sent) → List (List ℕ)
-  placesLeft m [] = []
-  placesLeft m (c ∷ cs) = M .places m c ∷ placesLeft (M .next m c) cs
+  unfoldable pub lentLeft : M .Memory → List (M .Sent) → List (List ℕ)
+  lentLeft m [] = []
+  lentLeft m (c ∷ cs) = M .lent m c ∷ lentLeft (M .next m c) cs
 
   unfoldable pub after : M .Memory → List (M .Sent) → M .Memory
   after m [] = m

@@ -6,16 +6,17 @@ use Prim.Native.Nat.{ℕ, suc, _+_}
 use lib.Dec.{eqb}
 use Rattle.model.specs.Lists.{All}
 use Rattle.model.specs.Language.{Language, Parsed, rejected, parts}
-use Rattle.model.specs.Model.{Request, Open, Edit, Preview, Call, Answer, said}
+use Rattle.model.specs.Model.{Request, Open, Edit, Preview, Print, Call, Answer, said}
 
 module _ (L : Language) where
   open Language L using (Form, Reading, Sound, read)
 
-  -- Any text, places and numbers can be sent, and readings that a recording can hold.
+  -- Any text, places, bytes and numbers can be sent, and readings that a recording can hold.
   abbrev pub SoundRequest : Request L → Type 0
   SoundRequest (Open r) = Sound r
   SoundRequest (Edit ps t) = Unit {0}
   SoundRequest (Preview n a) = Unit {0}
+  SoundRequest (Print n bs) = Unit {0}
 
   abbrev pub Sendable : List (Call L) → Type 0
   Sendable = All (λ (c : Call L). SoundRequest (c .request))
@@ -30,6 +31,7 @@ module _ (L : Language) where
   recordingOf r (Open r′) = r′
   recordingOf r (Edit ps t) = r
   recordingOf r (Preview n a) = r
+  recordingOf r (Print n bs) = r
 
   unfoldable pub lastRecording : List Reading → List (Call L) → List (Answer L) → List Reading
   lastRecording r [] xs = r
@@ -59,6 +61,7 @@ module _ (L : Language) where
   partsIn (Open r) x = []
   partsIn (Edit ps t) x = partsFrom t 0 (formsByPlace (read t)) (said L x .numbers)
   partsIn (Preview n a) x = []
+  partsIn (Print n bs) x = []
 
   -- The parts numbered since the last opening.
   unfoldable pub partsGiven : List Part → List (Call L) → List (Answer L) → List Part
@@ -76,6 +79,7 @@ module _ (L : Language) where
   asks n a (Open r) = false
   asks n a (Edit ps t) = false
   asks n a (Preview m b) = eqb n m && eqb a b
+  asks n a (Print m bs) = false
 
   unfoldable pub previewsOf : ℕ → ℕ → List (Call L) → List (Answer L) → ℕ
   previewsOf n a [] xs = 0

@@ -1,4 +1,4 @@
--- The four things that a call can do to the model's state. Assumes nothing.
+-- The five things that a call can do to the model's state. Assumes nothing.
 use mathlib.Core.Path.{_≡_, refl, ap, _∙_}
 use mathlib.Core.Bool.{Bool, true, false, not, _||_}
 use mathlib.Core.List.{List}
@@ -12,12 +12,12 @@ use lib.ListN.{length, getElem?}
 use Rattle.language.specs.Cases.{split}
 use Rattle.language.specs.Limits.{textBytes, textParts, tableReadings, tableEntries}
 use Rattle.model.specs.Language.{Language, Parsed, rejected, parts}
-use Rattle.model.specs.Model.{State, forms, Request, Open, Edit, Preview, Call, opened, refuse, start, onOpen, holdAll, editedTo, bind, onEdit, previewed, look, onPreview, onRequest, respond}
+use Rattle.model.specs.Model.{State, forms, Request, Open, Edit, Preview, Print, Call, opened, printed, refuse, start, onOpen, holdAll, editedTo, bind, onEdit, previewed, look, onPreview, rejects, readsAs, printing, printFound, onPrint, onRequest, respond}
 use Rattle.model.specs.Responses.{next}
 use Rattle.model.specs.Laws.{Laws}
 
 module _ (L : Language) where
-  open Language L using (Form, Reading, read)
+  open Language L using (Form, Reading, read, print)
 
   pub data Step (s : State L) (c : Call L) : Type 0 where
     declines : (n at : ℕ) → (n ≡ 4 → ⊥) → respond L s c ≡ refuse L n at s → Step s c
@@ -27,6 +27,7 @@ module _ (L : Language) where
         → respond L s c ≡ editedTo L s (holdAll L order (s .entries)) places whole → Step s c
     previews : (n a : ℕ) (f : Form) → c .request ≡ Preview n a → getElem? (forms L (s .entries)) n ≡ some f → respond L s c ≡ previewed L s a f
         → Step s c
+    prints : (n : ℕ) (bs t : List ℕ) → c .request ≡ Print n bs → respond L s c ≡ record { answer = printed t; state = s } → Step s c
 
   -- what a call comes to
   pub accepts-open : (s : State L) (r : List Reading) → length r ≤ tableReadings → onRequest L s true (Open r) ≡ record { answer = opened; state = start L r }
@@ -52,10 +53,11 @@ module _ (L : Language) where
 
   -- too little memory: the state stays
   pub short-next : (s : State L) (q : Request L) → next L s (record { enough = false; request = q }) ≡ s
-  unfolding onRequest onOpen onEdit onPreview
+  unfolding onRequest onOpen onEdit onPreview onPrint
   short-next s (Open r) = split (ltb tableReadings (length r)) (λ p. rw (p, next)) (λ p. rw (p, next))
   short-next s (Edit ps t) = split (ltb textBytes (length t)) (λ p. rw (p, next)) (λ p. rw (p, next))
   short-next s (Preview n a) = refl
+  short-next s (Print n bs) = refl
 
   module _ (H : Laws L) where
     step-open : (s : State L) (b : Bool) (r : List Reading) → Step s (record { enough = b; request = Open r })
@@ -88,10 +90,26 @@ module _ (L : Language) where
         go h none e = declines 14 0 (omega arith) (h ∙ ap (look L s a) e)
         go h (some f) e = previews n a f refl e (h ∙ ap (look L s a) e)
 
+    step-print : (s : State L) (b : Bool) (n : ℕ) (bs : List ℕ) → Step s (record { enough = b; request = Print n bs })
+    unfolding onRequest onPrint printFound printing
+    step-print s b n bs = split b (λ q. go (rw q) (getElem? (forms L (s .entries)) n) refl) (λ q. declines 3 0 (omega arith) (rw q))
+      where
+        go : onRequest L s b (Print n bs) ≡ printFound L s (length bs) (getElem? (forms L (s .entries)) n) → (x : Option Form)
+            → getElem? (forms L (s .entries)) n ≡ x → Step s (record { enough = b; request = Print n bs })
+        go h none e = declines 14 0 (omega arith) (h ∙ ap (printFound L s (length bs)) e)
+        go h (some f) e =
+            let t = print f in
+            split (ltb (length bs) (length t) || (ltb textBytes (length t) || rejects L (read t)))
+            (λ u. declines 15 0 (omega arith) (h ∙ ap (printFound L s (length bs)) e ∙ rw u))
+            (λ u. split (readsAs L f (read t))
+            (λ v. prints n bs t refl (h ∙ ap (printFound L s (length bs)) e ∙ rw (u, v)))
+            (λ v. declines 16 0 (omega arith) (h ∙ ap (printFound L s (length bs)) e ∙ rw (u, v))))
+
     step-request : (s : State L) (b : Bool) (q : Request L) → Step s (record { enough = b; request = q })
     step-request s b (Open r) = step-open s b r
     step-request s b (Edit ps t) = step-edit s b ps t
     step-request s b (Preview n a) = step-preview s b n a
+    step-request s b (Print n bs) = step-print s b n bs
 
     pub step : (s : State L) (c : Call L) → Step s c
     step s c = step-request s (c .enough) (c .request)

@@ -4,7 +4,7 @@ use mathlib.Core.Bool.{true, false}
 use mathlib.Core.List.{List, [], _∷_, map}
 use Prim.Native.Nat.{ℕ, suc, _+_, _-_, _*_, _/_, _%_, _<_, _≤_}
 use native.Mathlib.Omega.{arith}
-use borrow.Author.Tests.{ltb-false, eqb-true, eqb-false}
+use borrow.Author.Tests.{ltb-true, ltb-false, eqb-true, eqb-false}
 use lib.Dec.{eqb, ltb}
 use lib.IntN.{ℤ}
 use lib.ListN.{length, getD, take, drop, length-append, length-drop}
@@ -36,7 +36,7 @@ use Rattle.reader.specs.declared.answer.Read.{Read}
 use Rattle.reader.specs.declared.answer.Read.the-variants.{Done, Refused}
 use Rattle.interface.specs.Calls.{boundTo, tooMany, editedAs, editedMemory, readAnswer, readMemory}
 use Rattle.planner.specs.declared.plan.Plan.{Plan}
-use Rattle.planner.specs.Plans.{ReadTo, Planned}
+use Rattle.planner.specs.Plans.{ReadTo, BindsTo, Binds, Accepted, Planned}
 
 -- The records that the reader wrote are those that binding reads.
 record-same : (cells : List ℕ) (r : ℕ) → D.recordAt cells r .second < recordBase → recordAt cells r ≡ D.recordAt cells r
@@ -113,21 +113,18 @@ module _ (text R P : List ℕ) (r : Read) (R′ P′ : List ℕ) (reading : Read
         let a = result .accepts (counts .0) in
         held-read text R P (a .0) after n size root R′ P′ (a .1) (result .reads (a .0) (a .1)) lp (counts .1) (counts .2) (counts .3) (reading .records) (reading .places)
 
--- The plan.
+-- The text as it is read and bound.
 abbrev plan : (number place whole parts total : ℕ) → Plan
 plan number place whole parts total = record { number = number; place = place; whole = whole; parts = parts; total = total }
 
-declined-only : (m : Memory) (text : List ℕ) (number place : ℕ) (P N F : List ℕ) → (number ≡ 0 → ⊥) → readAnswer m (readText text) ≡ refused number place → readMemory m (readText text) ≡ m
-    → Planned m text (plan number place 0 0 0) P N F
-declined-only m text number place P N F u a b = record { declined = λ _. record { answer = a; memory = b }; accepted = λ z. absurd (u z) }
-
-pub planned-refused : (m : Memory) (text R P : List ℕ) (r : Read) (R′ P′ : List ℕ) (number place : ℕ) (N F : List ℕ) → ReadsInto text R P r R′ P′
+pub binds-refused : (m : Memory) (text R P : List ℕ) (r : Read) (R′ P′ : List ℕ) (number place : ℕ) (N F : List ℕ) → ReadsInto text R P r R′ P′
     → length R ≡ textWords → length P ≡ textParts
-    → r ≡ Refused number place → Planned m text (plan number place 0 0 0) P′ N F
-unfolding readAnswer readMemory
-planned-refused m text R P r R′ P′ number place N F reading lr lp e =
-    let q = read-refused text R P r R′ P′ reading lr lp number place e in
-    declined-only m text number place P′ N F (read-number text R P r R′ P′ reading lr lp number place e) (ap (readAnswer m) q) (ap (readMemory m) q)
+    → r ≡ Refused number place → Binds m text (plan number place 0 0 0) P′ N F
+binds-refused m text R P r R′ P′ number place N F reading lr lp e =
+    record {
+      refused = λ _. (read-refused text R P r R′ P′ reading lr lp number place e, refl);
+      bound = λ z. absurd (read-number text R P r R′ P′ reading lr lp number place e z);
+    }
 
 taken : (numbers : List ℕ) (size : ℕ) (ps : List ℕ) → All (λ (p : ℕ). p < size) ps → map (λ (j : ℕ). getD (take size numbers) j 0) ps ≡ map (λ (j : ℕ). getD numbers j 0) ps
 taken numbers size [] h = refl
@@ -161,37 +158,76 @@ module _ (readings : List ℤ) (heads links cells : List ℕ) (count : ℕ) (hel
       ∙ ap (λ (k : ℕ). drop k (bindAll (bound (numbered (nodeAt links cells) 0 count) []) (numbered (recordAt R) 0 size) .nodes)) held
       ∙ sym (bound-waits links cells count R size total N F all) ∙ ap (λ (k : ℕ). numbered (freshAt F) 0 (total - k)) (sym held)
 
-  answer-is : readAnswer m (readText text) ≡ editedAs m Z b
-  unfolding readAnswer
-  answer-is = ap (readAnswer m) (read .reads)
-
-  memory-is : readMemory m (readText text) ≡ editedMemory m b
-  unfolding readMemory
-  memory-is = ap (readMemory m) (read .reads)
-
-  pub planned-full : isFull total ≡ true → Planned m text (plan 13 0 0 0 0) P N F
-  planned-full t =
-      let q : tooMany b ≡ true = ap (ltb tableEntries) total-is ∙ t in
-      declined-only m text 13 0 P N F (λ z. omega arith) (answer-is ∙ rw q) (memory-is ∙ rw q)
-
-  pub planned-done : isFull total ≡ false → Planned m text (plan 0 0 (getD N root 0) n total) P N F
-  planned-done t =
-      let q : tooMany b ≡ false = ap (ltb tableEntries) total-is ∙ t in
+  pub binds-done : Binds m text (plan 0 0 (getD N root 0) n total) P N F
+  binds-done =
       let l = read .low in
       let w = read .whole in
-      let whole : getD (b .numbers) (Z .root) 0 ≡ getD N root 0 =
-      ap (λ (l : List ℕ). getD l (Z .root) 0) numbers-are ∙ getD-take size N (Z .root) 0 (omega arith) ∙ ap (λ (j : ℕ). getD N j 0) (sym (read .whole)) in
-      let numbers : map (λ (j : ℕ). getD (b .numbers) j 0) (Z .places) ≡ map (λ (j : ℕ). getD N j 0) (take n P) =
-      ap (λ (l : List ℕ). map (λ (j : ℕ). getD l j 0) (Z .places)) numbers-are ∙ taken N size (Z .places) (read .inside) ∙ ap (map (λ (j : ℕ). getD N j 0)) (sym (read .places)) in
       record {
-        declined = λ u. absurd (u refl);
-        accepted = λ _.
+        refused = λ u. absurd (u refl);
+        bound = λ _.
             record {
-              answer = answer-is ∙ rw q (λ i. edited (whole i) (sym (read .parts) i) (total-is i - entryCount m) (numbers i));
-              memory = memory-is ∙ rw q (ap (appendAll m) fresh-are);
+              expression = read .expression;
+              reads = read .reads;
+              whole =
+                  ap (λ (l : List ℕ). getD l (Z .root) 0) numbers-are ∙ getD-take size N (Z .root) 0 (omega arith) ∙ ap (λ (j : ℕ). getD N j 0) (sym (read .whole));
+              count = sym (read .parts);
+              total = total-is;
+              places =
+                  ap (λ (l : List ℕ). map (λ (j : ℕ). getD l j 0) (Z .places)) numbers-are ∙ taken N size (Z .places) (read .inside)
+                  ∙ ap (map (λ (j : ℕ). getD N j 0)) (sym (read .places));
+              new = fresh-are;
               low = omega (arith, all .low);
-              high = ltb-false tableEntries total t;
               few = read .few;
               room = read .room;
             };
+      }
+
+-- The plan: refusal 13, or as it is bound.
+module _ (m : Memory) (text : List ℕ) (p : Plan) (P N F : List ℕ) (b : Binds m text p P N F) where
+  declined-only : (number place : ℕ) → (number ≡ 0 → ⊥) → readAnswer m (readText text) ≡ refused number place → readMemory m (readText text) ≡ m
+      → (q : Plan) → q .number ≡ number → q .place ≡ place → Planned m text q P N F
+  declined-only number place u a c q e f =
+      record { declined = λ _. record { answer = rw (e, f) a; memory = c }; accepted = λ z. absurd (u (sym e ∙ z)) }
+
+  module _ (a : BindsTo m text p P N F) where
+    abbrev Q : Recorded
+    Q = recordsOf (a .expression)
+
+    answer-is : readAnswer m (readText text) ≡ editedAs m Q (boundTo m Q)
+    unfolding readAnswer
+    answer-is = ap (readAnswer m) (a .reads)
+
+    memory-is : readMemory m (readText text) ≡ editedMemory m (boundTo m Q)
+    unfolding readMemory
+    memory-is = ap (readMemory m) (a .reads)
+
+    full : isFull (p .total) ≡ true → Planned m text (plan 13 0 0 0 0) P N F
+    full t =
+        let q : tooMany (boundTo m Q) ≡ true = ap (ltb tableEntries) (a .total) ∙ t in
+        declined-only 13 0 (λ z. omega arith) (answer-is ∙ rw q) (memory-is ∙ rw q) (plan 13 0 0 0 0) refl refl
+
+    done : isFull (p .total) ≡ false → Accepted m text p P N F
+    done t =
+        let q : tooMany (boundTo m Q) ≡ false = ap (ltb tableEntries) (a .total) ∙ t in
+        record {
+          answer = answer-is ∙ rw q (λ i. edited (a .whole i) (a .count i) (a .total i - entryCount m) (a .places i));
+          memory = memory-is ∙ rw q (ap (appendAll m) (a .new));
+          low = a .low;
+          high = ltb-false tableEntries (p .total) t;
+          few = a .few;
+          room = a .room;
+        }
+
+  pub planned-full : isFull (p .total) ≡ true → Planned m text (plan 13 0 0 0 0) P N F
+  planned-full t =
+      split (eqb (p .number) 0)
+      (λ e. full (b .bound (eqb-true (p .number) 0 e)) t)
+      (λ e. absurd (let z = b .refused (eqb-false (p .number) 0 e) .1 in let l = ltb-true tableEntries (p .total) t in omega arith))
+
+  pub planned-done : isFull (p .total) ≡ false → Planned m text p P N F
+  unfolding readAnswer readMemory
+  planned-done t =
+      record {
+        declined = λ u. let q = b .refused u .0 in record { answer = ap (readAnswer m) q; memory = ap (readMemory m) q };
+        accepted = λ z. done (b .bound z) t;
       }

@@ -8,7 +8,7 @@ use lib.IntN.{ℤ}
 use lib.ListN.{take}
 use Rattle.language.specs.Cases.{impossible, split}
 use Rattle.model.specs.Lists.{All}
-use Rattle.model.specs.Model.{State, Request, Open, Edit, Preview, finished, written}
+use Rattle.model.specs.Model.{State, Request, Open, Edit, Preview, Print, refused, finished, written, filled}
 use Rattle.model.specs.Since.{Sendable}
 use Rattle.model.specs.Runs.{answers, after}
 use Rattle.model.specs.Engine.{Sent, told, machine}
@@ -23,17 +23,19 @@ use Rattle.interface.specs.declared.answers.Edited.{Edited}
 use Rattle.interface.specs.declared.answers.Edited.the-variants as E
 use Rattle.interface.specs.declared.answers.Previewed.{Previewed}
 use Rattle.interface.specs.declared.answers.Previewed.the-variants as P
-use Rattle.interface.specs.Answers.{Reply, shownOf, openReply, editReply, previewReply, openNumber, editNumbers, previewNumbers}
-use Rattle.interface.specs.Calls.{previewed}
+use Rattle.interface.specs.Answers.{Reply, shownOf, openReply, editReply, previewReply, printedAs, openNumber, editNumbers, previewNumbers, printNumbers}
+use Rattle.interface.specs.Calls.{previewed, printAnswer}
 use Rattle.interface.specs.Effects.{OpensForC}
+use Rattle.interface.specs.Acceptance.{textAt}
+use Rattle.interface.specs.Outcomes.{PrintOutcome, print-outcome}
 use Rattle.interface.specs.AcceptanceLaws.{open-zero}
 use Rattle.promises.specs.Lending.{lend, back}
 use Rattle.promises.specs.LendingLaws.{lent-fits}
 use Rattle.promises.specs.Implementing.{implements}
 use Rattle.promises.specs.Engine.{says, leaves, engine}
 use Rattle.promises.specs.Showing.{preview-plain}
-use Rattle.promises.specs.Boundary.{ForC, fromOpen, fromEdit, fromPreview, Step, opens, edits, previews, Run, none, next}
-use Rattle.promises.specs.Boundary.{AsC, openDone, openRefused, editDone, editRefused, previewLeft, previewDone, previewRefused, AllAsC, DemandForC}
+use Rattle.promises.specs.Boundary.{ForC, fromOpen, fromEdit, fromPreview, fromPrint, Step, opens, edits, previews, prints, Run, none, next}
+use Rattle.promises.specs.Boundary.{AsC, openDone, openRefused, editDone, editRefused, previewLeft, previewDone, previewRefused, printDone, printRefused, AllAsC, DemandForC}
 
 -- the numbers of an answer are those of the model's
 open-numbers : (r : List ℤ) (x : Opened) → AsC (Open r) (openReply x) (fromOpen (openNumber x))
@@ -61,6 +63,28 @@ module _ (m : Memory) (n a : ℕ) (sound : fits m ≡ true → All IsReading (re
 moved : (q : Request formulas) {y z : Reply} {u x : ForC} → y ≡ z → u ≡ x → AsC q y u → AsC q z x
 moved q e f h = rw (← e, ← f) h
 
+-- a print is declined, or gives its text
+print-numbers : (m : Memory) (n : ℕ) (bs : List ℕ)
+    → AsC (Print n bs) (printAnswer m n bs) (fromPrint (printNumbers (printedAs (printAnswer m n bs))) (filled formulas (printAnswer m n bs) bs))
+unfolding filled
+print-numbers m n bs = by (print-outcome m n bs)
+  where
+    Given : Reply → Type 0
+    Given y = AsC (Print n bs) y (fromPrint (printNumbers (printedAs y)) (filled formulas y bs))
+
+    declined : {k at : ℕ} → printAnswer m n bs ≡ refused k at → Given (printAnswer m n bs)
+    declined {k} {at} e = subst Given (sym e) (printRefused n bs k at)
+
+    by : PrintOutcome m n bs → Given (printAnswer m n bs)
+    by (PrintOutcome.little f e) = declined e
+    by (PrintOutcome.ill w e) = declined e
+    by (PrintOutcome.none l e) = declined e
+    by (PrintOutcome.cramped q l e) = declined e
+    by (PrintOutcome.long q l e) = declined e
+    by (PrintOutcome.unread q j p u e) = declined e
+    by (PrintOutcome.other r d e) = declined e
+    by (PrintOutcome.taken r d e) = subst Given (sym e) (printDone n bs (textAt m n))
+
 -- one call
 step-given : (m : Memory) (q : Request formulas) (m′ : Memory) (x : ForC) → (fits m ≡ true → All IsReading (recordingOf m)) → Step m q m′ x
     → AsC q (says m q) x × (m′ ≡ leaves m q)
@@ -73,6 +97,10 @@ step-given _ _ _ _ sound (edits m places text m′ places′ x s) =
 step-given _ _ _ _ sound (previews m n a m′ x s) =
     let e = s .previews .answer in
     (moved (Preview n a) (ap previewReply e) (ap fromPreview (sym (s .numbers))) (preview-numbers m n a sound (s .answer) (sym e)), s .previews .memory)
+step-given _ _ _ _ sound (prints m n bs bs′ x s) =
+    let e : _≡_ {A = ForC} (fromPrint (printNumbers (printedAs (printAnswer m n bs))) (filled formulas (printAnswer m n bs) bs)) (fromPrint x bs′) =
+    λ t. fromPrint (sym (s .numbers ∙ ap printNumbers (s .prints .answer)) t) (sym (s .prints .filled) t) in
+    (moved (Print n bs) refl e (print-numbers m n bs), refl)
 
 abbrev IsCache : Memory → Type 0
 IsCache = Cache formulas formula-laws engine implements

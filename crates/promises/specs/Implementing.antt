@@ -6,18 +6,19 @@ use lib.ListN.{length}
 use Rattle.language.specs.Limits.{textBytes, tableReadings}
 use Rattle.language.specs.Cases.{split}
 use Rattle.model.specs.Model as Model
-use Rattle.model.specs.Model.{State, Request, Open, Edit, Preview, Outcome, Answer}
+use Rattle.model.specs.Model.{State, Request, Open, Edit, Preview, Print, Outcome, Answer}
 use Rattle.model.specs.Responses.{answer}
 use Rattle.model.specs.Implements.{Agrees, Same, Implements}
 use Rattle.formulas.specs.Formulas.{formulas}
 use Rattle.bridge.specs.FormulaLaws.{formula-laws}
 use Rattle.layout.specs.Memory.{Memory, fits}
-use Rattle.interface.specs.Calls.{openAnswer, openMemory, editAnswer, editMemory, previewed, previewMemory}
+use Rattle.interface.specs.Calls.{openAnswer, openMemory, editAnswer, editMemory, previewed, previewMemory, printAnswer}
 use Rattle.demand.specs.Holds.{holds, Ok}
 use Rattle.demand.specs.Editing.{Done, editing}
 use Rattle.demand.specs.Opening.{opening, too-long}
 use Rattle.demand.specs.Accepted.{accepted}
 use Rattle.demand.specs.Previewing.{previewing}
+use Rattle.demand.specs.Printing.{printing}
 use Rattle.promises.specs.Engine.{says, leaves, engine}
 use Rattle.promises.specs.LendingLaws.{lent-short, restored, lent-whole, back-whole, keeps-none}
 
@@ -29,16 +30,18 @@ same m n p = record { ok = p .0; holds = p .1 }
 
 -- memory under the cache's size
 short-answer : (m : Memory) (q : Request formulas) (s : State formulas) → fits m ≡ false → says m q ≡ answer formulas s (record { enough = false; request = q })
-unfolding openAnswer editAnswer previewed Model.onRequest Model.onOpen Model.onEdit Model.onPreview
+unfolding openAnswer editAnswer previewed printAnswer Model.onRequest Model.onOpen Model.onEdit Model.onPreview Model.onPrint
 short-answer m (Open r) s f = split (ltb tableReadings (length r)) (λ p. rw (p, answer)) (λ p. rw (p, f, answer))
 short-answer m (Edit places text) s f = split (ltb textBytes (length text)) (λ p. rw (p, answer)) (λ p. rw (p, f, answer))
 short-answer m (Preview n a) s f = rw (f, answer)
+short-answer m (Print n bytes) s f = rw (f, answer)
 
 short-memory : (m : Memory) (q : Request formulas) → fits m ≡ false → leaves m q ≡ m
 unfolding openMemory editMemory previewMemory
 short-memory m (Open r) f = split (ltb tableReadings (length r)) (λ p. rw p) (λ p. rw (p, f))
 short-memory m (Edit places text) f = split (ltb textBytes (length text)) (λ p. rw p) (λ p. rw (p, f))
 short-memory m (Preview n a) f = rw f
+short-memory m (Print n bytes) f = refl
 
 pub implements : Implements formulas formula-laws engine
 implements =
@@ -56,5 +59,6 @@ implements =
       opening = λ m r f h sound. agrees _ _ _ (opening m r f h);
       edit = λ m places text o i. agrees _ _ _ (editing m places text o i (accepted m o i));
       preview = λ m n a o i. agrees _ _ _ (previewing m n a o i (accepted m o i));
-      places = λ m q. refl;
+      print = λ m n bytes o i. agrees _ _ _ (printing m n bytes o (accepted m o i));
+      lent-after = λ m q. refl;
     }

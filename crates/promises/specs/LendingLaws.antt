@@ -20,7 +20,7 @@ use Rattle.model.specs.Invariant.{Invariant}
 use Rattle.meaning.specs.Forms.{Form}
 use Rattle.formulas.specs.Formulas.{formulas}
 use Rattle.bridge.specs.FormulaLaws.{formula-laws}
-use Rattle.bridge.specs.EntryForms.{formsOf}
+use Rattle.table.specs.EntryForms.{formsOf}
 use Rattle.layout.specs.Links.{tableLinks, tableCells, kindIndex, firstIndex, secondIndex, keyIndex, valueIndex, nameIndex, otherIndex}
 use Rattle.layout.specs.Memory.{Memory, Entry, fits, entryCount, readingCount, recordingOf, nothingKept, entryAt, nodeAt, keptAt}
 use Rattle.layout.specs.Memory.{entriesFrom, entriesOf, nodesOf}

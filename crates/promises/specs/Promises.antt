@@ -1,13 +1,14 @@
 -- What the engine promises, on one page. The calls are those of interface's Calls, which the contracts of the exported functions cite; what each
 -- of these theorems says is written out where it is named. Assumes nothing.
 --   1. Any call gets a result or a numbered refusal: the definitions of Calls are total, and the exported functions ask for nothing. When a call
---      is accepted and with which numbers it is refused is said exactly (interface's Acceptance). A refusal changes no lent memory (Declined),
---      and cells beyond the sizes keep their contents (Outside). A cache that a call accepts, whatever was in it, is accepted by the next one
---      (Accepting).
+--      is accepted and with which numbers it is refused is said exactly (interface's Acceptance; of a print, Printing). A refusal changes no lent
+--      memory (Declined), and cells beyond the sizes keep their contents (Outside), as do lent bytes behind a printed text (Printing). A cache
+--      that a call accepts, whatever was in it, is accepted by the next one (Accepting).
 --   2. A text is read exactly if a tree of the grammar spells its tokens and keeps the limits, and is refused exactly where 01 says; an edit is
 --      declined for its text exactly if that is too long or is not read. Packed names are equal exactly if their bytes are (Naming). What a
 --      finished preview of a part shows is what evaluation gives for its let-free form, and what is delayed shows the names of Figure 5
---      (Awaiting). Division goes down (rules' NumbersLaws).
+--      (Awaiting). Division goes down (rules' NumbersLaws). What is printed of an entry is read as the entry's form again and printed as the same
+--      bytes (Printing).
 --   3. Over every list of calls after an opening the engine answers as the reference model does, and ends holding what it holds (model's
 --      Demand), and so over every run of a program in C (Boundary).
 use mathlib.Core.Path.{_≡_, sym, ap}
@@ -25,7 +26,7 @@ use Rattle.grammar.specs.Reading.{tree, refused as refusedAt, RefusedBy, placeO
 use Rattle.grammar.specs.Machine.{readText}
 use Rattle.grammar.specs.Theorems.{text-read-plainly, text-refused}
 use Rattle.model.specs.Lists.{All}
-use Rattle.model.specs.Model.{refused, opened, said}
+use Rattle.model.specs.Model.{refused, opened, edited, printed, said}
 use Rattle.model.specs.Since.{Sendable}
 use Rattle.model.specs.Engine.{Sent, told}
 use Rattle.model.specs.Demand.{Demand}
@@ -43,7 +44,7 @@ use Rattle.rules.specs.NumbersLaws as Division
 use Rattle.meaning.specs.Forms.{Form, function, same, IsDependency, dependency, AtOrBelow, within, works}
 use Rattle.meaning.specs.FormsLaws as Forms
 use Rattle.rules.specs.Apply.{isDelayed, apply1}
-use Rattle.meaning.specs.Binding.{formsByPlace}
+use Rattle.meaning.specs.Binding.{formOf, formsByPlace}
 use Rattle.meaning.specs.Evaluation.{valueOf, runOf, Environment, bind, lookup, settled, evaluate, putFor, hasName, awaited, aWindow, aDelay, aReason, shows}
 use Rattle.meaning.specs.EvaluationLaws.{evaluate-put}
 use Rattle.meaning.specs.Substitution.{Substituted, AtLetsE}
@@ -59,12 +60,15 @@ use Rattle.interface.specs.declared.answers.Opened.{Opened}
 use Rattle.interface.specs.declared.answers.Edited.{Edited}
 use Rattle.interface.specs.declared.answers.Previewed.{Previewed}
 use Rattle.interface.specs.declared.answers.Previewed.the-variants.{Finished, Refused}
+use Rattle.interface.specs.declared.answers.Printed.{Printed}
 use Rattle.interface.specs.declared.answers.EditAnswer.{EditAnswer}
 use Rattle.interface.specs.declared.answers.PreviewAnswer.{PreviewAnswer}
-use Rattle.interface.specs.Answers.{openReply, editReply, previewReply, shownOf}
+use Rattle.interface.specs.declared.answers.PrintAnswer.{PrintAnswer}
+use Rattle.interface.specs.Answers.{openReply, editReply, previewReply, printedAs, shownOf}
 use Rattle.interface.specs.Calls.{openAnswer, openMemory, editAnswer, editMemory, editPlaces, previewed, previewAnswer, previewMemory, partOf, fetched}
-use Rattle.interface.specs.Effects.{Opens, Edits, Previews, OpensForC, EditsForC, PreviewsForC}
-use Rattle.interface.specs.Acceptance.{OpenRefusal, EditRefusal, PreviewRefusal, IsEdited, InLanguage, TextDeclined}
+use Rattle.interface.specs.Calls.{formAt, printAnswer, printBytes}
+use Rattle.interface.specs.Effects.{Opens, Edits, Previews, Prints, OpensForC, EditsForC, PreviewsForC, PrintsForC}
+use Rattle.interface.specs.Acceptance.{OpenRefusal, EditRefusal, PreviewRefusal, PrintRefusal, IsEdited, InLanguage, TextDeclined, Held, textAt}
 use Rattle.interface.specs.AcceptanceLaws as Acceptance
 use Rattle.demand.specs.Holds.{workedOut}
 use Rattle.promises.specs.Lending.{lend, FirstOf, back}
@@ -74,13 +78,14 @@ use Rattle.promises.specs.Engine.{engine}
 use Rattle.promises.specs.Boundary.{ForC, Run, DemandForC}
 use Rattle.promises.specs.BoundaryLaws as Boundary
 use Rattle.promises.specs.Awaiting as Awaiting
-use Rattle.promises.specs.Terms.{HasWord, beyond, CanEdit, readingsOf, AwaitedNames}
+use Rattle.promises.specs.Terms.{HasWord, beyond, CanEdit, CanPrint, readingsOf, AwaitedNames}
 use Rattle.promises.specs.Naming as Naming
 use Rattle.promises.specs.Declined as Declined
 use Rattle.promises.specs.Outside as Outside
 use Rattle.promises.specs.Showing as Showing
 use Rattle.promises.specs.Fetching as Fetching
 use Rattle.promises.specs.Accepting as Accepting
+use Rattle.promises.specs.Printing as Printing
 
 -- What the functions answer is, by 01's numbers and values of their enums, the answer of Calls.
 pub open-answers : (m : Memory) (r : List ℤ) (m′ : Memory) (x : Opened) → Opens m r m′ x → openReply x ≡ openAnswer m r
@@ -92,6 +97,10 @@ edit-answers m places text m′ places′ x p = p .answer
 
 pub preview-answers : (m : Memory) (n a : ℕ) (m′ : Memory) (x : Previewed) → Previews m n a m′ x → previewReply x ≡ previewAnswer m n a
 preview-answers m n a m′ x p = ap previewReply (p .answer)
+
+-- A print answers its text's length. Its contract has no memory afterwards: the cache is only read.
+pub print-answers : (m : Memory) (n : ℕ) (bytes bytes′ : List ℕ) (x : Printed) → Prints m n bytes bytes′ x → x ≡ printedAs (printAnswer m n bytes)
+print-answers m n bytes bytes′ x p = p .answer
 
 -- 1. When a call is accepted. An open: the memory fits, and the recording has at most 1,024 readings.
 pub open-accepted : (m : Memory) (r : List ℤ) → (openAnswer m r ≡ opened) ↔ ((fits m ≡ true) × (length r ≤ tableReadings))
@@ -107,8 +116,26 @@ pub preview-accepted : (m : Memory) (n a : ℕ)
     → ((k : ℕ) → ¬ (previewed m n a ≡ Refused k)) ↔ ((fits m ≡ true) × (wellFormed m ≡ true) × (n < entryCount m))
 preview-accepted = Acceptance.preview-accepted
 
+-- 02, T-04: a print: the memory fits, the cache is well-formed, and it holds the entry; the text of the entry's let-free form fits the lent bytes
+-- and has at most 1,024 bytes; and it is read, with that form.
+pub print-accepted : (m : Memory) (n : ℕ) (bytes t : List ℕ) → (printAnswer m n bytes ≡ printed t) ↔ CanPrint m n bytes t
+print-accepted = Printing.print-accepted
+
+-- For an entry that is held, 15 is exactly that the text exceeds the lent bytes, or that it is over 1,024 bytes or no tree of the grammar spells
+-- its tokens and keeps the limits: an edit would be declined for it with 1 or a number from 5 to 12 (text-declined, below).
+pub print-fifteen : (m : Memory) (n : ℕ) (bytes : List ℕ)
+    → (printAnswer m n bytes ≡ refused 15 0) ↔ (Held m n × ((length bytes < length (textAt m n)) ⊎ (¬ InLanguage (textAt m n))))
+print-fifteen = Printing.print-fifteen
+
+-- And 16 is exactly that neither is so, and that what is read has another form.
+pub print-sixteen : (m : Memory) (n : ℕ) (bytes : List ℕ)
+    → (printAnswer m n bytes ≡ refused 16 0)
+    ↔ (Held m n × (length (textAt m n) ≤ length bytes) × InLanguage (textAt m n)
+    × ((e : Expression) → readText (textAt m n) ≡ tree e → ¬ (formOf e ≡ formAt m n)))
+print-sixteen = Printing.print-sixteen
+
 -- One of the numbered refusals and no other: of an open 2 or 3; of an edit 1, 3, 4 or 13, or 5 to 12 with a place in the text or at its end; of
--- a preview 3, 4 or 14. The place of all others is 0.
+-- a preview 3, 4 or 14; of a print these, 15 or 16. The place of all others is 0.
 pub open-refusals : (m : Memory) (r : List ℤ) (n at : ℕ) → openAnswer m r ≡ refused n at → OpenRefusal n at
 open-refusals = Acceptance.open-refusals
 
@@ -117,6 +144,9 @@ edit-refusals = Acceptance.edit-refusals
 
 pub preview-refusals : (m : Memory) (n a k : ℕ) → previewed m n a ≡ Refused k → PreviewRefusal k
 preview-refusals = Acceptance.preview-refusals
+
+pub print-refusals : (m : Memory) (n : ℕ) (bytes : List ℕ) (k at : ℕ) → printAnswer m n bytes ≡ refused k at → PrintRefusal k × (at ≡ 0)
+print-refusals = Acceptance.print-refusals
 
 -- The number that a caller in C gets is 0 exactly if the call was accepted.
 pub open-zero : (m : Memory) (r : List ℤ) (m′ : Memory) (c : ℕ) → OpensForC m r m′ c → (c ≡ 0) ↔ (openAnswer m r ≡ opened)
@@ -130,6 +160,10 @@ pub preview-zero : (m : Memory) (n a : ℕ) (m′ : Memory) (c : PreviewAnswer) 
     → (c .refusal ≡ 0) ↔ ((k : ℕ) → ¬ (previewed m n a ≡ Refused k))
 preview-zero = Acceptance.preview-zero
 
+pub print-zero : (m : Memory) (n : ℕ) (bytes bytes′ : List ℕ) (c : PrintAnswer) → PrintsForC m n bytes bytes′ c
+    → (c .refusal ≡ 0) ↔ ((t : List ℕ) × (printAnswer m n bytes ≡ printed t))
+print-zero = Acceptance.print-zero
+
 -- A declined call changes nothing.
 pub open-declined : (m : Memory) (r : List ℤ) (n at : ℕ) → openAnswer m r ≡ refused n at → openMemory m r ≡ m
 open-declined = Declined.open-declined
@@ -141,6 +175,9 @@ edit-declined = Declined.edit-declined
 pub preview-declined : (m : Memory) (n a k : ℕ) → previewed m n a ≡ Refused k → previewMemory m n a ≡ m
 preview-declined = Declined.preview-declined
 
+pub print-declined : (m : Memory) (n : ℕ) (bytes : List ℕ) (k at : ℕ) → printAnswer m n bytes ≡ refused k at → printBytes m n bytes ≡ bytes
+print-declined = Printing.print-declined
+
 -- Cells beyond the sizes keep their contents.
 pub open-outside : (m : Memory) (r : List ℤ) → beyond (openMemory m r) ≡ beyond m
 open-outside = Outside.open-outside
@@ -150,6 +187,11 @@ edit-outside = Outside.edit-outside
 
 pub preview-outside : (m : Memory) (n a : ℕ) → beyond (previewMemory m n a) ≡ beyond m
 preview-outside = Outside.preview-outside
+
+-- The first lent bytes are the printed text, and all others keep their contents.
+pub print-outside : (m : Memory) (n : ℕ) (bytes t : List ℕ) → printAnswer m n bytes ≡ printed t
+    → (take (length t) (printBytes m n bytes) ≡ t) × (drop (length t) (printBytes m n bytes) ≡ drop (length t) bytes)
+print-outside = Printing.print-outside
 
 -- What an open leaves is well-formed, and so is what an edit or a preview leaves of a cache that is, whatever was in it.
 pub open-well : (m : Memory) (r : List ℤ) → openAnswer m r ≡ opened → wellFormed (openMemory m r) ≡ true
@@ -302,11 +344,27 @@ fetch-windowless = Fetching.fetch-windowless
 pub fetch-none : (m : Memory) (n : ℕ) → (fits m && (wellFormed m && doneAt (entriesOf m) n)) ≡ false → partOf m n ≡ record { start = 0; length = 0 }
 fetch-none = Fetching.fetch-none
 
+-- 02, T-04: what is printed of an entry is read, and its let-free form is the entry's.
+pub print-read : (m : Memory) (n : ℕ) (bytes t : List ℕ) → printAnswer m n bytes ≡ printed t
+    → (e : Expression) × (readText t ≡ tree e) × (formOf e ≡ formAt m n)
+print-read = Printing.print-read
+
+-- So an edit of the same cache with the printed text gives the whole the entry's number, adds nothing, and changes nothing in the cache.
+pub print-edited : (m : Memory) (n : ℕ) (bytes t places : List ℕ) → printAnswer m n bytes ≡ printed t → textParts ≤ length places
+    → (p : ℕ) × (ns : List ℕ) × (editAnswer m places t ≡ edited n p 0 ns) × (editMemory m places t ≡ m)
+print-edited = Printing.print-edited
+
+-- And printing what was read gives back the printed bytes, over this cache or any other that the edit accepts.
+pub print-again : (m : Memory) (n : ℕ) (bytes t : List ℕ) → printAnswer m n bytes ≡ printed t
+    → (m′ : Memory) (places bytes′ : List ℕ) (w p k : ℕ) (ns : List ℕ) → editAnswer m′ places t ≡ edited w p k ns → length t ≤ length bytes′
+    → printAnswer (editMemory m′ places t) w bytes′ ≡ printed t
+print-again = Printing.print-again
+
 -- 3. Each call is lent any memory whose cells, as far as the cache's sizes go, are the cache's: longer or shorter than the last time.
 pub lent-any : (m n : Memory) → FirstOf m n → lend n m ≡ n
 lent-any = Lending.any-lent
 
--- What comes back as it was lent leaves the cache as it was.
+-- What comes back as it was lent, as after a print, leaves the cache as it was.
 pub lent-back : (n m : Memory) → fits m ≡ true → back m (lend n m) ≡ m
 lent-back = Lending.restored
 

@@ -1,9 +1,9 @@
--- What the promise page speaks of beside the calls and the model: the words of a text, cells beyond the sizes, when an edit is accepted, the
--- readings of what is shown, and the names that a form awaits. Assumes nothing: these are definitions.
+-- What the promise page speaks of beside the calls and the model: the words of a text, cells beyond the sizes, when an edit and a print are
+-- accepted, the readings of what is shown, and the names that a form awaits. Assumes nothing: these are definitions.
 use mathlib.Core.Path.{_≡_}
 use mathlib.Core.Bool.{true, cond, not, _&&_, _||_}
 use mathlib.Core.List.{List, [], _∷_, _++_}
-use Prim.Native.Nat.{ℕ, _≤_}
+use Prim.Native.Nat.{ℕ, _≤_, _<_}
 use lib.Dec.{eqb}
 use lib.IntN.{ℤ}
 use lib.ListN.{length, take, drop}
@@ -16,12 +16,14 @@ use Rattle.grammar.specs.Machine.{readText}
 use Rattle.model.specs.Model.{holdAll}
 use Rattle.formulas.specs.Formulas.{formulas}
 use Rattle.meaning.specs.Forms.{Form, number, variable, unbound, readings, ask, call, function}
-use Rattle.meaning.specs.Binding.{formsInOrder}
+use Rattle.meaning.specs.Binding.{formOf, formsInOrder}
 use Rattle.meaning.specs.Evaluation.{hasName, joined, without, awaited}
+use Rattle.printing.specs.Printed.{textOf}
 use Rattle.layout.specs.Links.{tableLinks, tableCells}
-use Rattle.layout.specs.Memory.{Memory, memory, fits}
+use Rattle.layout.specs.Memory.{Memory, memory, fits, entryCount}
 use Rattle.schedule.specs.declared.View.{View}
 use Rattle.interface.specs.Answers.{natural}
+use Rattle.interface.specs.Calls.{formAt}
 use Rattle.table.specs.WellFormed.{wellFormed}
 use Rattle.demand.specs.Holds.{holds}
 
@@ -44,6 +46,19 @@ pub record CanEdit (m : Memory) (places text : List ℕ) : Type 0 where
   pub expression : Expression
   pub read : readText text ≡ tree expression
   pub held : length (holdAll formulas (formsInOrder expression) (holds m .entries)) ≤ tableEntries
+
+-- 02, T-04: entry n can be printed as t: none of 3, 4 and 14 comes up, nor 15, as t, the text of the entry's let-free form, fits the lent bytes and
+-- is read, nor 16, as it is read with that form
+pub record CanPrint (m : Memory) (n : ℕ) (bytes t : List ℕ) : Type 0 where
+  pub whole : fits m ≡ true
+  pub well : wellFormed m ≡ true
+  pub inside : n < entryCount m
+  pub is : t ≡ textOf (formAt m n)
+  pub room : length t ≤ length bytes
+  pub short : length t ≤ textBytes
+  pub expression : Expression
+  pub read : readText t ≡ tree expression
+  pub same : formOf expression ≡ formAt m n
 
 -- the readings of what is shown: kind 2 is a window
 unfoldable pub readingsOf : List ℤ → View → List ℤ

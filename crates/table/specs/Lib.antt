@@ -1,13 +1,14 @@
 pub mod ArityLaws
+pub mod AwaitedBuild
 pub mod AwaitedForms
 pub mod Awaits
-pub mod AwaitedBuild
 pub mod AwaitsLaws
 pub mod Bind
 pub mod Chain
 pub mod ChainLaws
 pub mod Checked
 pub mod CheckedLaws
+pub mod EntryForms
 pub mod NodeKinds
 pub mod Right
 pub mod RightLaws

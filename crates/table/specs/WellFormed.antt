@@ -6,11 +6,11 @@ use lib.Dec.{leb, ltb, eqb}
 use lib.ListN.{length, getD}
 use Rattle.language.specs.Limits.{tableEntries, tableReadings}
 use Rattle.values.specs.Packing.{isPacked, functionCell, delayedCell}
-use Rattle.model.specs.Decoding.{decodeFrom}
 use Rattle.meaning.specs.Forms.{Form}
 use Rattle.meaning.specs.Evaluation.{awaited}
 use Rattle.layout.specs.Memory.{Memory, Node, Kept, Entry, entryCount, readingCount, entriesOf, nodesOf}
-use Rattle.layout.specs.Nodes.{numberKind, variableKind, unboundKind, functionKind, kindCount, worksKind, arity, kids, sameNode, build, isName}
+use Rattle.table.specs.EntryForms.{formsOf}
+use Rattle.layout.specs.Nodes.{numberKind, variableKind, unboundKind, functionKind, kindCount, worksKind, arity, kids, sameNode, isName}
 
 -- a test of every entry, with its number
 unfoldable pub every : {A : Type 0} → (ℕ → A → Bool) → ℕ → List A → Bool
@@ -50,7 +50,7 @@ distinct (n ∷ ns) = not (hasNode n ns) && distinct ns
 
 -- an entry awaiting over two names: the form that it stands for does
 abbrev pub awaitsFew : List Node → Bool
-awaitsFew ns = every (λ i (f : Form). leb (length (awaited f)) 2) 0 (decodeFrom build Form.readings [] ns)
+awaitsFew ns = every (λ i (f : Form). leb (length (awaited f)) 2) 0 (formsOf ns)
 
 -- worked out: from the start, or by a preview
 abbrev pub isDone : Entry → Bool

@@ -3,7 +3,7 @@
 use crate::member::Member;
 use crate::proved;
 use crate::tree::Shown;
-use engine::ffi::{self, EditAnswer, PreviewAnswer};
+use engine::ffi::{self, EditAnswer, PreviewAnswer, PrintAnswer};
 use engine::memory::{CELLS, DATA, FUNCTION, LINKS, NUMBER, READINGS, VARIABLE};
 
 pub const ENTRIES: usize = 512;
@@ -128,6 +128,25 @@ impl Cache {
                 self.links.as_ptr(),
                 self.links.len(),
                 self.cells.as_mut_ptr(),
+                self.cells.len(),
+            )
+        }
+    }
+
+    pub fn print(&self, entry: u32, bytes: &mut [u8]) -> PrintAnswer {
+        // SAFETY: each pointer and length are those of one live slice, and no two overlap.
+        unsafe {
+            ffi::formula_print(
+                entry,
+                bytes.as_mut_ptr(),
+                bytes.len(),
+                self.readings.as_ptr(),
+                self.readings.len(),
+                self.heads.as_ptr(),
+                self.heads.len(),
+                self.links.as_ptr(),
+                self.links.len(),
+                self.cells.as_ptr(),
                 self.cells.len(),
             )
         }

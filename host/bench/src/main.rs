@@ -17,6 +17,7 @@ mod lua;
 mod machine;
 mod member;
 mod plot;
+mod printing;
 mod proved;
 mod reader;
 mod reading;
@@ -50,6 +51,7 @@ const GROUPS: &[(&str, Measure)] = &[
     ("evaluating", evaluating::measure),
     ("bodies", bodies::measure),
     ("reading", |_, figures| reading::measure(figures)),
+    ("printing", |_, figures| printing::measure(figures)),
     ("tables", tables::measure),
     ("stack", stack::measure),
     ("size", |_, figures| size::measure(figures)),
@@ -57,7 +59,7 @@ const GROUPS: &[(&str, Measure)] = &[
 
 /// The groups that can be kept by themselves: bytes, which don't depend on what else the machine does, and times of which no other table or
 /// plot is made.
-const KEPT: [&str; 4] = ["stack", "size", "stretches", "reading"];
+const KEPT: [&str; 5] = ["stack", "size", "stretches", "reading", "printing"];
 
 /// All groups run so often, so that other work on the machine for a while does not decide a figure.
 const PASSES: u32 = 3;

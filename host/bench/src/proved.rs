@@ -26,6 +26,15 @@ mod raw {
             records: *mut [u64; 256],
             places: *mut [u16; 128],
         ) -> u64;
+        pub fn measured_print(
+            entry: u32,
+            bytes: *mut u8,
+            bytes_len: usize,
+            links: *const u16,
+            links_len: usize,
+            cells: *const u64,
+            cells_len: usize,
+        ) -> u64;
         pub fn measured_can_bind(
             links: *const u16,
             links_len: usize,
@@ -120,6 +129,22 @@ pub fn work(
 pub fn read(text: &[u8], records: &mut [u64; 256], places: &mut [u16; 128]) -> u64 {
     // SAFETY: the slice is live, and the arrays are and are not shared.
     unsafe { raw::measured_read(text.as_ptr(), text.len(), records, places) }
+}
+
+/// Writes an entry's text: how many bytes it has, or 0 if there are too few. Nothing is tested, and the text is not read again.
+pub fn print(entry: u32, bytes: &mut [u8], links: &[u16], cells: &[u64]) -> u64 {
+    // SAFETY: each pointer and length are those of one live slice, and `bytes` is not shared.
+    unsafe {
+        raw::measured_print(
+            entry,
+            bytes.as_mut_ptr(),
+            bytes.len(),
+            links.as_ptr(),
+            links.len(),
+            cells.as_ptr(),
+            cells.len(),
+        )
+    }
 }
 
 /// Whether n records can be bound to the first `count` entries.

@@ -3,6 +3,7 @@
 
 use crate::figures::{ENGINE, Figures, PLAIN, name};
 use crate::plot::{self, Panel};
+use crate::printing::READ_BACK;
 use crate::{formulas, lua};
 use std::path::Path;
 use std::{fs, io};
@@ -29,6 +30,8 @@ fn tables(figures: &Figures) -> Vec<(&'static str, String)> {
         ("calls", values(figures, "calls", &[ENGINE], microseconds)),
         ("parts", ratios(figures, "parts", &[PLAIN])),
         ("reading", ratios(figures, "reading", &[PLAIN])),
+        ("printing", ratios(figures, "printing", &[PLAIN, READ_BACK])),
+        ("printer", ratios(figures, "printer", &[PLAIN])),
         ("stretches", ratios(figures, "stretches", &others)),
         ("stretch", ratios(figures, "stretch", &[PLAIN])),
         ("stack", values(figures, "stack", &[ENGINE], plot::number)),

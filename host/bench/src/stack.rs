@@ -86,6 +86,24 @@ fn deepest(recording: &[i32]) -> (Cache, u32) {
     (cache, runs)
 }
 
+/// A cache that no text makes: each entry depends on the one before it, in one of these ways, over the number in entry 0.
+fn towers() -> [(&'static str, Cache); 4] {
+    let tower = |add: fn(&mut Cache, u16) -> u16| {
+        let mut cache = Cache::new(&[]);
+        let mut last = cache.number(1);
+        while (cache.heads[0] as usize) < ENTRIES {
+            last = add(&mut cache, last);
+        }
+        cache
+    };
+    [
+        ("511 calls in one another's arguments", tower(|cache, last| cache.member(Add, 0, last))),
+        ("a chain of 511 calls", tower(|cache, last| cache.member(Add, last, 0))),
+        ("511 calls that each double", tower(|cache, last| cache.member(Add, last, last))),
+        ("511 functions in one another", tower(|cache, last| cache.function("a", last))),
+    ]
+}
+
 /// A cache that no text makes, without a run: each function stands in the body of the next and awaits its variable, so that all are judged in
 /// one another.
 fn deepest_functions(recording: &[i32]) -> (Cache, u32) {
@@ -111,6 +129,7 @@ pub fn measure(readings: &[i32], figures: &mut Figures) {
     let full = tables::worked(tables::full(readings));
     preview("nothing to work out and 512 entries held", full.clone(), figures);
     previews(figures);
+    prints(figures);
     parts(&full, figures);
 }
 
@@ -166,12 +185,53 @@ fn previews(figures: &mut Figures) {
     preview(&name, cache, figures);
 }
 
+/// Texts that are printed, and the refusal of their print.
+fn printed() -> [(&'static str, Vec<u8>, u32); 7] {
+    [
+        ("a small formula", b"data.skip(1).sum()".to_vec(), 0),
+        ("a chain of 127 calls", texts::long_chain(), 0),
+        ("16 open marks: calls in arguments", texts::nested_calls(), 0),
+        ("16 open marks: functions in brackets", texts::bracketed_functions(), 0),
+        ("calls in arguments, 972 bytes", texts::printed_arguments(), 0),
+        ("lets that double 6 times", texts::doubled(6), 0),
+        ("lets that double 14 times; refused", texts::doubled(14), 15),
+    ]
+}
+
+/// Prints of the whole of a text, and of the last entry of a cache.
+fn prints(figures: &mut Figures) {
+    let mut print = |name: &str, cache: &Cache, entry: u32, refusal: u32| {
+        let mut text = [0; 1024];
+        let print = used(|| assert_eq!(cache.print(entry, &mut text).refusal, refusal));
+        bytes(&format!("print: {name}"), print, figures);
+    };
+    for (name, text, refusal) in printed() {
+        let mut cache = Cache::new(&[]);
+        let whole = cache.edit(&text).whole;
+        print(name, &cache, whole, refusal);
+    }
+    for (name, cache) in towers() {
+        let name = format!("{name}: a cache that no text makes; refused");
+        print(&name, &cache, ENTRIES as u32 - 1, 15);
+    }
+}
+
 /// The parts of the engine by themselves.
 fn parts(full: &Cache, figures: &mut Figures) {
     for (name, text) in texts() {
         let (mut records, mut places) = ([0; 256], [0; 128]);
         let read = used(|| assert!(proved::read(&text, &mut records, &mut places) >> 32 == 0));
         bytes(&format!("part: reading {name}"), read, figures);
+    }
+    for (name, text, refusal) in printed() {
+        let mut cache = Cache::new(&[]);
+        let entry = cache.edit(&text).whole;
+        let mut text = [0; 1024];
+        let print = used(|| {
+            let length = proved::print(entry, &mut text, &cache.links, &cache.cells);
+            assert_eq!(length > 0, refusal == 0);
+        });
+        bytes(&format!("part: printing {name}"), print, figures);
     }
     let well_formed = used(|| {
         assert!(proved::is_well_formed(&full.heads, &full.links, &full.cells));

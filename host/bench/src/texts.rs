@@ -111,6 +111,38 @@ pub fn chain_in_calls() -> Vec<u8> {
     ("data.skip(".repeat(15) + "data" + &".sum()".repeat(97) + &")".repeat(15)).into_bytes()
 }
 
+/// 1,012 bytes: a chain of 63 calls with arguments of nine digits.
+pub fn printed_chain() -> Vec<u8> {
+    let calls: String = (0..63).map(|i| format!(".skip({})", 100_000_000 + i)).collect();
+    format!("data{calls}").into_bytes()
+}
+
+/// 972 bytes: four arguments, each of 14 calls in one another's arguments, with numbers of ten digits.
+pub fn printed_arguments() -> Vec<u8> {
+    let nest = |i: usize| {
+        let calls: String =
+            (0..14).map(|k| format!("{}.sub(", 1_000_000_000 + 14 * i + k)).collect();
+        format!(".add({calls}2000000000{})", ")".repeat(14))
+    };
+    ("data.count()".to_string() + &(0..4).map(nest).collect::<String>()).into_bytes()
+}
+
+/// 16 open marks, two of them functions and two the brackets around these.
+pub fn bracketed_functions() -> Vec<u8> {
+    let calls = "1.add(".repeat(11);
+    format!(r"{calls}(\a -> (\b -> b.add(a)).sum()).sum(){}", ")".repeat(11)).into_bytes()
+}
+
+/// Lets that each double the one before, so often: in full the whole has two to this power of numbers.
+pub fn doubled(times: usize) -> Vec<u8> {
+    let mut text = "let d0 = 1 in ".to_string();
+    for i in 1..=times {
+        let last = i - 1;
+        text += &format!("let d{i} = d{last}.add(d{last}) in ");
+    }
+    format!("{text}d{times}").into_bytes()
+}
+
 /// A chain of windows and figures over them, as it is typed.
 pub fn windows_and_sums() -> String {
     let mut text = "data.skip(20).take(900).sum()".to_string();

@@ -32,6 +32,16 @@ static void preview(uint32_t entry, uint32_t allowance)
            other);
 }
 
+/* Behind the text it writes two of the bytes that were lent, which keep their contents. */
+static void print(uint32_t entry, size_t room)
+{
+    static char text[FORMULA_TEXT_BYTES + 2];
+    formula_print_answer answer;
+    memset(text, '#', sizeof text);
+    answer = formula_cache_print(&cache, entry, text, room);
+    printf("print %" PRIu32 " %" PRIu32 " [%.*s]\n", answer.refusal, answer.length, (int)answer.length + 2, text);
+}
+
 static void depth(uint32_t entry)
 {
     printf("depth %u\n", formula_cache_run_depth(&cache, entry));
@@ -45,6 +55,7 @@ int main(void)
     printf("open %" PRIu32 "\n", formula_cache_open(&cache, long_recording, FORMULA_RECORDING_READINGS + 1));
     edit("data");
     preview(0, 1);
+    print(0, FORMULA_TEXT_BYTES);
     printf("open %" PRIu32 "\n", formula_cache_open(&cache, NULL, 0));
     edit("data.count()");
     preview(1, 1);
@@ -86,6 +97,23 @@ int main(void)
     preview(40, 512);
     edit("\\abcdefgh -> abcdefghi");
     edit("data.countWhen(1)");
+    print(4, FORMULA_TEXT_BYTES);
+    print(6, 20);
+    print(6, 19);
+    print(6, 0);
+    print(37, 2);
+    print(42, FORMULA_TEXT_BYTES);
+    print(41, FORMULA_TEXT_BYTES);
+    print(39, 8);
+    print(39, 7);
+    print(32, FORMULA_TEXT_BYTES);
+    print(43, FORMULA_TEXT_BYTES);
+    edit("let f = \\a -> a in f.add(\\a -> f)");
+    print(44, FORMULA_TEXT_BYTES);
+    print(45, FORMULA_TEXT_BYTES);
+    print(46, FORMULA_TEXT_BYTES);
+    edit("(\\a -> a).count()");
+    print(47, FORMULA_TEXT_BYTES);
     memset(&cache, 0xff, sizeof cache);
     depth(511);
     depth(512);

@@ -12,6 +12,9 @@ static formula_edit_answer (*const edit_call)(const uint8_t *, size_t, uint16_t 
 static formula_preview_answer (*const preview_call)(uint32_t, uint32_t, const int32_t *, size_t,
                                                     const uint32_t *, size_t, const uint16_t *, size_t,
                                                     uint64_t *, size_t) = formula_preview;
+static formula_print_answer (*const print_call)(uint32_t, uint8_t *, size_t, const int32_t *, size_t,
+                                                const uint32_t *, size_t, const uint16_t *, size_t,
+                                                const uint64_t *, size_t) = formula_print;
 
 #define SAY(name, number) printf("%s %lu\n", name, (unsigned long)(number))
 #define SIZE(type) SAY("sizeof " #type, sizeof(type))
@@ -22,6 +25,7 @@ static void sizes(void)
 {
     SIZE(formula_edit_answer);
     SIZE(formula_preview_answer);
+    SIZE(formula_print_answer);
     SIZE(formula_cache);
     FIELD(formula_edit_answer, refusal);
     FIELD(formula_edit_answer, place);
@@ -36,6 +40,8 @@ static void sizes(void)
     FIELD(formula_preview_answer, second);
     FIELD(formula_preview_answer, name);
     FIELD(formula_preview_answer, other);
+    FIELD(formula_print_answer, refusal);
+    FIELD(formula_print_answer, length);
     VALUE(FORMULA_RECORDING_READINGS);
     VALUE(FORMULA_TEXT_BYTES);
     VALUE(FORMULA_TEXT_PARTS);
@@ -68,6 +74,8 @@ static void numbers(void)
     VALUE(FORMULA_REFUSAL_TEXT_LIMIT);
     VALUE(FORMULA_REFUSAL_TABLE_FULL);
     VALUE(FORMULA_REFUSAL_NO_SUCH_ENTRY);
+    VALUE(FORMULA_REFUSAL_TEXT_UNFIT);
+    VALUE(FORMULA_REFUSAL_OTHER_FORM);
     VALUE(FORMULA_KIND_NUMBER);
     VALUE(FORMULA_KIND_WINDOW);
     VALUE(FORMULA_KIND_FUNCTION);
@@ -82,7 +90,7 @@ static void numbers(void)
 
 int main(void)
 {
-    if (open_call == NULL || edit_call == NULL || preview_call == NULL) {
+    if (open_call == NULL || edit_call == NULL || preview_call == NULL || print_call == NULL) {
         return 1;
     }
     sizes();

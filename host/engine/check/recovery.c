@@ -1,4 +1,4 @@
-/* Shows formulas by the screen's own functions, over a cache that is damaged in between. */
+/* Shows formulas and parts by the screen's own functions, over a cache that is damaged in between. */
 #define main screen_main
 #include "../../../shell/formula.c"
 #undef main
@@ -12,7 +12,7 @@ static void type(const char *text)
 {
     screen.text = text;
     screen.length = strlen(text);
-    take_formula(&cache, &recording, &screen, &held);
+    take_line(&cache, &recording, &screen, &held);
 }
 
 /* A formula whose cache is damaged after the edit. */
@@ -36,5 +36,10 @@ int main(void)
     type("data.sum().add(1)");
     type_and_damage("data.max()");
     type("data.max()");
+    type("? 1");
+    cache.heads[0] = 1;
+    type("? 1");
+    cache.links[0] = UINT16_MAX;
+    type("? 1");
     return 0;
 }

@@ -1,7 +1,10 @@
 //! A cache in guarded memory, called through the C interface. Each call is followed by
 //! tests that it wrote what it may write and nothing else.
 
-use crate::ffi::{EditAnswer, PreviewAnswer, formula_edit, formula_open, formula_preview};
+use crate::ffi::{
+    EditAnswer, PreviewAnswer, PrintAnswer, formula_edit, formula_open, formula_preview,
+    formula_print,
+};
 use crate::lent::{Cell, Lent};
 use crate::memory::{CELLS, HEADS, LINKS, Memory, READINGS, name, names};
 use plain::model::{Answer, Call};
@@ -78,8 +81,10 @@ impl Cache {
     /// Makes a call: with all the memory, or with one slice cut if the call is to have
     /// too little.
     pub fn call(&mut self, call: &Call) -> Answer {
-        let (Call::Open { enough, .. } | Call::Edit { enough, .. } | Call::Preview { enough, .. }) =
-            call;
+        let (Call::Open { enough, .. }
+        | Call::Edit { enough, .. }
+        | Call::Preview { enough, .. }
+        | Call::Print { enough, .. }) = call;
         if *enough {
             return self.call_with(call, self.all());
         }
@@ -103,6 +108,7 @@ impl Cache {
             Call::Open { readings, .. } => self.open(readings, lengths),
             Call::Edit { text, places, .. } => self.edit(text, *places, lengths),
             Call::Preview { entry, allowance, .. } => self.preview(*entry, *allowance, lengths),
+            Call::Print { entry, bytes, .. } => self.print(*entry, bytes, lengths),
         };
         let are_guarded = self.readings.is_guarded()
             && self.heads.is_guarded()
@@ -177,6 +183,28 @@ impl Cache {
         };
         preview_answer(answer)
     }
+
+    fn print(&mut self, entry: u32, old: &[u8], lengths: Lengths) -> Answer {
+        let mut bytes = Lent::new(old);
+        // SAFETY: each pointer is good for its length, and no two slices overlap.
+        let answer = unsafe {
+            formula_print(
+                entry,
+                bytes.pointer(),
+                old.len(),
+                self.readings.pointer(),
+                lengths.readings,
+                self.heads.pointer(),
+                lengths.heads,
+                self.links.pointer(),
+                lengths.links,
+                self.cells.pointer(),
+                lengths.cells,
+            )
+        };
+        assert!(bytes.is_guarded(), "a guard of the bytes was written");
+        print_answer(answer, old, bytes.contents())
+    }
 }
 
 /// A slice that is lent to be read only.
@@ -201,7 +229,20 @@ impl<T: Cell> Read<T> {
 }
 
 fn refused(number: u32, place: u32) -> Answer {
-    Answer::Refused { number: u8::try_from(number).expect("refusals are 1 to 14"), place }
+    Answer::Refused { number: u8::try_from(number).expect("refusals are 1 to 16"), place }
+}
+
+/// A print's answer in the model's terms. The length is 0 where it is refused, and bytes
+/// past it keep their contents.
+fn print_answer(raw: PrintAnswer, old: &[u8], bytes: &[u8]) -> Answer {
+    let length = raw.length as usize;
+    assert!(raw.refusal == 0 || length == 0, "{raw:?}");
+    assert_eq!(bytes[length..], old[length..], "bytes past the text were written: {raw:?}");
+    if raw.refusal != 0 {
+        return refused(raw.refusal, 0);
+    }
+    let text = String::from_utf8(bytes[..length].to_vec());
+    Answer::Printed { text: text.expect("a printed text is ASCII") }
 }
 
 /// An edit's answer in the model's terms. Fields without a value are 0, and places
@@ -265,7 +306,9 @@ fn raw_preview(answer: &Answer) -> PreviewAnswer {
         Answer::Finished { worked, shown } => {
             raw_shown(PreviewAnswer { finished: 1, worked: *worked, ..nothing }, shown)
         }
-        Answer::Opened | Answer::Edited { .. } => panic!("no preview is answered so"),
+        Answer::Opened | Answer::Edited { .. } | Answer::Printed { .. } => {
+            panic!("no preview is answered so")
+        }
     }
 }
 
@@ -306,6 +349,7 @@ fn check_written(before: &Memory, call: &Call, answer: &Answer, after: &Memory) 
             let marked = add_kept(&mut expected, after);
             assert_eq!(marked, *worked, "entries that became worked out in {call:?}");
         }
+        (Call::Print { .. }, Answer::Printed { .. }) => (),
         _ => panic!("{call:?} was answered {answer:?}"),
     }
     let difference = first_difference(&expected, after);

@@ -25,6 +25,14 @@ pub struct PreviewAnswer {
     pub other: u64,
 }
 
+/// The answer to a print.
+#[repr(C)]
+#[derive(Clone, Copy, PartialEq, Eq, Debug)]
+pub struct PrintAnswer {
+    pub refusal: u32,
+    pub length: u32,
+}
+
 unsafe extern "C" {
     pub fn formula_open(
         recording: *const i32,
@@ -66,4 +74,18 @@ unsafe extern "C" {
         cells: *mut u64,
         cells_length: usize,
     ) -> PreviewAnswer;
+
+    pub fn formula_print(
+        entry: u32,
+        bytes: *mut u8,
+        bytes_length: usize,
+        readings: *const i32,
+        readings_length: usize,
+        heads: *const u32,
+        heads_length: usize,
+        links: *const u16,
+        links_length: usize,
+        cells: *const u64,
+        cells_length: usize,
+    ) -> PrintAnswer;
 }

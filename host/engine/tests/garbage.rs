@@ -1,23 +1,24 @@
 //! Memory of any contents. `judge` says which is refused under 4. In the rest an edit is
 //! answered as binding over the decoded entries says, and a preview works out the entries
-//! that it must; where all kept results are those of their forms, so are the new ones.
-//! That a refused call changes nothing, and that no other cell is written, is tested by
-//! `Cache` at each call.
+//! that it must; where all kept results are those of their forms, so are the new ones. A
+//! print gives the text of the decoded form. That a refused call changes nothing, and that
+//! no other cell or byte is written, is tested by `Cache` at each call.
 
 use engine::cache::Cache;
 use engine::compare::Pair;
 use engine::damage::{damage, made_up, with_spare};
 use engine::judge::is_well_formed;
-use engine::memory::{MEMBERS, Memory, first_unknown};
+use engine::memory::{FUNCTION, MEMBERS, Memory, first_unknown};
 use plain::bind::bind;
 use plain::eval::Evaluation;
 use plain::form::{Form, Forms};
 use plain::member::Member;
-use plain::model::Answer;
+use plain::model::{Answer, Call};
+use plain::print;
 use plain::random::formula::{formula, join};
 use plain::random::limit::wide;
 use plain::random::rng::Rng;
-use plain::random::{are_affordable, session};
+use plain::random::{are_affordable, bytes_to_lend, session};
 use plain::refusal::{NO_SUCH_ENTRY, TABLE_FULL};
 use plain::samples::{ALL, RECORDING, edit, open, preview};
 use plain::shown::Shown;
@@ -126,23 +127,39 @@ fn count_preview(memory: &Memory, entry: u32, allowance: u32, tally: &mut Tally)
     answer
 }
 
-/// An edit and a preview of one memory, sometimes with longer slices.
+/// Checks a print into bytes of these contents.
+fn check_print(memory: &Memory, entry: u32, bytes: Vec<u8>) -> Answer {
+    let room = bytes.len();
+    let answer = Cache::new(memory).call(&Call::Print { entry, bytes, enough: true });
+    let refused = |number: u8| Answer::Refused { number, place: 0 };
+    let expected = if !is_well_formed(memory) {
+        ILL_FORMED
+    } else if entry as usize >= memory.entries() {
+        refused(NO_SUCH_ENTRY)
+    } else {
+        let printed = print::print(&memory.forms(), entry as usize, room);
+        printed.map_or_else(|fault| refused(fault.number()), |text| Answer::Printed { text })
+    };
+    assert_eq!(answer, expected, "entry {entry}, {room} bytes");
+    answer
+}
+
+/// An edit, a print and a preview of one memory, sometimes with longer slices.
 fn check(rng: &mut Rng, memory: &Memory, tally: &mut Tally) {
     let memory = &if rng.one_in(4) { with_spare(rng, memory) } else { memory.clone() };
     let tokens = formula(rng);
     let text = if rng.one_in(4) { wide(rng) } else { join(rng, &tokens) };
     tally.count(&check_edit(memory, &text));
-    let is_cheap = !is_well_formed(memory) || {
-        let readings = memory.heads[1] as usize;
-        are_affordable(&memory.forms(), readings)
+    let held = memory.heads[0];
+    let entry = match rng.below(8) {
+        1..=3 if held > 0 => held - 1,
+        4.. if held > 0 => rng.below(held.into()) as u32,
+        _ => held,
     };
-    if is_cheap {
-        let held = memory.heads[0];
-        let entry = match rng.below(8) {
-            1..=3 if held > 0 => held - 1,
-            4.. if held > 0 => rng.below(held.into()) as u32,
-            _ => held,
-        };
+    let forms = if is_well_formed(memory) { memory.forms() } else { Forms::default() };
+    let bytes = bytes_to_lend(rng, &forms, entry as usize);
+    tally.count(&check_print(memory, entry, bytes));
+    if are_affordable(&forms, memory.heads[1] as usize) {
         let allowance = rng.pick(&[0, 1, 2, 3, 512, u32::MAX]);
         let answer = count_preview(memory, entry, allowance, tally);
         tally.count(&answer);
@@ -166,6 +183,7 @@ fn damaged_caches() {
     }
     tally.check(&["refused 4", "refused 14", "edited", "not yet", "number", "window"], 100);
     tally.check(&["refused 5", "refused 13", "function", "delayed 1", "missing 1"], 5);
+    tally.check(&["printed", "refused 15", "refused 16"], 100);
 }
 
 #[test]
@@ -178,6 +196,7 @@ fn made_up_caches() {
     }
     tally.check(&["refused 4", "refused 14", "edited", "not yet", "number", "window"], 100);
     tally.check(&["function", "delayed 1", "delayed 2", "missing 1", "missing 2"], 5);
+    tally.check(&["printed", "refused 15", "refused 16"], 100);
     tally.check_rules(&[("bestSum", "number"), ("bestAt", "number")], 5);
     tally.check_rules(&[("bestSum", "missing 4"), ("bestSum", "missing 5")], 5);
     tally.check_rules(&[("bestAt", "missing 5")], 5);
@@ -210,12 +229,15 @@ fn counts_beyond_the_limits() {
         assert_eq!(check_edit(&memory, b"1"), ILL_FORMED);
         assert_eq!(check_preview(&memory, 0, 1), ILL_FORMED);
         assert_eq!(check_preview(&memory, count - 1, 1), ILL_FORMED);
+        assert_eq!(check_print(&memory, 0, vec![0; 9]), ILL_FORMED);
+        assert_eq!(check_print(&memory, count - 1, vec![0; 9]), ILL_FORMED);
     }
     let mut memory = used().memory();
     for count in [1025, 65_536 + 5, u32::MAX] {
         memory.heads[1] = count;
         assert_eq!(check_edit(&memory, b"1"), ILL_FORMED);
         assert_eq!(check_preview(&memory, 0, 1), ILL_FORMED);
+        assert_eq!(check_print(&memory, 0, vec![0; 9]), ILL_FORMED);
     }
 }
 
@@ -301,6 +323,9 @@ fn clauses_of_refusal_4() {
         assert!(!is_well_formed(&memory), "{clause}");
         assert_eq!(check_edit(&memory, b"data"), ILL_FORMED, "{clause}");
         assert_eq!(check_preview(&memory, 0, 1), ILL_FORMED, "{clause}");
+        for entry in [0, 11] {
+            assert_eq!(check_print(&memory, entry, vec![1; 4]), ILL_FORMED, "{clause}");
+        }
     }
 }
 
@@ -317,6 +342,10 @@ fn kinds_of_members() {
         assert!(is_well_formed(&memory), "{member:?}");
         let answer = check_preview(&memory, right as u32, ALL);
         assert!(matches!(answer, Answer::Finished { worked: 1, .. }), "{member:?}: {answer:?}");
+        let text = format!("data.{member:?}({})", ["", "1"][member.arguments()]);
+        let room = text.len();
+        let answer = check_print(&memory, right as u32, vec![0; room]);
+        assert_eq!(answer, Answer::Printed { text });
         let memory = changed(Change::Link(wrong, 0, unknown));
         assert_eq!(check_edit(&memory, b"data"), ILL_FORMED, "{member:?}");
         unknown += 1;
@@ -335,8 +364,10 @@ fn three_awaited_names_are_refused() {
     memory.cells[44..52].copy_from_slice(&[0x63, 0, 0, 0, 0, 0, 0, 0]);
     assert!(!is_well_formed(&memory));
     assert_eq!(check_edit(&memory, b"data"), ILL_FORMED);
+    assert_eq!(check_print(&memory, 0, vec![0; 4]), ILL_FORMED);
     memory.links[37] = 4;
     assert!(is_well_formed(&memory));
+    check_print(&memory, 12, vec![0; 100]);
     assert!(matches!(check_edit(&memory, b"data"), Answer::Edited { whole: 0, new: 0, .. }));
 }
 
@@ -370,6 +401,44 @@ fn good_contents_at_the_limits() {
         for entry in 0..11 {
             let answer = check_preview(&memory, entry, ALL);
             assert!(matches!(answer, Answer::Finished { .. }), "{answer:?}");
+            check_print(&memory, entry, vec![0; 1024]);
         }
+    }
+}
+
+/// A full table over one entry, the number 1: each further entry depends on the one before
+/// it, by as many of its links as there are here.
+fn tower(kind: u16, key: u64, links: usize) -> Memory {
+    let mut memory = Memory::filled(|| 0);
+    memory.heads[0] = 512;
+    memory.cells[0] = (1 << 31) + 1;
+    for entry in 1..512 {
+        memory.links[3 * entry] = kind;
+        memory.links[3 * entry + 1..3 * entry + 1 + links].fill(entry as u16);
+        memory.cells[4 * entry] = key;
+    }
+    assert!(is_well_formed(&memory));
+    memory
+}
+
+/// Forms far larger than a text, and such as are just small enough: each doubled, in a
+/// chain of calls, or functions in one another.
+#[test]
+fn prints_of_towers() {
+    let kind = |name: &str| {
+        let at = Member::all().position(|member| member.name() == name).expect("a member");
+        MEMBERS + at as u16
+    };
+    let (doubles, calls, functions) =
+        (tower(kind("add"), 0, 2), tower(kind("count"), 0, 1), tower(FUNCTION, 0x61, 1));
+    for (memory, most) in [(doubles, 6), (calls, 127), (functions, 1)] {
+        for entry in (0..140).chain([200, 510, 511]) {
+            for room in [0, 1, 441, 442, 1016, 1017, 1018, 1023, 1024, 1025, 4096] {
+                let answer = check_print(&memory, entry, vec![0xff; room]);
+                let is_printed = matches!(answer, Answer::Printed { .. });
+                assert!(is_printed == (entry <= most) || room < 1017, "{entry}: {answer:?}");
+            }
+        }
+        check_print(&memory, 512, vec![0; 4096]);
     }
 }

@@ -2,7 +2,7 @@
 //! C and C++ of all standards, and calls through its wrappers get the engine's answers.
 //! And docs/MEMORY.md, which it refers to, has the kinds of the member table.
 
-use engine::ffi::{EditAnswer, PreviewAnswer};
+use engine::ffi::{EditAnswer, PreviewAnswer, PrintAnswer};
 use engine::memory;
 use engine::program::{check, compiler, exists, linked, root, run, text, written};
 use plain::member::Member;
@@ -30,6 +30,7 @@ fn layout() -> Vec<(&'static str, usize)> {
     vec![
         ("sizeof formula_edit_answer", size_of::<EditAnswer>()),
         ("sizeof formula_preview_answer", size_of::<PreviewAnswer>()),
+        ("sizeof formula_print_answer", size_of::<PrintAnswer>()),
         ("sizeof formula_cache", 23_560),
         ("formula_edit_answer.refusal", offset_of!(EditAnswer, refusal)),
         ("formula_edit_answer.place", offset_of!(EditAnswer, place)),
@@ -44,6 +45,8 @@ fn layout() -> Vec<(&'static str, usize)> {
         ("formula_preview_answer.second", offset_of!(PreviewAnswer, second)),
         ("formula_preview_answer.name", offset_of!(PreviewAnswer, name)),
         ("formula_preview_answer.other", offset_of!(PreviewAnswer, other)),
+        ("formula_print_answer.refusal", offset_of!(PrintAnswer, refusal)),
+        ("formula_print_answer.length", offset_of!(PrintAnswer, length)),
     ]
 }
 
@@ -85,6 +88,8 @@ fn numbers() -> Vec<(&'static str, usize)> {
         ("FORMULA_REFUSAL_TEXT_LIMIT", refusal::TEXT_LIMIT.into()),
         ("FORMULA_REFUSAL_TABLE_FULL", refusal::TABLE_FULL.into()),
         ("FORMULA_REFUSAL_NO_SUCH_ENTRY", refusal::NO_SUCH_ENTRY.into()),
+        ("FORMULA_REFUSAL_TEXT_UNFIT", refusal::TEXT_UNFIT.into()),
+        ("FORMULA_REFUSAL_OTHER_FORM", refusal::OTHER_FORM.into()),
         ("FORMULA_KIND_NUMBER", 1),
         ("FORMULA_KIND_WINDOW", 2),
         ("FORMULA_KIND_FUNCTION", 3),
@@ -134,7 +139,8 @@ uint32_t use(formula_cache *cache, uint16_t *places, char *name)
 {
     formula_name_text(0x61, name);
     return formula_cache_open(cache, NULL, 0) + formula_cache_edit(cache, \"1\", 1, places).whole +
-           formula_cache_preview(cache, 0, 1).worked + formula_cache_run_depth(cache, 0);
+           formula_cache_preview(cache, 0, 1).worked + formula_cache_run_depth(cache, 0) +
+           formula_cache_print(cache, 0, name, 1).length;
 }
 ";
 
@@ -184,6 +190,7 @@ fn the_assertions_refuse_other_sizes() {
         ("FORMULA_HEADS_CELLS 2", "FORMULA_HEADS_CELLS 4"),
         ("uint32_t added;", "uint64_t added;"),
         ("int32_t first;", "int64_t first;"),
+        ("uint32_t length;", "uint64_t length;"),
     ];
     for (old, new) in changes {
         assert_eq!(header().matches(old).count(), 1, "{old}");
@@ -213,6 +220,7 @@ fn calls_from_c() {
     let expected = "open 2\n\
         edit 4 0 0 0 0:\n\
         preview 4 0 0 0 0 0 [] []\n\
+        print 4 0 [##]\n\
         open 0\n\
         edit 0 0 1 2 2: 0 1\n\
         preview 0 1 1 1 0 0 [] []\n\
@@ -248,6 +256,24 @@ fn calls_from_c() {
         preview 0 1 1 4 0 0 [abcdefgi] [abcdefgh]\n\
         edit 7 13 0 0 0:\n\
         edit 9 5 0 0 0:\n\
+        print 0 20 [data.skip(1).take(2)##]\n\
+        print 0 20 [data.skip(1).take(3)##]\n\
+        print 15 0 [##]\n\
+        print 15 0 [##]\n\
+        print 0 2 [-7##]\n\
+        print 0 48 [\\abcdefgi -> \\abcdefgh -> abcdefgi.add(abcdefgh)##]\n\
+        print 16 0 [##]\n\
+        print 16 0 [##]\n\
+        print 15 0 [##]\n\
+        print 0 127 [data.sumBy(\\b -> data.take(b).longestRun(\\c -> c))\
+            .add(data.countWhere(\\b -> data.take(b).longestRun(\\c -> c))).add(data.sum())##]\n\
+        print 14 0 [##]\n\
+        edit 0 0 46 7 4: 46 44 43 44 46 45 44\n\
+        print 0 7 [\\a -> a##]\n\
+        print 15 0 [##]\n\
+        print 15 0 [##]\n\
+        edit 0 0 47 3 1: 44 43 47\n\
+        print 0 17 [(\\a -> a).count()##]\n\
         depth 0\ndepth 0\n";
     assert_eq!(said("calls"), expected);
 }

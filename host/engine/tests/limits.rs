@@ -3,8 +3,9 @@
 use engine::cache::Cache;
 use engine::memory::Memory;
 use plain::model::{Answer, Call};
+use plain::samples::printed::{declined, printed_at_limits};
 use plain::samples::taken::{calls_on_one, forms_128, in_brackets, nest};
-use plain::samples::{ALL, edit, open, preview};
+use plain::samples::{ALL, edit, open, preview, print};
 use plain::shown::{Shown, Window};
 
 fn opened(recording: &[i32]) -> Cache {
@@ -111,6 +112,9 @@ fn entries_of_a_table() {
     assert!(matches!(cache.call(&preview(511, 512)), Answer::Finished { worked: 64, .. }));
     assert_eq!(cache.call(&preview(512, 1)), Answer::Refused { number: 14, place: 0 });
     assert_eq!(cache.call(&preview(u32::MAX, 1)), Answer::Refused { number: 14, place: 0 });
+    assert_eq!(cache.call(&print(511, 1024)), Answer::Printed { text: forms_128(192) });
+    assert_eq!(cache.call(&print(512, 1024)), Answer::Refused { number: 14, place: 0 });
+    assert_eq!(cache.call(&print(u32::MAX, 0)), Answer::Refused { number: 14, place: 0 });
 }
 
 #[test]
@@ -119,4 +123,36 @@ fn places_lent() {
         |places: usize| opened(&[]).call(&Call::Edit { text: b"7".to_vec(), places, enough: true });
     assert_eq!(with(128), Answer::Edited { whole: 0, parts: 1, new: 1, places: vec![0] });
     assert_eq!(with(127), Answer::Refused { number: 3, place: 0 });
+}
+
+/// The bytes of the whole of a text when it is printed into so many, or the number.
+fn printed(text: &str, room: usize) -> Result<usize, u8> {
+    let mut cache = opened(&[1, 2, 3]);
+    let Answer::Edited { whole, .. } = cache.call(&edit(text)) else { panic!("{text}") };
+    match cache.call(&print(whole, room)) {
+        Answer::Printed { text } => Ok(text.len()),
+        Answer::Refused { number, .. } => Err(number),
+        other => panic!("{text}: {other:?}"),
+    }
+}
+
+/// Bytes, parts, open marks and open lambdas of a printed text: what is just taken.
+#[test]
+fn printed_texts_at_the_limits() {
+    for (text, bytes) in printed_at_limits() {
+        for room in [bytes, bytes + 1, 1024, 1025, 5000] {
+            assert_eq!(printed(&text, room), Ok(bytes), "{text}");
+        }
+        assert_eq!(printed(&text, bytes - 1), Err(15), "{text}");
+    }
+}
+
+/// One more, and no text is printed, however many bytes are lent.
+#[test]
+fn printed_texts_beyond_the_limits() {
+    for (text, _) in declined() {
+        for room in [0, 1, 1023, 1024, 1025, 5000, 100_000] {
+            assert_eq!(printed(&text, room), Err(15), "{text}");
+        }
+    }
 }

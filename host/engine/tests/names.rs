@@ -5,7 +5,7 @@ use engine::program::root;
 use plain::member::Member;
 use plain::model::Answer;
 use plain::refusal::{DATA_BOUND, NAME_TOO_LONG, UNGRAMMATICAL, WRONG_CALL};
-use plain::samples::{edit, open};
+use plain::samples::{edit, open, print};
 use std::collections::{BTreeMap, BTreeSet};
 
 /// Bytes to put into words: each kind that a word may have, at both ends of its range.
@@ -65,7 +65,10 @@ fn words_nearly_alike() {
             for text in texts(&near, &word) {
                 pair.call(&open(&[1, 2, 3]));
                 match pair.call_in(&edit(&text), || text.clone()) {
-                    Answer::Edited { .. } => taken += 1,
+                    Answer::Edited { whole, .. } => {
+                        pair.call_in(&print(whole, text.len()), || text.clone());
+                        taken += 1;
+                    }
                     Answer::Refused { number, .. } => *refused.entry(number).or_insert(0) += 1,
                     other => panic!("{text}: {other:?}"),
                 }

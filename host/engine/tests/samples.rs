@@ -5,9 +5,10 @@ use engine::compare::{Pair, follow};
 use engine::memory::Memory;
 use plain::model::Answer;
 use plain::samples::calls::sessions;
+use plain::samples::printed::{PARTS, wholes};
 use plain::samples::refused::refused_texts;
 use plain::samples::taken::taken_texts;
-use plain::samples::{ALL, RECORDING, edit, open, preview, previews};
+use plain::samples::{ALL, RECORDING, edit, open, preview, previews, print};
 
 fn cache() -> Cache {
     Cache::new(&Memory::filled(|| 0))
@@ -66,5 +67,40 @@ fn texts_that_are_refused() {
     for refused in refused_texts() {
         let answer = Answer::Refused { number: refused.number, place: refused.place };
         follow(&mut cache, &[(edit(&refused.text), answer)]);
+    }
+}
+
+/// The bytes and, where a part is not printed, the number.
+#[test]
+fn printed_parts() {
+    for sample in PARTS {
+        let mut pair = Pair::new(0);
+        pair.call(&open(&RECORDING));
+        let Answer::Edited { places, .. } = pair.call(&edit(sample.text)) else {
+            panic!("{}", sample.text);
+        };
+        assert_eq!(places.len(), sample.parts.len(), "{}", sample.text);
+        for (place, part) in places.iter().zip(sample.parts) {
+            let expected = match *part {
+                Ok(text) => Answer::Printed { text: text.into() },
+                Err(number) => Answer::Refused { number, place: 0 },
+            };
+            assert_eq!(pair.call(&print(*place, 1024)), expected, "{}", sample.text);
+        }
+    }
+}
+
+#[test]
+fn printed_texts() {
+    for (text, whole_text) in wholes() {
+        let mut pair = Pair::new(0);
+        pair.call(&open(&RECORDING));
+        let Answer::Edited { whole, .. } = pair.call(&edit(text)) else { panic!("{text}") };
+        let printed = Answer::Printed { text: whole_text.into() };
+        for more in [0, 1, 1024] {
+            assert_eq!(pair.call(&print(whole, whole_text.len() + more)), printed, "{text}");
+        }
+        let unfit = Answer::Refused { number: 15, place: 0 };
+        assert_eq!(pair.call(&print(whole, whole_text.len() - 1)), unfit, "{text}");
     }
 }

@@ -4,16 +4,16 @@
 //!     FORMULA_SEED=77 FORMULA_CALLS=5000000 cargo test --release -p engine --test sessions
 
 use engine::compare::Pair;
-use plain::limits::TABLE_ENTRIES;
+use plain::limits::{TABLE_ENTRIES, TEXT_BYTES};
 use plain::model::Answer;
 use plain::random::formula::{formula, join};
-use plain::random::limit::wide;
+use plain::random::limit::{grown, wide};
 use plain::random::nested::nested;
 use plain::random::rng::Rng;
 use plain::random::single::single;
 use plain::random::{is_affordable, session};
 use plain::refusal::TABLE_FULL;
-use plain::samples::{edit, open, preview};
+use plain::samples::{edit, open, preview, print};
 use plain::tally::{ROUNDED_BELOW_0, Tally};
 use std::thread;
 
@@ -33,6 +33,7 @@ fn run(seed: u64) -> Tally {
     let mut tally = Tally::default();
     let mut pair = Pair::new(seed);
     for (at, call) in session(seed, CALLS_OF_SESSION).iter().enumerate() {
+        tally.count_print(&pair.model, call);
         let answer = pair.call_in(call, || format!("seed {seed}, call {at}:"));
         tally.count(&answer);
     }
@@ -78,6 +79,18 @@ fn preview_to_end(pair: &mut Pair, entry: u32, allowance: u32) {
     while let Answer::NotYet { .. } = pair.call(&preview(entry, allowance)) {}
 }
 
+/// Reading a printed text yields that very entry, and printing what was read gives back the
+/// printed text.
+fn print_and_read(pair: &mut Pair, entry: u32) -> Answer {
+    let answer = pair.call(&print(entry, TEXT_BYTES));
+    if let Answer::Printed { text } = &answer {
+        let edited = pair.call(&edit(text));
+        assert!(matches!(edited, Answer::Edited { whole, new: 0, .. } if whole == entry));
+        assert_eq!(pair.call(&print(entry, text.len())), answer);
+    }
+    answer
+}
+
 /// Fills the table with long texts and then, one entry at a time, to the last.
 fn fill(pair: &mut Pair, rng: &mut Rng) -> Vec<Vec<u8>> {
     let mut taken = Vec::new();
@@ -114,8 +127,10 @@ fn full_tables() {
         }
         for entry in (0..512).step_by(5) {
             preview_to_end(&mut pair, entry, [1, 2, 7, u32::MAX][entry as usize % 4]);
+            print_and_read(&mut pair, entry);
         }
         pair.call(&preview(512, 1));
+        pair.call(&print(512, TEXT_BYTES));
         pair.check_state();
         pair.call(&open(&[]));
         pair.call(&edit("20000"));
@@ -267,6 +282,28 @@ fn divisions() {
     tally.check_rules(&[("div", "number"), ("div", ROUNDED_BELOW_0)], 500);
     tally.check_rules(&[("div", "missing 3")], numbers.len());
     tally.check_rules(&[("div", "missing 4")], 1);
+}
+
+/// Every entry after random calls, and of texts that grow when their lets are replaced.
+#[test]
+fn printed_texts_are_read_as_their_entries() {
+    let mut tally = Tally::default();
+    for seed in 0..60 {
+        let mut rng = Rng::new(seed);
+        let mut pair = Pair::new(seed);
+        session(3_000_000 + seed, 40).iter().for_each(|call| drop(pair.call(call)));
+        for _ in 0..20 {
+            pair.call(&edit(grown(&mut rng)));
+        }
+        for entry in 0..pair.model.forms().list.len() as u32 {
+            let call = print(entry, TEXT_BYTES);
+            tally.count_print(&pair.model, &call);
+            tally.count(&print_and_read(&mut pair, entry));
+        }
+        pair.check_state();
+    }
+    tally.check(&["printed", "refused 15", "refused 16"], 500);
+    tally.check_prints(&["Declined(1)", "Declined(10)", "Declined(11)", "Declined(12)"], 50);
 }
 
 #[test]

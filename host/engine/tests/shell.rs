@@ -2,6 +2,7 @@
 //! and texts that no example file holds.
 
 use engine::program::{self, check, linked, root, text, written};
+use plain::samples::printed::{declined, printed_at_limits};
 use plain::samples::taken::forms_128;
 use std::path::{Path, PathBuf};
 use std::process::{Command, Output};
@@ -152,8 +153,43 @@ fn a_damaged_cache() {
         "    0  data             entry   0  window from 0, length 5: 140 152 160 148 155\n",
         "    1  .max             entry   1  160\n",
         "  2 parts; entries: 2 new, 0 reused, 1 worked out in 1 frame\n",
+        "    1  in full          entry   1  data.max()\n",
+        "    1  in full          entry   1  refused (14): no such entry\n",
+        &format!("    1  in full          entry   1  {ill_formed}"),
     ];
     assert_eq!(written(&program::run(&mut Command::new(program), b"")), expected.concat());
+}
+
+/// A line of '?' and a part's number shows that part of the last formula that was taken.
+#[test]
+fn parts_in_full() {
+    let seen = |lines: &str| written(&run(&["shell/interval.txt"], lines.as_bytes()));
+    for question in ["? 1", "?1", "?\t001 ", "? 1\r"] {
+        for between in ["", "# data\n\n", "data.\n", "? 0\n"] {
+            let output = seen(&format!("let x = 07 in x.add(-1)\n{between}{question}\n"));
+            assert!(output.ends_with("\n    1  in full          entry   0  7\n"), "{output}");
+        }
+    }
+    let none = "  no such part; type a formula, or ? and the number of a part of the last one";
+    for question in ["?", "? ", "? 3", "? 128", "? 4294967296", "? -0", "? 0x", "? 0 0", "? x"] {
+        let output = seen(&format!("1.add(2)\n{question}\n"));
+        let last = output.lines().last().expect("there is a line");
+        assert!(last.starts_with(none), "{question}: {output}");
+    }
+    assert!(seen("? 0\n").contains(none));
+    assert_eq!(seen("1\n ? 0\n").matches("refused (5)").count(), 1);
+    for (text, bytes) in printed_at_limits() {
+        let output = seen(&format!("{text}\n? 0\n"));
+        let (_, full) = output.rsplit_once("  ").expect("a row");
+        assert_eq!(full.trim_end().len(), bytes, "{output}");
+        assert!(seen(&format!("{full}? 0\n")).contains("entries: "), "{full}");
+    }
+    for (text, _) in declined() {
+        let row = "    0  in full          entry ";
+        let output = seen(&format!("{text}\n? 0\n"));
+        let last = output.lines().last().expect("there is a line");
+        assert!(last.starts_with(row) && last.contains("  refused (15): its text is"), "{last}");
+    }
 }
 
 /// Over one reading each run is one, so that the depth alone turns a part away: for the

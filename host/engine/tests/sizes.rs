@@ -7,7 +7,7 @@ use engine::memory::Memory;
 use plain::model::{Answer, Call};
 use plain::random::rng::Rng;
 use plain::random::session;
-use plain::samples::{ALL, RECORDING, edit, open, preview};
+use plain::samples::{ALL, RECORDING, edit, open, preview, print};
 
 fn refused(number: u8) -> Answer {
     Answer::Refused { number, place: 0 }
@@ -32,12 +32,17 @@ fn too_little_memory_is_refused() {
         for call in [open(&[7; 9]), open(&[]), edit("data.sum()"), edit("#"), preview(2, ALL)] {
             assert_eq!(cache.call_with(&call, lengths), refused(3), "{lengths:?} {call:?}");
         }
-        // 1 and 2 come first, 14 later.
+        for room in [0, 11, 12, 2000] {
+            assert_eq!(cache.call_with(&print(2, room), lengths), refused(3), "{lengths:?}");
+        }
+        // 1 and 2 come first, 14 to 16 later.
         assert_eq!(cache.call_with(&edit(" ".repeat(1025)), lengths), refused(1));
         assert_eq!(cache.call_with(&open(&[0; 1025]), lengths), refused(2));
         assert_eq!(cache.call_with(&preview(9, 1), lengths), refused(3));
+        assert_eq!(cache.call_with(&print(9, 0), lengths), refused(3));
     }
     assert!(matches!(cache.call(&preview(2, 0)), Answer::Finished { worked: 0, .. }));
+    assert_eq!(cache.call(&print(2, 12)), Answer::Printed { text: "data.skip(1)".into() });
 }
 
 /// 3 comes before 4, and 4 before all that the text or the number would give.
@@ -51,10 +56,13 @@ fn an_ill_formed_cache_with_too_little_memory() {
         let lengths = Lengths::cut(turn);
         assert_eq!(cache.call_with(&edit("1"), lengths), refused(3), "{lengths:?}");
         assert_eq!(cache.call_with(&preview(0, 1), lengths), refused(3), "{lengths:?}");
+        assert_eq!(cache.call_with(&print(0, 0), lengths), refused(3), "{lengths:?}");
     }
     assert_eq!(cache.call(&edit("#")), refused(4));
     assert_eq!(cache.call(&edit(" ".repeat(1025))), refused(1));
     assert_eq!(cache.call(&preview(9, 1)), refused(4));
+    assert_eq!(cache.call(&print(9, 0)), refused(4));
+    assert_eq!(cache.call(&print(0, 1024)), refused(4));
     assert_eq!(cache.call(&open(&[1])), Answer::Opened);
     assert!(matches!(cache.call(&edit("data")), Answer::Edited { new: 1, .. }));
 }

@@ -1,21 +1,25 @@
 //! The reference model (01: the plain book): its state, its calls and their answers.
+//! Print (02, T-04) only looks at the state.
 
 use crate::bind::bind;
 use crate::eval::Evaluation;
 use crate::form::{Form, Forms};
 use crate::limits::{PLACES, RECORDING_READINGS, TABLE_ENTRIES, TEXT_BYTES};
+use crate::print;
 use crate::refusal::*;
 use crate::shown::Shown;
 use crate::syntax::parse;
 use std::collections::BTreeMap;
 
 /// A call with its arguments. `enough` says whether the cache is lent whole; if not,
-/// too little of it is lent. `places` is the length of the lent list of places.
+/// too little of it is lent. `places` is the length of the lent list of places, and `bytes`
+/// what the bytes lent for a printed text hold before.
 #[derive(Clone, PartialEq, Eq, Debug)]
 pub enum Call {
     Open { readings: Vec<i32>, enough: bool },
     Edit { text: Vec<u8>, places: usize, enough: bool },
     Preview { entry: u32, allowance: u32, enough: bool },
+    Print { entry: u32, bytes: Vec<u8>, enough: bool },
 }
 
 /// The answer to a call.
@@ -38,6 +42,10 @@ pub enum Answer {
     Finished {
         worked: u32,
         shown: Shown,
+    },
+    /// The text in the first of the lent bytes. Those past it keep their contents.
+    Printed {
+        text: String,
     },
     /// The number, and the byte place for 5 to 12, else 0.
     Refused {
@@ -88,6 +96,7 @@ impl Model {
             Call::Open { readings, enough } => self.open(readings, *enough),
             Call::Edit { text, places, enough } => self.edit(text, *places, *enough),
             Call::Preview { entry, allowance, enough } => self.preview(*entry, *allowance, *enough),
+            Call::Print { entry, bytes, enough } => self.print(*entry, bytes.len(), *enough),
         }
     }
 
@@ -154,6 +163,21 @@ impl Model {
             return Answer::NotYet { worked: narrow(worked) };
         }
         Answer::Finished { worked: narrow(worked), shown: evaluation.show(number) }
+    }
+
+    /// Prints the let-free form of the entry into `room` bytes.
+    pub fn print(&self, entry: u32, room: usize, enough: bool) -> Answer {
+        if !enough {
+            return refused(MEMORY_TOO_SMALL);
+        }
+        let number = entry as usize;
+        if number >= self.forms.list.len() {
+            return refused(NO_SUCH_ENTRY);
+        }
+        match print::print(&self.forms, number, room) {
+            Ok(text) => Answer::Printed { text },
+            Err(fault) => refused(fault.number()),
+        }
     }
 
     /// The form of an entry, for inspection.

@@ -10,12 +10,14 @@ pub mod single;
 
 use crate::bind::bind;
 use crate::form::{Form, Forms};
+use crate::limits::TEXT_BYTES;
 use crate::member::Kind;
 use crate::model::{Answer, Call, Model};
+use crate::print::written;
 use crate::syntax::parse;
 use damage::{damaged, token_soup};
 use formula::{formula, join};
-use limit::{deep, wide};
+use limit::{deep, grown, wide};
 use nested::nested;
 use rng::Rng;
 use single::single;
@@ -68,10 +70,11 @@ impl Generator {
 
     fn next_call(&mut self) -> Call {
         let is_empty = self.model.forms().list.is_empty();
-        match self.rng.below(40) {
+        match self.rng.below(50) {
             0 if !self.is_filling => self.open(),
-            1..=19 => self.edit(),
-            20..=38 if is_empty => self.edit(),
+            1..=22 => self.edit(),
+            23..=48 if is_empty => self.edit(),
+            23..=30 => self.print(),
             _ => self.preview(),
         }
     }
@@ -95,6 +98,12 @@ impl Generator {
     fn preview(&mut self) -> Call {
         let allowance = self.rng.pick(&[0, 1, 1, 2, 3, 5, 8, 64, 512, 512, 65_536, u32::MAX]);
         Call::Preview { entry: self.entry(), allowance, enough: self.is_enough() }
+    }
+
+    fn print(&mut self) -> Call {
+        let entry = self.entry();
+        let bytes = bytes_to_lend(&mut self.rng, self.model.forms(), entry as usize);
+        Call::Print { entry, bytes, enough: self.is_enough() }
     }
 
     /// Whether the cache is lent whole.
@@ -128,7 +137,7 @@ impl Generator {
         if self.is_filling && self.rng.one_in(3) {
             return wide(&mut self.rng);
         }
-        match self.rng.below(28) {
+        match self.rng.below(31) {
             0..=7 => {
                 let tokens = formula(&mut self.rng);
                 join(&mut self.rng, &tokens)
@@ -149,6 +158,7 @@ impl Generator {
                 let tokens = single(&mut self.rng);
                 join(&mut self.rng, &tokens)
             }
+            26..=28 => grown(&mut self.rng),
             _ => self.changed_text(),
         }
     }
@@ -174,6 +184,16 @@ impl Generator {
         }
         text
     }
+}
+
+/// Bytes of any contents for the text of a form: none, one, as many as it has, one fewer or
+/// one more, about as many as a text may have, or more.
+pub fn bytes_to_lend(rng: &mut Rng, forms: &Forms, number: usize) -> Vec<u8> {
+    let text = forms.list.get(number).and_then(|_| written(forms, number, TEXT_BYTES));
+    let length = text.map_or(TEXT_BYTES, |text| text.len());
+    let rooms = [0, 1, length - 1, length, length, length + 1, 1023, 1024, 1024, 1025, 2000];
+    let room = rng.pick(&rooms);
+    (0..room).map(|_| rng.draw() as u8).collect()
 }
 
 /// Whether each entry of a text needs at most `MOST_RUNS` runs. Texts that are

@@ -1,4 +1,4 @@
-//! The numbers of 01's table "When a call is declined".
+//! The numbers of 01's table "When a call is declined", and those that 02, T-04 adds.
 //!
 //! Number 4, an ill-formed cache, is left out: the model's own forms are never
 //! ill-formed, so it never comes up here.
@@ -29,6 +29,11 @@ pub const TEXT_LIMIT: u8 = 12;
 pub const TABLE_FULL: u8 = 13;
 /// 14: no such entry.
 pub const NO_SUCH_ENTRY: u8 = 14;
+/// 15: the printed text exceeds the lent bytes, or the reader would decline it with 1 or
+/// 5 to 12.
+pub const TEXT_UNFIT: u8 = 15;
+/// 16: the printed text, read by itself, has a different let-free form.
+pub const OTHER_FORM: u8 = 16;
 
 /// Why a text is refused under 5 to 12, and the byte place of the token.
 #[derive(Clone, Copy, PartialEq, Eq, Debug)]

@@ -2,6 +2,7 @@
 //! Tests of the model use them, and tests of the engine can use them as well.
 
 pub mod calls;
+pub mod printed;
 pub mod refused;
 pub mod taken;
 
@@ -16,6 +17,9 @@ pub const RECORDING: [i32; 5] = [140, 152, 160, 148, 155];
 
 /// An allowance that covers every entry of a full table.
 pub const ALL: u32 = 512;
+
+/// What the bytes of a sample's print hold before: no byte of a printed text.
+const OLD_BYTE: u8 = 0xe7;
 
 /// A sample preview.
 pub struct Sample {
@@ -66,6 +70,11 @@ pub fn edit(text: impl AsRef<[u8]>) -> Call {
 /// A preview with the cache lent whole.
 pub fn preview(entry: u32, allowance: u32) -> Call {
     Call::Preview { entry, allowance, enough: true }
+}
+
+/// A print with the cache lent whole and so many bytes for the text.
+pub fn print(entry: u32, room: usize) -> Call {
+    Call::Print { entry, bytes: vec![OLD_BYTE; room], enough: true }
 }
 
 /// The figures of an edit: new entries, the whole text's entry, and the places.

@@ -1,11 +1,12 @@
-//! How often each kind of answer came and what each member's rule came to, so that tests
-//! over random calls can ask for enough of each.
+//! How often each kind of answer came, what each member's rule came to and why texts were
+//! not printed, so that tests over random calls can ask for enough of each.
 
 use crate::eval::Evaluation;
 use crate::form::Form;
 use crate::member::{Kind, Member};
-use crate::model::{Answer, Model};
-use crate::refusal::{NO_SUCH_ENTRY, TEXT_TOO_LONG};
+use crate::model::{Answer, Call, Model};
+use crate::print::print;
+use crate::refusal::{OTHER_FORM, TEXT_TOO_LONG};
 use crate::shown::{OUTSIDE_WINDOW, Shown, UNBOUND_NAME};
 use std::collections::BTreeMap;
 
@@ -20,6 +21,8 @@ pub struct Tally {
     answers: Counts<String>,
     /// Results of rules, by the member's name.
     rules: Counts<(&'static str, String)>,
+    /// What printing a form came to, as `Room` or `Declined(11)`.
+    prints: Counts<String>,
 }
 
 impl Tally {
@@ -54,9 +57,24 @@ impl Tally {
         }
     }
 
+    /// Counts what printing comes to, if the call is a print of a form that is held.
+    pub fn count_print(&mut self, model: &Model, call: &Call) {
+        if let Call::Print { entry, bytes, enough: true } = call
+            && model.form(*entry).is_some()
+        {
+            let label = match print(model.forms(), *entry as usize, bytes.len()) {
+                Ok(text) if text.len() == bytes.len() => "no byte left".into(),
+                Ok(_) => "bytes left".into(),
+                Err(fault) => format!("{fault:?}"),
+            };
+            *self.prints.entry(label).or_default() += 1;
+        }
+    }
+
     pub fn add(&mut self, other: Tally) {
         add(&mut self.answers, other.answers);
         add(&mut self.rules, other.rules);
+        add(&mut self.prints, other.prints);
     }
 
     /// How many answers were counted.
@@ -80,18 +98,27 @@ impl Tally {
         }
     }
 
-    /// That each answer to a session's calls came at least `least` times, and each result
-    /// of a member at least `least_rules` times: a number or a window, and those in the
-    /// list.
+    /// That printing came to each of these results at least so often.
+    pub fn check_prints(&self, labels: &[&str], least: usize) {
+        for label in labels {
+            let count = self.prints.get(*label).copied().unwrap_or(0);
+            assert!(count >= least, "{label} came {count} times: {:?}", self.prints);
+        }
+    }
+
+    /// That each answer to a session's calls came at least `least` times, and so did each
+    /// result of printing; and each result of a member at least `least_rules` times: a
+    /// number or a window, and those in the list.
     pub fn check_all(&self, least: usize, least_rules: usize) {
-        let refused = (TEXT_TOO_LONG..=NO_SUCH_ENTRY).filter(|number| *number != ILL_FORMED);
+        let refused = (TEXT_TOO_LONG..=OTHER_FORM).filter(|number| *number != ILL_FORMED);
         let refused = refused.map(|number| format!("refused {number}"));
         let missing = (UNBOUND_NAME..=OUTSIDE_WINDOW).map(|reason| format!("missing {reason}"));
         for label in refused.chain(missing) {
             self.check(&[&label], least);
         }
         self.check(&["opened", "edited", "not yet", "number", "window", "function"], least);
-        self.check(&["delayed 1", "delayed 2"], least);
+        self.check(&["delayed 1", "delayed 2", "printed"], least);
+        self.check_prints(PRINTS, least);
         for member in Member::all() {
             let is_window = member.result() == Kind::Window;
             let label = if is_window { "window" } else { "number" };
@@ -120,6 +147,18 @@ const RESULTS: &[(&str, &str)] = &[
     ("bestAt", "missing 5"),
 ];
 
+/// What printing a form can come to. The reader declines no printed text with 5 to 9.
+pub const PRINTS: &[&str] = &[
+    "no byte left",
+    "bytes left",
+    "Room",
+    "Declined(1)",
+    "Declined(10)",
+    "Declined(11)",
+    "Declined(12)",
+    "OtherForm",
+];
+
 fn add<Key: Ord>(counts: &mut Counts<Key>, others: Counts<Key>) {
     for (key, count) in others {
         *counts.entry(key).or_default() += count;
@@ -145,6 +184,7 @@ fn label(answer: &Answer) -> String {
         Answer::NotYet { .. } => "not yet".into(),
         Answer::Refused { number, .. } => format!("refused {number}"),
         Answer::Finished { shown, .. } => shown_label(shown),
+        Answer::Printed { .. } => "printed".into(),
     }
 }
 

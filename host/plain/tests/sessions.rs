@@ -3,7 +3,7 @@
 mod common;
 
 use plain::form::Form;
-use plain::limits::{PLACES, TABLE_ENTRIES};
+use plain::limits::{PLACES, TABLE_ENTRIES, TEXT_BYTES};
 use plain::model::{Answer, Call, Model};
 use plain::random::session;
 use plain::samples::preview;
@@ -17,7 +17,7 @@ fn check(before: &Model, call: &Call, answer: &Answer, after: &Model) {
     match (call, answer) {
         (_, Answer::Refused { number, place }) => {
             assert_eq!(after, before);
-            assert!((1..=14).contains(number) && *number != 4);
+            assert!((1..=16).contains(number) && *number != 4);
             assert!((5..=12).contains(number) || *place == 0);
         }
         (Call::Open { readings, .. }, Answer::Opened) => {
@@ -34,6 +34,10 @@ fn check(before: &Model, call: &Call, answer: &Answer, after: &Model) {
         }
         (Call::Preview { entry, allowance, .. }, _) => {
             check_preview(before, *entry, *allowance, answer, after)
+        }
+        (Call::Print { bytes, .. }, Answer::Printed { text }) => {
+            assert_eq!(after, before);
+            assert!((1..=bytes.len().min(TEXT_BYTES)).contains(&text.len()));
         }
         _ => panic!("{call:?} got {answer:?}"),
     }
@@ -168,6 +172,7 @@ fn sessions_reach_all_kinds_of_answers() {
     for seed in 0..600 {
         let mut model = Model::new();
         for call in session(seed, 60) {
+            tally.count_print(&model, &call);
             tally.count(&model.call(&call));
         }
         tally.count_rules(&model);

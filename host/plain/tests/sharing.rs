@@ -3,22 +3,11 @@
 mod common;
 
 use common::{missing, number, shown};
-
-/// Twelve lets, each the double of the one before it.
-fn doubled(start: &str, body: &str) -> String {
-    let names = ["b", "c", "d", "e", "f", "g", "h", "i", "j", "k", "l"];
-    let mut text = format!("let a = {start}.add({start}) in ");
-    let mut last = "a";
-    for name in names {
-        text += &format!("let {name} = {last}.add({last}) in ");
-        last = name;
-    }
-    text + &body.replace("LAST", last)
-}
+use plain::samples::taken::doubled;
 
 #[test]
 fn a_dozen_doubling_lets_over_a_long_recording() {
-    let text = format!("data.sumBy(\\x -> {})", doubled("x", "LAST"));
+    let text = format!("data.sumBy(\\x -> {})", doubled("x", 12, "LAST"));
     assert_eq!(shown(&[1; 1024], &text), number(4096 * 1024));
     assert_eq!(shown(&[1024; 1024], &text), missing(4));
 }

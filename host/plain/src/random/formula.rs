@@ -89,7 +89,7 @@ impl Writer<'_> {
             return self.name_or(Kind::Function, "0");
         }
         let name = self.name_to_bind();
-        if self.lambdas.contains(&name) && !self.rng.one_in(10) {
+        if self.lambdas.contains(&name) && !self.rng.one_in(4) {
             return self.lambda(depth);
         }
         let body_kind = if self.rng.one_in(12) { self.rng.pick(&KINDS) } else { Kind::Number };

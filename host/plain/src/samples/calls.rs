@@ -1,7 +1,7 @@
-//! Lists of calls about the refusals that no text decides alone: 1, 2, 3, 13, 14.
+//! Lists of calls about the refusals that no text decides alone: 1, 2, 3, 13 to 16.
 
 use super::taken::forms_128;
-use super::{ALL, RECORDING, Step, edit, open, preview};
+use super::{ALL, RECORDING, Step, edit, open, preview, print};
 use crate::model::{Answer, Call};
 use crate::shown::Shown;
 
@@ -15,6 +15,14 @@ fn edited(whole: u32, new: u32, places: &[u32]) -> Answer {
 
 fn finished(worked: u32, value: i32) -> Answer {
     Answer::Finished { worked, shown: Shown::Number(value) }
+}
+
+fn printed(text: &str) -> Answer {
+    Answer::Printed { text: text.into() }
+}
+
+fn short_print(entry: u32, room: usize) -> Call {
+    Call::Print { entry, bytes: vec![0; room], enough: false }
 }
 
 fn short_open(readings: usize) -> Call {
@@ -32,7 +40,9 @@ pub fn sessions() -> Vec<(&'static str, Vec<Step>)> {
         ("sizes of recordings", recordings()),
         ("sizes of texts", texts()),
         ("entry numbers", entries()),
+        ("bytes for a printed text", prints()),
         ("a full table", full_table()),
+        ("prints from a full table", full_table_prints()),
         ("an open clears", clearing()),
     ]
 }
@@ -51,6 +61,7 @@ fn memory() -> Vec<Step> {
         (edit_with("data.sum()", 128, true), edited(1, 2, &[0, 1])),
         (edit_with("data.sum()", 1000, true), edited(1, 0, &[0, 1])),
         (Call::Preview { entry: 1, allowance: ALL, enough: false }, refused(3)),
+        (short_print(1, 1024), refused(3)),
         (short_open(3), refused(3)),
         (preview(1, ALL), finished(1, 755)),
     ]
@@ -99,6 +110,35 @@ fn entries() -> Vec<Step> {
     ]
 }
 
+/// Numbers 15 and 16, with 3 and 14 before them. A print works nothing out and adds no
+/// entry.
+fn prints() -> Vec<Step> {
+    vec![
+        (open(&RECORDING), Answer::Opened),
+        (print(0, 1024), refused(14)),
+        (edit("let x = 2 in data.skip(1).take(x)"), edited(4, 5, &[4, 0, 1, 3, 2, 4, 0])),
+        (print(4, 20), printed("data.skip(1).take(2)")),
+        (print(4, 1025), printed("data.skip(1).take(2)")),
+        (print(4, 19), refused(15)),
+        (print(4, 0), refused(15)),
+        (print(5, 0), refused(14)),
+        (print(5, 1024), refused(14)),
+        (print(u32::MAX, 1024), refused(14)),
+        (short_print(5, 0), refused(3)),
+        (short_print(4, 20), refused(3)),
+        (preview(4, 1), Answer::NotYet { worked: 1 }),
+        (print(3, 12), printed("data.skip(1)")),
+        (edit("data.skip(1).take(2)"), edited(4, 0, &[1, 3, 2, 4, 0])),
+        (edit("\\a -> a.add(1)"), edited(7, 3, &[7, 5, 6, 2])),
+        (print(7, 14), printed("\\a -> a.add(1)")),
+        (print(5, 1), refused(16)),
+        (print(5, 0), refused(15)),
+        (print(6, 8), refused(16)),
+        (print(6, 7), refused(15)),
+        (print(7, 13), refused(15)),
+    ]
+}
+
 /// Number 13: 512 forms are held, and then one more is too many. Old forms, and
 /// texts refused under 5 to 12, get the same answers as before.
 fn full_table() -> Vec<Step> {
@@ -120,7 +160,29 @@ fn full_table() -> Vec<Step> {
     steps.push((edit("0"), edited(0, 0, &[0])));
     steps.push((preview(511, 0), Answer::NotYet { worked: 0 }));
     steps.push((preview(512, 0), refused(14)));
+    steps.push((print(511, last.len()), printed(&last)));
+    steps.push((print(512, last.len()), refused(14)));
     steps.push((preview(510, ALL), finished(63, 64 * 192 + 63 * 32)));
+    steps
+}
+
+/// A print needs no room in the table, even where its text would be a new form.
+fn full_table_prints() -> Vec<Step> {
+    let mut steps = vec![(open(&RECORDING), Answer::Opened)];
+    for round in 0..3 {
+        steps.push((edit(forms_128(round * 64)), edited_128(round as u32, 128)));
+    }
+    let awaiting = forms_128(3 * 64).replace("\\x -> 192", "\\x -> x");
+    steps.push((edit(&awaiting), edited_128(3, 128)));
+    steps.push((edit("x"), refused(13)));
+    steps.push((print(384, 1), refused(16)));
+    steps.push((print(384, 0), refused(15)));
+    steps.push((print(386, 10), refused(16)));
+    steps.push((print(386, 9), refused(15)));
+    steps.push((print(510, 1024), refused(16)));
+    steps.push((print(511, awaiting.len()), printed(&awaiting)));
+    steps.push((print(511, awaiting.len() - 1), refused(15)));
+    steps.push((print(255, 1024), printed(&forms_128(64))));
     steps
 }
 

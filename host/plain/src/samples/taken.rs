@@ -33,6 +33,19 @@ pub fn forms_128(first: usize) -> String {
     format!("\\x -> {first}{calls}")
 }
 
+/// Lets that double a value so many times, and what stands behind them, with LAST for the
+/// last let's name.
+pub fn doubled(value: &str, times: usize, body: &str) -> String {
+    let mut text = String::new();
+    let mut last = value.to_string();
+    for time in 0..times {
+        let name = format!("d{time}");
+        text += &format!("let {name} = {last}.add({last}) in ");
+        last = name;
+    }
+    text + &body.replace("LAST", &last)
+}
+
 fn taken(text: impl AsRef<[u8]>, parts: u32) -> TakenText {
     TakenText { text: text.as_ref().to_vec(), parts }
 }

@@ -2,7 +2,8 @@
 use mathlib.Core.Path.{refl, sym}
 use native.Mathlib.Omega.{arith}
 use borrow.Author.Needs.{needs}
-use Rattle.calls.proofs.EditLaws.{well-few, well-distinct, plan-room, edit-accepted, edit-declined}
+use Rattle.planner.specs.Ready.{well-few, well-distinct}
+use Rattle.calls.proofs.EditLaws.{plan-room, edit-accepted, edit-declined}
 use Rattle.calls.proofs.edit.edit_checked.Statement.{statement}
 use Rattle.calls.proofs.edit.edit_checked.Tie as tie
 

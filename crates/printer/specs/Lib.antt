@@ -1,0 +1,7 @@
+pub mod NodeTexts
+pub mod Printing
+pub mod PrintingLaws
+pub mod Putting
+pub mod PuttingLaws
+pub mod Writing
+pub mod WritingLaws

@@ -1,0 +1,219 @@
+-- Laws of print, each with a premise for every call and test on the code's way: what the text that is read back comes to, and the answers.
+-- Assumes nothing.
+use mathlib.Core.Path.{_≡_, sym, ap, _∙_, subst}
+use mathlib.Core.Bool.{Bool, true, false, cond}
+use mathlib.Core.List.{List, [], _∷_, _++_}
+use Prim.Native.Nat.{ℕ, _+_, _-_, _≤_, _<_, min}
+use native.Mathlib.Omega.{arith}
+use borrow.Author.Tests.{lt-ltb, le-ltb, ltb-true, ltb-false}
+use lib.Dec.{ltb}
+use lib.IntN.{ℤ}
+use lib.ListN.{length, getD, take, drop, length-take, length-drop}
+use lib.Seq.{take-length}
+use Rattle.language.specs.Cases.{impossible, split}
+use Rattle.language.specs.Limits.{textBytes, tableEntries}
+use Rattle.grammar.specs.Grammar.{Expression}
+use Rattle.grammar.specs.KeptLimits.{KeepsLimits}
+use Rattle.grammar.specs.Reading.{tree}
+use Rattle.grammar.specs.Machine.{readText}
+use Rattle.grammar.specs.Theorems.{text-read-plainly}
+use Rattle.meaning.specs.Forms.{Form, same}
+use Rattle.meaning.specs.FormsLaws.{same-exactly}
+use Rattle.meaning.specs.Binding.{formOf}
+use Rattle.model.specs.Model.{refused, printed, rejects, readsAs, printing, filled}
+use Rattle.formulas.specs.Formulas.{parsed, formulas}
+use Rattle.layout.specs.Memory.{Memory, memory, fits, entryCount, nodeAt}
+use Rattle.layout.specs.Nodes.{build}
+use Rattle.table.specs.EntryForms.{formsOf}
+use Rattle.table.specs.WellFormed.{wellFormed}
+use Rattle.table.specs.CheckedLaws.{nodes-are}
+use Rattle.binder.specs.AppendedLaws.{well-parts}
+use Rattle.interface.specs.declared.answers.Printed.{Printed}
+use Rattle.interface.specs.declared.answers.Printed.the-variants.{Done, Refused}
+use Rattle.interface.specs.Answers.{printedAs}
+use Rattle.interface.specs.Calls.{formAt, printAnswer}
+use Rattle.interface.specs.Effects.{Prints}
+use Rattle.planner.specs.declared.plan.Plan.{Plan}
+use Rattle.planner.specs.Plans.{BindsTo, Binds}
+use Rattle.planner.specs.Ready.{any-readings}
+use Rattle.demand.specs.ReadBack.{forms-right, whole-same}
+use Rattle.calls.specs.Previewing.{refusal, accepted}
+use Rattle.printing.specs.Printed.{textOf}
+use Rattle.printer.specs.Putting.{stoppedAt}
+use Rattle.printer.specs.Writing.{formIn, Tabled, Writes}
+use Rattle.printer.specs.Printing.{judged, PrintsHeld}
+
+-- ---- the text that is read back
+
+module _ (heads links cells text : List ℕ) (well : (readings : List ℤ) → wellFormed (memory readings heads links cells) ≡ true) (count entry : ℕ)
+    (is : count ≡ getD heads 0 0) (held : entry < getD heads 0 0) (p : Plan) (P N F : List ℕ)
+    (binds : (readings : List ℤ) (hs : List ℕ) → getD hs 0 0 ≡ count → Binds (memory readings hs links cells) text p P N F) where
+  abbrev at : List ℤ → Memory
+  at readings = memory readings heads links cells
+
+  pub judged-unread : (p .number ≡ 0 → ⊥) → (readings : List ℤ) → 15 ≡ judged (formAt (at readings) entry) text
+  unfolding judged parsed
+  judged-unread n readings = rw (binds readings heads (sym is) .refused n .0)
+
+  module _ (z : p .number ≡ 0) (readings : List ℤ) where
+    abbrev b : BindsTo (at readings) text p P N F
+    b = binds readings heads (sym is) .bound z
+
+    abbrev e : Expression
+    e = b .expression
+
+    keeps : KeepsLimits e
+    keeps = text-read-plainly text e .0 (b .reads) .1
+
+    -- read by itself, the text has the entry's form
+    test : (r : Bool) → same (formOf e) (formAt (at readings) entry) ≡ r → cond r 0 16 ≡ judged (formAt (at readings) entry) text
+    unfolding judged parsed
+    test r q = rw (b .reads, q)
+
+    pub judged-same : p .whole ≡ entry → 0 ≡ judged (formAt (at readings) entry) text
+    judged-same q =
+        test true (same-exactly (formOf e) (formAt (at readings) entry) .1 (whole-same (at readings) (well readings) e keeps entry held .0 (b .whole ∙ q)))
+
+    pub judged-other : (p .whole ≡ entry → ⊥) → 16 ≡ judged (formAt (at readings) entry) text
+    judged-other n =
+        split (same (formOf e) (formAt (at readings) entry))
+        (λ q. absurd (n (sym (b .whole) ∙ whole-same (at readings) (well readings) e keeps entry held .1 (same-exactly (formOf e) (formAt (at readings) entry) .0 q))))
+        (test false)
+
+-- ---- the entries that are written
+
+module _ (rs : List ℤ) (heads links cells : List ℕ) where
+  abbrev here : Memory
+  here = memory rs heads links cells
+
+  pub form-in : (i : ℕ) → formAt here i ≡ formIn links cells (getD heads 0 0) i
+  form-in i = ap (λ ns. getD (formsOf ns) i Form.readings) (nodes-are links cells 0 (getD heads 0 0))
+
+  pub tabled : (well : wellFormed here ≡ true) (count : ℕ) → count ≡ getD heads 0 0 → Tabled links cells count
+  tabled well count is =
+      rw is
+      (record {
+        few = well-parts here well .few;
+        right = well-parts here well .right;
+        forms = λ i h.
+            subst (λ ns. getD (formsOf ns) i Form.readings ≡ build (nodeAt links cells i) (λ j. getD (formsOf ns) j Form.readings))
+            (nodes-are links cells 0 (getD heads 0 0)) (forms-right here well i h);
+      })
+
+-- ---- the answers
+
+-- a text of l bytes, where the first test of 15 is of its length
+module _ (m : Memory) (n : ℕ) (bytes : List ℕ) where
+  abbrev t : List ℕ
+  t = textOf (formAt m n)
+
+  held-long : min (length bytes) textBytes < length t → PrintsHeld m n bytes bytes (Refused 15)
+  unfolding printing filled
+  held-long h =
+      split (ltb (length bytes) (length t))
+      (λ p. record { answer = rw p; filled = rw p })
+      (λ p. let l = ltb-false (length bytes) (length t) p in
+      let q = lt-ltb textBytes (length t) (omega arith) in
+      record { answer = rw (p, q); filled = rw (p, q) })
+
+  -- a text that there is room for, by what it comes to when it is read back
+  module _ (room : length t ≤ min (length bytes) textBytes) where
+    short : ltb (length bytes) (length t) ≡ false
+    short = le-ltb (length bytes) (length t) (omega arith)
+
+    brief : ltb textBytes (length t) ≡ false
+    brief = le-ltb textBytes (length t) (omega arith)
+
+    held-judged : (k : ℕ) → k ≡ judged (formAt m n) t → (k ≡ 0 → ⊥) → PrintsHeld m n bytes bytes (Refused k)
+    unfolding printing filled judged
+    held-judged k e u =
+        split (rejects formulas (parsed (readText t)))
+        (λ p. let q : k ≡ 15 = rw p at e in record { answer = rw (short, brief, p, q); filled = rw (short, brief, p) })
+        (λ p. split (readsAs formulas (formAt m n) (parsed (readText t)))
+        (λ r. absurd (u (rw (p, r) at e)))
+        (λ r. let q : k ≡ 16 = rw (p, r) at e in record { answer = rw (short, brief, p, r, q); filled = rw (short, brief, p, r) }))
+
+    held-printed : 0 ≡ judged (formAt m n) t → (bytes′ : List ℕ) → bytes′ ≡ t ++ drop (length t) bytes → (l : ℕ) → l ≡ length t → PrintsHeld m n bytes bytes′ (Done l)
+    unfolding printing filled judged
+    held-printed e bytes′ b l q =
+        split (rejects formulas (parsed (readText t)))
+        (λ p. absurd (let z : _≡_ {A = ℕ} 0 15 = rw p at e in omega arith))
+        (λ p. split (readsAs formulas (formAt m n) (parsed (readText t)))
+        (λ r. record { answer = rw (short, brief, p, r, q); filled = rw (short, brief, p, r) b })
+        (λ r. absurd (let z : _≡_ {A = ℕ} 0 16 = rw (p, r) at e in omega arith)))
+
+-- as the code has them: the text stands at the end of a frame
+module _ (heads links cells bytes : List ℕ) (entry count room low : ℕ) (is : count ≡ getD heads 0 0) (roomy : room ≡ min (length bytes) textBytes)
+    (lower : low ≡ textBytes - room) (at′ : ℕ) (out : List ℕ) (w : Writes low (textOf (formIn links cells count entry)) at′ out) (rs : List ℤ) where
+  abbrev mem : Memory
+  mem = memory rs heads links cells
+
+  same-text : textOf (formIn links cells count entry) ≡ textOf (formAt mem entry)
+  same-text = ap (λ (k : ℕ). textOf (formIn links cells k entry)) is ∙ ap textOf (sym (form-in rs heads links cells entry))
+
+  pub held-stopped : at′ ≡ stoppedAt → PrintsHeld mem entry bytes bytes (Refused 15)
+  held-stopped e = held-long mem entry bytes (let z = w .stopped e in let q = ap length same-text in omega arith)
+
+  module _ (going : at′ ≡ stoppedAt → ⊥) where
+    inside : at′ ≤ textBytes
+    inside = let z = w .within in omega arith
+
+    length-is : length (textOf (formAt mem entry)) ≡ textBytes - at′
+    length-is = sym (ap length (w .written inside ∙ same-text)) ∙ length-drop at′ out ∙ ap (λ (k : ℕ). k - at′) (w .whole)
+
+    -- the part of the frame from at′ on
+    abbrev part : List ℕ
+    part = take (textBytes - at′) (drop at′ out)
+
+    text-is : part ≡ textOf (formAt mem entry)
+    text-is =
+        ap (take (textBytes - at′)) (w .written inside ∙ same-text) ∙ ap (λ (k : ℕ). take k (textOf (formAt mem entry))) (sym length-is)
+        ∙ take-length (textOf (formAt mem entry))
+
+    fits-room : length (textOf (formAt mem entry)) ≤ min (length bytes) textBytes
+    fits-room = let z = w .room inside in let q = length-is in let y = inside in omega arith
+
+    pub held-refused : (k : ℕ) → k ≡ judged (formAt mem entry) part → (k ≡ 0 → ⊥) → PrintsHeld mem entry bytes bytes (Refused k)
+    held-refused k e u = held-judged mem entry bytes fits-room k (e ∙ ap (judged (formAt mem entry)) text-is) u
+
+    pub held-done : (k : ℕ) → k ≡ judged (formAt mem entry) part → k ≡ 0 → (bytes′ : List ℕ) → bytes′ ≡ part ++ drop (length part) bytes
+        → PrintsHeld mem entry bytes bytes′ (Done (textBytes - at′))
+    held-done k e u bytes′ b =
+        held-printed mem entry bytes fits-room (sym u ∙ e ∙ ap (judged (formAt mem entry)) text-is) bytes′ (rw text-is at b) (textBytes - at′) (sym length-is)
+
+-- the text has room in the lent bytes, of which there are b
+pub copies : (b room low at′ : ℕ) (out t : List ℕ) → room ≡ min b textBytes → low ≡ textBytes - room → Writes low t at′ out → (at′ ≡ stoppedAt → ⊥)
+    → length (take (textBytes - at′) (drop at′ out)) ≤ b
+copies b room low at′ out t q l w n =
+    let k : at′ ≤ textBytes = (let z = w .within in omega arith) in
+    let r = w .room k in
+    let y = w .whole in
+    rw (length-take, length-drop) (omega arith)
+
+-- the whole call
+pub print-refused : (m : Memory) (n : ℕ) (bytes : List ℕ) (r : ℕ) → r ≡ refusal m n → (r ≡ 0 → ⊥) → Prints m n bytes bytes (Refused r)
+unfolding printAnswer refusal filled
+print-refused m n bytes r e u =
+    split (fits m)
+    (λ f. split (wellFormed m)
+    (λ w. split (ltb n (entryCount m))
+    (λ l. absurd (u (rw (f, w, l) at e)))
+    (λ l. let q : r ≡ 14 = rw (f, w, l) at e in record { answer = rw (f, w, l, q); filled = rw (f, w, l) }))
+    (λ w. let q : r ≡ 4 = rw (f, w) at e in record { answer = rw (f, w, q); filled = rw (f, w) }))
+    (λ f. let q : r ≡ 3 = rw f at e in record { answer = rw (f, q); filled = rw f })
+
+pub print-done : (m : Memory) (n : ℕ) (bytes bytes′ : List ℕ) (x : Printed) (r : ℕ) → r ≡ refusal m n → r ≡ 0 → PrintsHeld m n bytes bytes′ x
+    → Prints m n bytes bytes′ x
+unfolding printAnswer
+print-done m n bytes bytes′ x r e z p =
+    let a = accepted m n (sym e ∙ z) in
+    let f = a .whole in
+    let w = a .well in
+    let l = a .held in
+    record { answer = rw (f, w, l) (p .answer); filled = rw (f, w, l) (p .filled) }
+
+pub print-ready : (rs : List ℤ) (heads links cells : List ℕ) (n r : ℕ) → r ≡ refusal (memory rs heads links cells) n → r ≡ 0
+    → (n < getD heads 0 0) × ((xs : List ℤ) → wellFormed (memory xs heads links cells) ≡ true) × (getD heads 0 0 ≤ tableEntries)
+print-ready rs heads links cells n r e z =
+    let a = accepted (memory rs heads links cells) n (sym e ∙ z) in
+    (ltb-true n (getD heads 0 0) (a .held), any-readings rs heads links cells (a .well), well-parts (memory rs heads links cells) (a .well) .few)

@@ -1,0 +1,1 @@
+// The text that a form is printed as: see specs/.
