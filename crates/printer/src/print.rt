@@ -51,13 +51,13 @@ fn judge(text: &[u8], heads: &[u32], links: &[u16], cells: &[u64], entry: u16) -
         &mut numbers,
         &mut fresh,
     );
-    if p.number == 0 {
-        if p.whole == entry {
-            return 0;
-        }
-        return 16;
+    if p.number != 0 {
+        return 15;
     }
-    15
+    if p.whole == entry {
+        return 0;
+    }
+    16
 }
 
 // The text at the front of the bytes; those behind it keep their contents.

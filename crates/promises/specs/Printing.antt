@@ -6,26 +6,31 @@ use mathlib.Core.Logic.{_↔_, _⊎_, inl, inr, ⊎-elim}
 use mathlib.Core.List.{List, [], _∷_, map}
 use Prim.Native.Nat.{ℕ, _-_, _≤_, _<_}
 use native.Mathlib.Omega.{arith}
-use borrow.Author.Tests.{le-leb, le-ltb}
+use borrow.Author.Tests.{le-leb, le-ltb, ltb-true, ltb-false}
+use lib.Dec.{ltb}
 use lib.ListN.{length, getD, take, drop}
 use lib.Seq.{take-at, drop-at}
-use Rattle.language.specs.Cases.{impossible}
+use Rattle.language.specs.Cases.{impossible, split}
 use Rattle.language.specs.Limits.{textBytes, textParts, tableEntries}
-use Rattle.grammar.specs.Grammar.{Expression}
-use Rattle.grammar.specs.Reading.{tree}
+use Rattle.grammar.specs.Grammar.{Expression, spellE}
+use Rattle.grammar.specs.KeptLimits.{KeepsLimits}
+use Rattle.grammar.specs.Reading.{tree, tokensOf}
 use Rattle.grammar.specs.Machine.{readText}
 use Rattle.grammar.specs.Theorems.{text-read-plainly}
 use Rattle.meaning.specs.Forms.{Form, within}
 use Rattle.meaning.specs.Binding.{formOf, formsInOrder}
 use Rattle.printing.specs.Printed.{textOf}
 use Rattle.printing.specs.Trees.{treeOf}
-use Rattle.printing.specs.Bound.{Every}
+use Rattle.printing.specs.Bound.{Closed, Every}
 use Rattle.printing.specs.BoundLaws.{order-within}
+use Rattle.printing.specs.TokenLaws.{tokens-spelled}
 use Rattle.printing.specs.ReadBack.{reads-exactly}
+use Rattle.printing.specs.FormBack.{form-back}
 use Rattle.model.specs.Lists.{All}
 use Rattle.model.specs.Model.{refused, edited, printed, filled}
 use Rattle.formulas.specs.Formulas.{formulas}
 use Rattle.layout.specs.Memory.{Memory, entryCount}
+use Rattle.table.specs.WellFormed.{wellFormed}
 use Rattle.records.specs.Records.{recordsOf}
 use Rattle.interface.specs.Answers.{Reply}
 use Rattle.interface.specs.Calls.{boundTo, editedAs, editedMemory, readAnswer, readMemory, editAnswer, editMemory, formAt, printAnswer, printBytes}
@@ -37,7 +42,7 @@ use Rattle.demand.specs.ReadBack.{whole-same}
 use Rattle.demand.specs.EditedForms.{HasForm, edited-form, nothing-new, not-full, unchanged}
 use Rattle.demand.specs.PrintedEntries.{entry-printable}
 use Rattle.promises.specs.Accepting.{edit-fits, edit-well}
-use Rattle.promises.specs.Terms.{CanPrint}
+use Rattle.promises.specs.Terms.{CanPrint, TextFits}
 
 -- ---- the lent bytes
 
@@ -118,6 +123,88 @@ module _ (m : Memory) (n : ℕ) (bytes : List ℕ) where
       by (PrintOutcome.other r d e) =
           (λ h. (r .held, r .room, read-in (textAt m n) (r .expression) (r .short) (r .read), λ x u q. let y = r .read in let z : r .expression ≡ x = cc in d (ap formOf z ∙ q)), λ c. e)
       by (PrintOutcome.taken r d e) = (λ h. impossible (cc), λ c. absurd (c .3 (r .expression) (r .read) d))
+
+-- ---- what the text of an entry is, whatever the cache
+
+-- an entry of a well-formed cache
+module _ (m : Memory) (n : ℕ) (w : wellFormed m ≡ true) (h : n < entryCount m) where
+  abbrev f : Form
+  f = formAt m n
+
+  pub print-tokens : tokensOf (textAt m n) ≡ spellE (treeOf f) []
+  print-tokens = tokens-spelled f (entry-printable m w n h)
+
+  pub print-limits : (e : Expression) → (readText (textAt m n) ≡ tree e) ↔ ((e ≡ treeOf f) × KeepsLimits (treeOf f))
+  print-limits = reads-exactly f (entry-printable m w n h)
+
+  pub print-closed : (formOf (treeOf f) ≡ f) ↔ Closed [] f
+  print-closed = form-back f (entry-printable m w n h)
+
+-- so in plain words: 15 is a text that is too long, or whose tree breaks a limit; 16 is a form that is not closed
+module _ (m : Memory) (n : ℕ) (bytes : List ℕ) where
+  abbrev g : Form
+  g = formAt m n
+
+  -- what is read is the form's own tree
+  own-tree : (q : Held m n) (e : Expression) → readText (textAt m n) ≡ tree e → (e ≡ treeOf g) × KeepsLimits (treeOf g)
+  own-tree q e = print-limits m n (q .well) (q .inside) e .0
+
+  read-whole : Held m n → KeepsLimits (treeOf g) → readText (textAt m n) ≡ tree (treeOf g)
+  read-whole q k = print-limits m n (q .well) (q .inside) (treeOf g) .1 (refl, k)
+
+  in-language : Held m n → InLanguage (textAt m n) ↔ ((length (textAt m n) ≤ textBytes) × KeepsLimits (treeOf g))
+  in-language q =
+      (λ i. (i .0, own-tree q (i .1 .0) (text-read-plainly (textAt m n) (i .1 .0) .1 (i .1 .1, i .1 .2)) .1), λ c. read-in (textAt m n) (treeOf g) (c .0) (read-whole q (c .1)))
+
+  pub print-plainly : ((t : List ℕ) × (printAnswer m n bytes ≡ printed t)) ↔ (Held m n × TextFits m n bytes × Closed [] g)
+  print-plainly = (λ x. given (print-accepted m n bytes (x .0) .0 (x .1)), λ c. (textAt m n, print-accepted m n bytes (textAt m n) .1 (back c)))
+    where
+      given : {t : List ℕ} → CanPrint m n bytes t → Held m n × TextFits m n bytes × Closed [] g
+      given c =
+          let q : Held m n = record { whole = c .whole; well = c .well; inside = c .inside } in
+          let o = own-tree q (c .expression) (ap readText (sym (c .is)) ∙ c .read) in
+          let l = ap length (c .is) in
+          let r = c .room in
+          let s = c .short in
+          (q, (omega arith, omega arith, o .1), print-closed m n (c .well) (c .inside) .0 (ap formOf (sym (o .0)) ∙ c .same))
+
+      back : Held m n × TextFits m n bytes × Closed [] g → CanPrint m n bytes (textAt m n)
+      back (q, x, k) =
+          record {
+            whole = q .whole;
+            well = q .well;
+            inside = q .inside;
+            is = refl;
+            room = x .0;
+            short = x .1;
+            expression = treeOf g;
+            read = read-whole q (x .2);
+            same = print-closed m n (q .well) (q .inside) .1 k;
+          }
+
+  pub fifteen-plainly : (printAnswer m n bytes ≡ refused 15 0) ↔ (Held m n × (¬ TextFits m n bytes))
+  fifteen-plainly = (
+    λ h. let c = print-fifteen m n bytes .0 h in (c .0, λ x. ⊎-elim (λ l. let z = x .0 in omega arith) (λ i. i (in-language (c .0) .1 (x .1, x .2))) (c .1)),
+    λ c. print-fifteen m n bytes .1 (c .0, why (c .0) (c .1)),
+  )
+    where
+      why : Held m n → ¬ TextFits m n bytes → (length bytes < length (textAt m n)) ⊎ (¬ InLanguage (textAt m n))
+      why q out =
+          split (ltb (length bytes) (length (textAt m n)))
+          (λ e. inl (ltb-true (length bytes) (length (textAt m n)) e))
+          (λ e. inr (λ i. let x = in-language q .0 i in out (ltb-false (length bytes) (length (textAt m n)) e, x .0, x .1)))
+
+  pub sixteen-plainly : (printAnswer m n bytes ≡ refused 16 0) ↔ (Held m n × TextFits m n bytes × (¬ Closed [] g))
+  sixteen-plainly = (
+    λ h.
+        let c = print-sixteen m n bytes .0 h in
+        let q = c .0 in
+        let x = in-language q .0 (c .2) in
+        (q, (c .1, x .0, x .1), λ k. c .3 (treeOf g) (read-whole q (x .1)) (print-closed m n (q .well) (q .inside) .1 k)),
+    λ c. let q = c .0 in
+        print-sixteen m n bytes .1
+        (q, c .1 .0, in-language q .1 (c .1 .1, c .1 .2), λ e r d. c .2 (print-closed m n (q .well) (q .inside) .0 (ap formOf (sym (own-tree q e r .0)) ∙ d))),
+  )
 
 -- ---- what is printed is read as the same form
 

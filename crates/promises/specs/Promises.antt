@@ -20,7 +20,7 @@ use lib.IntN.{ℤ, pos, _+ℤ_}
 use lib.ListN.{length, take, drop}
 use Rattle.language.specs.Limits.{textParts, nameBytes, tableReadings}
 use Rattle.language.specs.Names.{packed, sameName, isData, dataWord}
-use Rattle.grammar.specs.Grammar.{Expression, Spells}
+use Rattle.grammar.specs.Grammar.{Expression, spellE, Spells}
 use Rattle.grammar.specs.KeptLimits.{partsE, KeepsLimits}
 use Rattle.grammar.specs.Reading.{tree, refused as refusedAt, RefusedBy, placeOf, tokensOf}
 use Rattle.grammar.specs.Machine.{readText}
@@ -49,6 +49,8 @@ use Rattle.meaning.specs.Evaluation.{valueOf, runOf, Environment, bind, lookup,
 use Rattle.meaning.specs.EvaluationLaws.{evaluate-put}
 use Rattle.meaning.specs.Substitution.{Substituted, AtLetsE}
 use Rattle.meaning.specs.PartSubstitution.{PartsSubstituted}
+use Rattle.printing.specs.Trees.{treeOf}
+use Rattle.printing.specs.Bound.{Closed}
 use Rattle.bridge.specs.FormulaLaws.{parts-placed, formula-laws}
 use Rattle.bridge.specs.LetLaws.{text-lets, text-parts}
 use Rattle.layout.specs.Memory.{Memory, fits, entryCount, readingCount, recordingOf, entriesOf}
@@ -78,7 +80,7 @@ use Rattle.promises.specs.Engine.{engine}
 use Rattle.promises.specs.Boundary.{ForC, Run, DemandForC}
 use Rattle.promises.specs.BoundaryLaws as Boundary
 use Rattle.promises.specs.Awaiting as Awaiting
-use Rattle.promises.specs.Terms.{HasWord, beyond, CanEdit, CanPrint, readingsOf, AwaitedNames}
+use Rattle.promises.specs.Terms.{HasWord, beyond, CanEdit, CanPrint, TextFits, readingsOf, AwaitedNames}
 use Rattle.promises.specs.Naming as Naming
 use Rattle.promises.specs.Declined as Declined
 use Rattle.promises.specs.Outside as Outside
@@ -344,7 +346,32 @@ fetch-windowless = Fetching.fetch-windowless
 pub fetch-none : (m : Memory) (n : ℕ) → (fits m && (wellFormed m && doneAt (entriesOf m) n)) ≡ false → partOf m n ≡ record { start = 0; length = 0 }
 fetch-none = Fetching.fetch-none
 
--- 02, T-04: what is printed of an entry is read, and its let-free form is the entry's.
+-- 02, T-04. Of any cache that passes 4: the text of an entry's form has, longest first, the tokens that the form's tree spells; so the reader
+-- reads it as that tree, exactly if the tree keeps the limits, and never declines it with 5. The tree's let-free form is the entry's exactly if
+-- each variable has the name of a function around it, and no unbound name has.
+pub print-tokens : (m : Memory) (n : ℕ) → wellFormed m ≡ true → n < entryCount m → tokensOf (textAt m n) ≡ spellE (treeOf (formAt m n)) []
+print-tokens = Printing.print-tokens
+
+pub print-limits : (m : Memory) (n : ℕ) → wellFormed m ≡ true → n < entryCount m → (e : Expression)
+    → (readText (textAt m n) ≡ tree e) ↔ ((e ≡ treeOf (formAt m n)) × KeepsLimits (treeOf (formAt m n)))
+print-limits = Printing.print-limits
+
+pub print-closed : (m : Memory) (n : ℕ) → wellFormed m ≡ true → n < entryCount m → (formOf (treeOf (formAt m n)) ≡ formAt m n) ↔ Closed [] (formAt m n)
+print-closed = Printing.print-closed
+
+-- So in plain words a print is accepted, and is 15 and 16.
+pub print-plainly : (m : Memory) (n : ℕ) (bytes : List ℕ)
+    → ((t : List ℕ) × (printAnswer m n bytes ≡ printed t)) ↔ (Held m n × TextFits m n bytes × Closed [] (formAt m n))
+print-plainly = Printing.print-plainly
+
+pub fifteen-plainly : (m : Memory) (n : ℕ) (bytes : List ℕ) → (printAnswer m n bytes ≡ refused 15 0) ↔ (Held m n × (¬ TextFits m n bytes))
+fifteen-plainly = Printing.fifteen-plainly
+
+pub sixteen-plainly : (m : Memory) (n : ℕ) (bytes : List ℕ)
+    → (printAnswer m n bytes ≡ refused 16 0) ↔ (Held m n × TextFits m n bytes × (¬ Closed [] (formAt m n)))
+sixteen-plainly = Printing.sixteen-plainly
+
+-- What is printed of an entry is read, and its let-free form is the entry's.
 pub print-read : (m : Memory) (n : ℕ) (bytes t : List ℕ) → printAnswer m n bytes ≡ printed t
     → (e : Expression) × (readText t ≡ tree e) × (formOf e ≡ formAt m n)
 print-read = Printing.print-read

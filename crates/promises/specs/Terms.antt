@@ -11,6 +11,7 @@ use Rattle.language.specs.Limits.{textBytes, textParts, tableEntries, tableRead
 use Rattle.members.specs.declared.Member.{Member}
 use Rattle.grammar.specs.Tokens.{word, Located, tokens}
 use Rattle.grammar.specs.Grammar.{Expression}
+use Rattle.grammar.specs.KeptLimits.{KeepsLimits}
 use Rattle.grammar.specs.Reading.{tree}
 use Rattle.grammar.specs.Machine.{readText}
 use Rattle.model.specs.Model.{holdAll}
@@ -19,11 +20,13 @@ use Rattle.meaning.specs.Forms.{Form, number, variable, unbound, readings, ask,
 use Rattle.meaning.specs.Binding.{formOf, formsInOrder}
 use Rattle.meaning.specs.Evaluation.{hasName, joined, without, awaited}
 use Rattle.printing.specs.Printed.{textOf}
+use Rattle.printing.specs.Trees.{treeOf}
 use Rattle.layout.specs.Links.{tableLinks, tableCells}
 use Rattle.layout.specs.Memory.{Memory, memory, fits, entryCount}
 use Rattle.schedule.specs.declared.View.{View}
 use Rattle.interface.specs.Answers.{natural}
 use Rattle.interface.specs.Calls.{formAt}
+use Rattle.interface.specs.Acceptance.{textAt}
 use Rattle.table.specs.WellFormed.{wellFormed}
 use Rattle.demand.specs.Holds.{holds}
 
@@ -59,6 +62,10 @@ pub record CanPrint (m : Memory) (n : ℕ) (bytes t : List ℕ) : Type 0 where
   pub expression : Expression
   pub read : readText t ≡ tree expression
   pub same : formOf expression ≡ formAt m n
+
+-- the text of entry n's form fits the lent bytes, and an edit's text, and the tree that it spells keeps the limits
+abbrev pub TextFits : Memory → (number : ℕ) (bytes : List ℕ) → Type 0
+TextFits m n bytes = (length (textAt m n) ≤ length bytes) × (length (textAt m n) ≤ textBytes) × KeepsLimits (treeOf (formAt m n))
 
 -- the readings of what is shown: kind 2 is a window
 unfoldable pub readingsOf : List ℤ → View → List ℤ

@@ -21,24 +21,24 @@ bind-text-requires c κs =
 
 returns : tie.Need-returns
 returns c =
-    let at-bind = c .before .before .before .before in
+    let at-bind = c .before .before in
     let at-at32 = at-bind .before .before .before .before in
     let at-pre = at-at32 .before .before .before .before .before in
-    λ readings. judged-same _ _ _ _ (at-pre .pre .1) _ _ (at-at32 .at32 .ensures) (at-pre .pre .0) _ _ _ _ (at-bind .bind-text .ensures) (c .before .before .if1 .taken) readings (c .if2 .taken)
+    judged-unread _ _ _ _ (at-pre .pre .1) _ _ (at-at32 .at32 .ensures) (at-pre .pre .0) _ _ _ _ (at-bind .bind-text .ensures) (c .if1 .taken)
 
 returns-2 : tie.Need-returns-2
 returns-2 c =
     let at-bind = c .before .before .before .before in
     let at-at32 = at-bind .before .before .before .before in
     let at-pre = at-at32 .before .before .before .before .before in
-    λ readings. judged-other _ _ _ _ (at-pre .pre .1) _ _ (at-at32 .at32 .ensures) (at-pre .pre .0) _ _ _ _ (at-bind .bind-text .ensures) (c .before .before .if1 .taken) readings (c .if2 .left)
+    λ readings. judged-same _ _ _ _ (at-pre .pre .1) _ _ (at-at32 .at32 .ensures) (at-pre .pre .0) _ _ _ _ (at-bind .bind-text .ensures) (search needs) readings (c .if2 .taken)
 
 returns-3 : tie.Need-returns-3
 returns-3 c =
-    let at-bind = c .before .before in
+    let at-bind = c .before .before .before .before in
     let at-at32 = at-bind .before .before .before .before in
     let at-pre = at-at32 .before .before .before .before .before in
-    judged-unread _ _ _ _ (at-pre .pre .1) _ _ (at-at32 .at32 .ensures) (at-pre .pre .0) _ _ _ _ (at-bind .bind-text .ensures) (c .if1 .left)
+    λ readings. judged-other _ _ _ _ (at-pre .pre .1) _ _ (at-at32 .at32 .ensures) (at-pre .pre .0) _ _ _ _ (at-bind .bind-text .ensures) (search needs) readings (c .if2 .left)
 
 pub judge-spec : {M : Type 1} → statement M
 judge-spec =
