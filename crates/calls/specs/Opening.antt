@@ -7,7 +7,7 @@ use Prim.Native.Nat.{ℕ, suc, _+_, _≤_, _<_}
 use native.Mathlib.Numerals.{add-one}
 use native.Mathlib.Omega.{arith}
 use borrow.Author.Tests.{lt-ltb, le-ltb, leb-true}
-use lib.IntN.{ℤ}
+use lib.IntN.{ℤ, pos}
 use lib.ListN.{length, getD, set, take, drop}
 use lib.Seq.{take-suc, drop-cons, set-at, length-take-le, take-length}
 use Rattle.language.specs.Limits.{tableReadings}
@@ -18,12 +18,12 @@ use Rattle.interface.specs.declared.answers.Opened.the-variants.{Done, Refused}
 use Rattle.interface.specs.Calls.{openAnswer, openMemory}
 use Rattle.interface.specs.Effects.{Opens}
 
--- the copy so far: the cells of xs up to i, and behind them those of ys as they were; past the end a read is d
-module _ {A : Type 0} (d : A) (xs ys zs : List A) (i : ℕ) (all : zs ≡ take i xs ++ drop i ys) where
-  pub copy-go : (z : A) → z ≡ getD xs i d → i < length xs → length xs ≤ length ys → set zs i z ≡ take (i + 1) xs ++ drop (i + 1) ys
+-- the copy so far: the recording up to i, and behind it the readings as they were
+module _ (xs ys zs : List ℤ) (i : ℕ) (all : zs ≡ take i xs ++ drop i ys) where
+  pub copy-go : (z : ℤ) → z ≡ getD xs i (pos 0) → i < length xs → length xs ≤ length ys → set zs i z ≡ take (i + 1) xs ++ drop (i + 1) ys
   copy-go z q h k =
-      rw (all, add-one i, take-suc xs i d h, drop-cons ys i d (omega arith), append-assoc)
-      (set-at (take i xs) (getD ys i d) (drop (suc i) ys) z i (length-take-le i xs (omega arith)) ∙ rw q)
+      rw (all, add-one i, take-suc xs i (pos 0) h, drop-cons ys i (pos 0) (omega arith), append-assoc)
+      (set-at (take i xs) (getD ys i (pos 0)) (drop (suc i) ys) z i (length-take-le i xs (omega arith)) ∙ rw q)
 
   pub copy-end : i ≤ length xs → length xs ≤ i → zs ≡ xs ++ drop (length xs) ys
   copy-end h k = let e : i ≡ length xs = omega arith in all ∙ rw (e, take-length)

@@ -2,27 +2,32 @@
 -- Assumes nothing.
 use mathlib.Core.Path.{_≡_, refl, sym, ap, _∙_}
 use mathlib.Core.Bool.{Bool, true, false, _&&_, and-eq-true-iff}
-use mathlib.Core.List.{List}
-use Prim.Native.Nat.{ℕ, _-_, _≤_, _<_}
+use mathlib.Core.List.{List, _++_}
+use Prim.Native.Nat.{ℕ, _+_, _-_, _≤_, _<_, min}
 use native.Mathlib.Omega.{arith}
-use borrow.Author.Tests.{leb-true, ltb-true, le-leb, lt-leb}
+use borrow.Author.Tests.{leb-true, ltb-true, le-leb, lt-leb, lt-ltb, le-ltb}
 use lib.Dec.{leb, ltb}
 use lib.IntN.{ℤ}
-use lib.ListN.{length, getD}
-use lib.Seq.{getD-take}
+use lib.ListN.{length, getD, take, drop, length-drop}
+use lib.Seq.{take-length, getD-take}
 use Rattle.layout.specs.Links.{tableCells}
-use Rattle.language.specs.Limits.{textParts, tableEntries, tableReadings}
+use Rattle.language.specs.Limits.{textBytes, textParts, tableEntries, tableReadings}
 use Rattle.layout.specs.Memory.{nodeAt}
 use Rattle.table.specs.WellFormed.{distinct}
+use Rattle.table.specs.Right.{rightAt}
+use Rattle.table.specs.RightLaws.{right-at}
 use Rattle.table.specs.Bind.{Bound}
-use Rattle.layout.specs.Numbered.{numbered}
+use Rattle.layout.specs.Numbered.{allFrom, numbered}
 use Rattle.layout.specs.Held.{heldAt}
 use Rattle.binder.specs.Records.{BoundAll}
 use Rattle.table.specs.ChainLaws.{length-numbered}
 use Rattle.schedule.specs.Works.{workOf, Lent, Works}
 use Rattle.reader.specs.declared.answer.Read.{Read}
 use Rattle.reader.specs.Results.{ReadsInto}
-use Rattle.measured.specs.Measures.{readNumber, ReadInto, canBind, boundAll, boundNumber, bindNumber, packedWork, canWork, workMeasured, Worked}
+use Rattle.printer.specs.Putting.{stoppedAt}
+use Rattle.printer.specs.Writing.{Tabled, Writes}
+use Rattle.measured.specs.Measures.{readNumber, ReadInto, canBind, boundAll, boundNumber, bindNumber, packedWork, canWork, workMeasured, Worked, canPrint, entryText, printedBytes, PrintedInto}
+use Rattle.printer.specs.TabledLaws.{tabled-right}
 
 -- reading
 pub read-into : (text R P : List ℕ) (r : Read) (R′ P′ : List ℕ) → ReadsInto text R P r R′ P′ → (n : ℕ) → n ≡ readNumber r → ReadInto text R P n R′ P′
@@ -92,3 +97,64 @@ module _ (xs : List ℤ) (links cells : List ℕ) (n allowance : ℕ) (can : Boo
   pub work-none : can ≡ false → Worked xs links cells n allowance cells 0
   unfolding workMeasured
   work-none not = record { answer = rw (sym told ∙ not) refl; kept = rw (sym told ∙ not) refl }
+
+-- printing
+module _ (links cells : List ℕ) (n : ℕ) where
+  pub can-held : n < tableEntries → (d : Bool) → d ≡ allFrom (rightAt links cells) (n + 1) 0 → d ≡ canPrint links cells n
+  unfolding canPrint
+  can-held low d e = rw (lt-ltb n tableEntries low) e
+
+  pub can-beyond : tableEntries ≤ n → false ≡ canPrint links cells n
+  unfolding canPrint
+  can-beyond high = rw (le-ltb n tableEntries high) refl
+
+  module _ (so : canPrint links cells n ≡ true) where
+    pub print-low : n < tableEntries
+    unfolding canPrint
+    print-low = ltb-true _ _ (and-eq-true-iff (ltb n tableEntries) _ .0 so .0)
+
+    pub print-tabled : Tabled links cells (n + 1)
+    unfolding canPrint
+    print-tabled =
+        let low = print-low in
+        let all = and-eq-true-iff (ltb n tableEntries) _ .0 so .1 in
+        tabled-right links cells (n + 1) (omega arith) (λ i h. right-at links cells (n + 1) i all h)
+
+    -- the text is at the end of a frame, or has no room in the bytes
+    module _ (bytes : List ℕ) (low at : ℕ) (out : List ℕ) (lowest : low ≡ textBytes - length bytes) (w : Writes low (entryText links cells n) at out) where
+      pub print-stopped : at ≡ stoppedAt → PrintedInto links cells n bytes bytes 0
+      unfolding printedBytes
+      print-stopped e =
+          let long : min (length bytes) textBytes < length (entryText links cells n) = (let z = w .stopped e in omega arith) in
+          let q = lt-leb _ _ long in
+          record { answer = rw (so, q) refl; filled = rw (so, q) refl }
+
+      module _ (going : at ≡ stoppedAt → ⊥) where
+        inside : at ≤ textBytes
+        inside = let z = w .within in omega arith
+
+        size : length (entryText links cells n) ≡ textBytes - at
+        size = sym (ap length (w .written inside)) ∙ length-drop at out ∙ ap (λ (k : ℕ). k - at) (w .whole)
+
+        fits : length (entryText links cells n) ≤ min (length bytes) textBytes
+        fits = let z = w .room inside in let q = size in let y = inside in omega arith
+
+        -- the part of the frame that is copied
+        abbrev part : List ℕ
+        part = take (textBytes - at) (drop at out)
+
+        text-is : part ≡ entryText links cells n
+        text-is = rw (w .written inside, ← size) (take-length (entryText links cells n))
+
+        pub print-fits : length part ≤ length bytes
+        print-fits = let h = fits in rw text-is (omega arith)
+
+        pub print-done : (bytes′ : List ℕ) (r : ℕ) → r ≡ length part → bytes′ ≡ take (length part) part ++ drop (length part) bytes → PrintedInto links cells n bytes bytes′ r
+        unfolding printedBytes
+        print-done bytes′ r e b =
+            let q = le-leb _ _ fits in
+            record { answer = rw (so, q) (e ∙ ap length text-is); filled = rw (so, q) (b ∙ rw (take-length, text-is) refl) }
+
+  pub print-wrong : (can : Bool) → can ≡ canPrint links cells n → can ≡ false → (bytes : List ℕ) → PrintedInto links cells n bytes bytes 0
+  unfolding printedBytes
+  print-wrong can told not bytes = record { answer = rw (sym told ∙ not) refl; filled = rw (sym told ∙ not) refl }

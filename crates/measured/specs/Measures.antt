@@ -2,16 +2,17 @@
 -- and nothing is written. Assumes nothing: these are definitions.
 use mathlib.Core.Path.{_≡_}
 use mathlib.Core.Bool.{Bool, false, cond, _&&_}
-use mathlib.Core.List.{List, []}
-use Prim.Native.Nat.{ℕ, _+_, _*_, _-_, _%_}
+use mathlib.Core.List.{List, [], _++_}
+use Prim.Native.Nat.{ℕ, _+_, _*_, _-_, _%_, min}
 use lib.Dec.{leb, ltb}
 use lib.IntN.{ℤ}
-use lib.ListN.{length, getD}
-use Rattle.language.specs.Limits.{textParts, tableEntries, tableReadings}
+use lib.ListN.{length, getD, drop}
+use Rattle.language.specs.Limits.{textBytes, textParts, tableEntries, tableReadings}
 use Rattle.layout.specs.Links.{tableCells}
 use Rattle.layout.specs.Memory.{nodeAt}
 use Rattle.table.specs.WellFormed.{distinct}
-use Rattle.layout.specs.Numbered.{numbered}
+use Rattle.table.specs.Right.{rightAt}
+use Rattle.layout.specs.Numbered.{allFrom, numbered}
 use Rattle.table.specs.Bind.{Bound, bindAll}
 use Rattle.binder.specs.Records.{recordAt, bound}
 use Rattle.schedule.specs.Works.{Work, workOf, worked}
@@ -19,6 +20,8 @@ use Rattle.descent.specs.Descent.{readInto}
 use Rattle.reader.specs.Results.{answerOf, noBinders}
 use Rattle.reader.specs.declared.answer.Read.{Read}
 use Rattle.reader.specs.declared.answer.Read.the-variants.{Done, Refused}
+use Rattle.printing.specs.Printed.{textOf}
+use Rattle.printer.specs.Writing.{formIn}
 
 -- 1 for yes
 abbrev pub flag : Bool → ℕ
@@ -64,3 +67,21 @@ workMeasured xs links cells n allowance = cond (canWork xs cells n) (worked xs l
 pub record Worked (xs : List ℤ) (links cells : List ℕ) (n allowance : ℕ) (after : List ℕ) (r : ℕ) : Type 0 where
   pub answer : r ≡ packedWork (workMeasured xs links cells n allowance .count) (workMeasured xs links cells n allowance .left)
   pub kept : after ≡ workMeasured xs links cells n allowance .cells
+
+-- printing entry n of a table in which the nodes up to it are right
+unfoldable pub canPrint : List ℕ → List ℕ → ℕ → Bool
+canPrint links cells n = ltb n tableEntries && allFrom (rightAt links cells) (n + 1) 0
+
+-- the text of its form
+abbrev pub entryText : List ℕ → List ℕ → ℕ → List ℕ
+entryText links cells n = textOf (formIn links cells (n + 1) n)
+
+-- what is written: the text, where the lent bytes have room for it and it is no longer than a text may be
+unfoldable pub printedBytes : List ℕ → List ℕ → ℕ → ℕ → List ℕ
+printedBytes links cells n lent =
+    cond (canPrint links cells n && leb (length (entryText links cells n)) (min lent textBytes)) (entryText links cells n) []
+
+-- the number of bytes that are written, and each lent byte: those behind them keep their contents
+pub record PrintedInto (links cells : List ℕ) (n : ℕ) (bytes bytes′ : List ℕ) (r : ℕ) : Type 0 where
+  pub answer : r ≡ length (printedBytes links cells n (length bytes))
+  pub filled : bytes′ ≡ printedBytes links cells n (length bytes) ++ drop (length (printedBytes links cells n (length bytes))) bytes

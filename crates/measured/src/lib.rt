@@ -1,26 +1,33 @@
 // The parts of the engine that benchmarks measure by themselves, exported under plain names. The watch links none of this.
 use binder::bind;
+use bytes::copy;
 use language::limits::Table;
 use language::limits::Text;
 use layout::cells::TABLE_CELLS;
 use layout::cells::at16;
 use layout::nodes::TEXT_WORDS;
+use printer::put::STOPPED;
+use printer::write::write;
 use reader::answer::Read;
 use reader::parser;
 use scheduler::works;
 use table::chain;
 use table::check;
+use table::entries::nodes_right;
 use values::packing::pack;
 use values::stretches;
 use values::windows;
 ghost use mathlib.Core.Path.{_≡_};
+ghost use mathlib.Core.Bool.{true};
 ghost use mathlib.Core.List.{[]};
+ghost use Prim.Native.Nat.{_-_};
+ghost use Rattle.language.specs.Limits.{textBytes};
 ghost use Rattle.members.specs.declared.Member.the-variants as Members;
 ghost use Rattle.values.specs.Packing.{packOf};
 ghost use Rattle.rules.specs.Rules.{ofWindow, onWindow};
 ghost use Rattle.table.specs.WellFormed.{wellFormed};
 ghost use Rattle.layout.specs.Memory.{memory};
-ghost use Rattle.measured.specs.Measures.{flag, readNumber, ReadInto, canBind, boundNumber, bindNumber, packedWork, canWork, Worked};
+ghost use Rattle.measured.specs.Measures.{flag, readNumber, ReadInto, canBind, boundNumber, bindNumber, packedWork, canWork, Worked, canPrint, PrintedInto};
 
 // The sum of a window, as a packed value.
 #[no_mangle]
@@ -173,6 +180,65 @@ pub extern "C" fn measured_work(
     if can_work(readings, cells, entry) {
         let w = works::work(readings, links, cells, entry as usize, allowance);
         return packed_work(w.count, w.left);
+    }
+    0
+}
+
+// Whether all nodes up to an entry are right, so that it has a text.
+fn can_print(entry: u32, links: &[u16], cells: &[u64]) -> bool
+    ensures { λ r. ⌜ r ≡ canPrint (now (links .entry)) (now (cells .entry)) entry ⌝ }
+{
+    if (entry as usize) < Table::ENTRIES {
+        return nodes_right(links, cells, entry as u16 + 1);
+    }
+    false
+}
+
+// The test alone, which is part of the measure of printing.
+#[no_mangle]
+pub extern "C" fn measured_right(entry: u32, links: &[u16], cells: &[u64]) -> u64
+    ensures { λ r. ⌜ r ≡ flag (canPrint (now (links .entry)) (now (cells .entry)) entry) ⌝ }
+{
+    flag(can_print(entry, links, cells))
+}
+
+// The place in a frame before which there is no room in the lent bytes.
+fn lowest(lent: usize) -> usize
+    ensures { λ r. ⌜ r ≡ textBytes - lent ⌝ }
+{
+    if lent < Text::BYTES {
+        return Text::BYTES - lent;
+    }
+    0
+}
+
+// Writes the text of an entry that has one.
+fn print_right(entry: u16, bytes: &mut [u8], links: &[u16], cells: &[u64]) -> u64
+    requires { ⌜ canPrint (now links) (now cells) entry ≡ true ⌝ }
+    ensures { λ r. ⌜ PrintedInto (now (links .entry)) (now (cells .entry)) entry (now (bytes .entry)) (now (bytes .exit)) r ⌝ }
+{
+    let mut out = [0u8; Text::BYTES];
+    let at = write(
+        links,
+        cells,
+        entry + 1,
+        entry,
+        lowest(bytes.len()),
+        &mut out,
+    );
+    if at == STOPPED {
+        return 0;
+    }
+    copy(&out[at..], bytes) as u64
+}
+
+// Writes the text of an entry to the lent bytes: how many bytes it has.
+#[no_mangle]
+pub extern "C" fn measured_print(entry: u32, bytes: &mut [u8], links: &[u16], cells: &[u64]) -> u64
+    ensures { λ r. ⌜ PrintedInto (now (links .entry)) (now (cells .entry)) entry (now (bytes .entry)) (now (bytes .exit)) r ⌝ }
+{
+    if can_print(entry, links, cells) {
+        return print_right(entry as u16, bytes, links, cells);
     }
     0
 }

@@ -1,8 +1,8 @@
 -- Laws of print, each with a premise for every call and test on the code's way: what the text that is read back comes to, and the answers.
 -- Assumes nothing.
-use mathlib.Core.Path.{_≡_, sym, ap, _∙_, subst}
+use mathlib.Core.Path.{_≡_, sym, ap, _∙_}
 use mathlib.Core.Bool.{Bool, true, false, cond}
-use mathlib.Core.List.{List, [], _∷_, _++_}
+use mathlib.Core.List.{List, _++_}
 use Prim.Native.Nat.{ℕ, _+_, _-_, _≤_, _<_, min}
 use native.Mathlib.Omega.{arith}
 use borrow.Author.Tests.{lt-ltb, le-ltb, ltb-true, ltb-false}
@@ -10,37 +10,35 @@ use lib.Dec.{ltb}
 use lib.IntN.{ℤ}
 use lib.ListN.{length, getD, take, drop, length-take, length-drop}
 use lib.Seq.{take-length}
-use Rattle.language.specs.Cases.{impossible, split}
+use Rattle.language.specs.Cases.{split}
 use Rattle.language.specs.Limits.{textBytes, tableEntries}
 use Rattle.grammar.specs.Grammar.{Expression}
 use Rattle.grammar.specs.KeptLimits.{KeepsLimits}
-use Rattle.grammar.specs.Reading.{tree}
 use Rattle.grammar.specs.Machine.{readText}
 use Rattle.grammar.specs.Theorems.{text-read-plainly}
 use Rattle.meaning.specs.Forms.{Form, same}
 use Rattle.meaning.specs.FormsLaws.{same-exactly}
 use Rattle.meaning.specs.Binding.{formOf}
-use Rattle.model.specs.Model.{refused, printed, rejects, readsAs, printing, filled}
+use Rattle.model.specs.Model.{refused, rejects, readsAs, printing, filled}
 use Rattle.formulas.specs.Formulas.{parsed, formulas}
-use Rattle.layout.specs.Memory.{Memory, memory, fits, entryCount, nodeAt}
-use Rattle.layout.specs.Nodes.{build}
+use Rattle.layout.specs.Memory.{Memory, memory, fits, entryCount}
 use Rattle.table.specs.EntryForms.{formsOf}
 use Rattle.table.specs.WellFormed.{wellFormed}
 use Rattle.table.specs.CheckedLaws.{nodes-are}
 use Rattle.binder.specs.AppendedLaws.{well-parts}
 use Rattle.interface.specs.declared.answers.Printed.{Printed}
 use Rattle.interface.specs.declared.answers.Printed.the-variants.{Done, Refused}
-use Rattle.interface.specs.Answers.{printedAs}
 use Rattle.interface.specs.Calls.{formAt, printAnswer}
 use Rattle.interface.specs.Effects.{Prints}
 use Rattle.planner.specs.declared.plan.Plan.{Plan}
 use Rattle.planner.specs.Plans.{BindsTo, Binds}
 use Rattle.planner.specs.Ready.{any-readings}
-use Rattle.demand.specs.ReadBack.{forms-right, whole-same}
+use Rattle.demand.specs.ReadBack.{whole-same}
 use Rattle.calls.specs.Previewing.{refusal, accepted}
 use Rattle.printing.specs.Printed.{textOf}
 use Rattle.printer.specs.Putting.{stoppedAt}
 use Rattle.printer.specs.Writing.{formIn, Tabled, Writes}
+use Rattle.printer.specs.TabledLaws.{tabled-right}
 use Rattle.printer.specs.Printing.{judged, PrintsHeld}
 
 -- ---- the text that is read back
@@ -91,14 +89,7 @@ module _ (rs : List ℤ) (heads links cells : List ℕ) where
 
   pub tabled : (well : wellFormed here ≡ true) (count : ℕ) → count ≡ getD heads 0 0 → Tabled links cells count
   tabled well count is =
-      rw is
-      (record {
-        few = well-parts here well .few;
-        right = well-parts here well .right;
-        forms = λ i h.
-            subst (λ ns. getD (formsOf ns) i Form.readings ≡ build (nodeAt links cells i) (λ j. getD (formsOf ns) j Form.readings))
-            (nodes-are links cells 0 (getD heads 0 0)) (forms-right here well i h);
-      })
+      rw is (tabled-right links cells (getD heads 0 0) (well-parts here well .few) (well-parts here well .right))
 
 -- ---- the answers
 
@@ -176,10 +167,10 @@ module _ (heads links cells bytes : List ℕ) (entry count room low : ℕ) (is :
     pub held-refused : (k : ℕ) → k ≡ judged (formAt mem entry) part → (k ≡ 0 → ⊥) → PrintsHeld mem entry bytes bytes (Refused k)
     held-refused k e u = held-judged mem entry bytes fits-room k (e ∙ ap (judged (formAt mem entry)) text-is) u
 
-    pub held-done : (k : ℕ) → k ≡ judged (formAt mem entry) part → k ≡ 0 → (bytes′ : List ℕ) → bytes′ ≡ part ++ drop (length part) bytes
+    pub held-done : (k : ℕ) → k ≡ judged (formAt mem entry) part → k ≡ 0 → (bytes′ : List ℕ) → bytes′ ≡ take (length part) part ++ drop (length part) bytes
         → PrintsHeld mem entry bytes bytes′ (Done (textBytes - at′))
     held-done k e u bytes′ b =
-        held-printed mem entry bytes fits-room (sym u ∙ e ∙ ap (judged (formAt mem entry)) text-is) bytes′ (rw text-is at b) (textBytes - at′) (sym length-is)
+        held-printed mem entry bytes fits-room (sym u ∙ e ∙ ap (judged (formAt mem entry)) text-is) bytes′ (rw (take-length, text-is) at b) (textBytes - at′) (sym length-is)
 
 -- the text has room in the lent bytes, of which there are b
 pub copies : (b room low at′ : ℕ) (out t : List ℕ) → room ≡ min b textBytes → low ≡ textBytes - room → Writes low t at′ out → (at′ ≡ stoppedAt → ⊥)

@@ -2,6 +2,7 @@
 // would read it, so that lent bytes are written only when nothing declines it.
 use crate::put::STOPPED;
 use crate::write::write;
+use bytes::copy;
 use calls::lent::refusal;
 use interface::answers::Printed;
 use language::limits::Text;
@@ -10,10 +11,10 @@ use layout::nodes::TEXT_WORDS;
 use planner::plan::bind_text;
 ghost use mathlib.Core.Path.{_≡_};
 ghost use mathlib.Core.Bool.{true};
-ghost use mathlib.Core.List.{List, _++_};
-ghost use Prim.Native.Nat.{_≤_, _<_, min};
+ghost use mathlib.Core.List.{List};
+ghost use Prim.Native.Nat.{_<_, min};
 ghost use lib.IntN.{ℤ};
-ghost use lib.ListN.{length, getD, drop};
+ghost use lib.ListN.{getD};
 ghost use Rattle.language.specs.Limits.{textBytes};
 ghost use Rattle.layout.specs.Memory.{memory};
 ghost use Rattle.table.specs.WellFormed.{wellFormed};
@@ -58,18 +59,6 @@ fn judge(text: &[u8], heads: &[u32], links: &[u16], cells: &[u64], entry: u16) -
         return 0;
     }
     16
-}
-
-// The text at the front of the bytes; those behind it keep their contents.
-fn copy(text: &[u8], bytes: &mut [u8])
-    requires { ⌜ length (now text) ≤ length (now bytes) ⌝ }
-    ensures { λ _. ⌜ now (bytes .exit) ≡ now (text .entry) ++ drop (length (now (text .entry))) (now (bytes .entry)) ⌝ }
-{
-    let mut i: usize = 0;
-    while i < text.len() {
-        bytes[i] = text[i];
-        i += 1;
-    }
 }
 
 // A print of an entry that a well-formed cache holds.

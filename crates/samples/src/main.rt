@@ -1,5 +1,6 @@
 // Runs the sample previews of 01 and 02, and 01's small examples of calls that are declined. For each text it writes a line: what the edit
-// answers; what the whole text then shows, with the readings of a shown window; and how many entries that preview worked out.
+// answers; what the whole text then shows, with the readings of a shown window; and how many entries that preview worked out. Some texts
+// are shown entry by entry, each also in full (02, T-04).
 // The file `stdout` is written by hand from these papers.
 mod say;
 
@@ -7,10 +8,12 @@ use calls::edit::edit;
 use calls::fetch::fetch;
 use calls::open::open;
 use calls::preview::preview;
+use interface::answers::Printed;
 use language::limits::Table;
 use language::limits::Text;
 use layout::cells::TABLE_CELLS;
 use layout::cells::TABLE_LINKS;
+use printer::print::print;
 ghost use Prim.Native.Nat.{_≤_};
 ghost use lib.ListN.{length};
 
@@ -28,7 +31,6 @@ fn show(
     say::preview_answer(answer);
     say::readings(fetch(entry, readings, heads, links, cells));
     say::work(answer);
-    say::words(b"\n");
 }
 
 // A text, and what its edit answers. Gives the entry of the whole text.
@@ -55,12 +57,11 @@ fn line(
     cells: &mut [u64; TABLE_CELLS],
 ) {
     let whole = begin(text, places, readings, heads, links, cells);
-    if whole == say::NO_ENTRY {
-        say::words(b"\n");
-    } else {
+    if whole != say::NO_ENTRY {
         say::words(b", ");
         show(whole, readings, heads, links, cells);
     }
+    say::words(b"\n");
 }
 
 // Where the text that begins at a place ends.
@@ -115,6 +116,33 @@ fn session(recording: &[i32], texts: &[u8]) {
     );
 }
 
+// An entry in full, or the refusal, with these bytes lent.
+fn in_full(
+    entry: u32,
+    bytes: &mut [u8],
+    readings: &[i32],
+    heads: &[u32; 2],
+    links: &[u16; TABLE_LINKS],
+    cells: &[u64; TABLE_CELLS],
+) {
+    let answer = print(entry, bytes, readings, heads, links, cells);
+    say::print_answer(answer, bytes);
+}
+
+// The end of an entry's line.
+fn end_in_full(
+    n: u32,
+    readings: &[i32; Table::READINGS],
+    heads: &[u32; 2],
+    links: &[u16; TABLE_LINKS],
+    cells: &[u64; TABLE_CELLS],
+) {
+    let mut bytes = [0u8; Text::BYTES];
+    say::words(b"; in full: ");
+    in_full(n, &mut bytes, readings, heads, links, cells);
+    say::words(b"\n");
+}
+
 fn entry(
     n: u32,
     readings: &[i32; Table::READINGS],
@@ -126,9 +154,10 @@ fn entry(
     say::number(n as u64);
     say::words(b": ");
     show(n, readings, heads, links, cells);
+    end_in_full(n, readings, heads, links, cells);
 }
 
-// A preview of each entry, lowest first; and of the next number, which no entry has.
+// A preview and a print of each entry, lowest first; and of the next number, which no entry has.
 fn entries(
     count: u32,
     readings: &[i32; Table::READINGS],
@@ -144,7 +173,33 @@ fn entries(
     entry(count, readings, heads, links, cells);
 }
 
-// A text, entry by entry.
+// What an entry has in full is edited and printed in turn: it is that very entry, and the same text. Where a print is refused, there is no line.
+fn back(
+    entry: u32,
+    places: &mut [u16; Text::PARTS],
+    readings: &[i32; Table::READINGS],
+    heads: &mut [u32; 2],
+    links: &mut [u16; TABLE_LINKS],
+    cells: &mut [u64; TABLE_CELLS],
+) {
+    let mut bytes = [0u8; Text::BYTES];
+    match print(entry, &mut bytes, readings, heads, links, cells) {
+        Printed::Done { length } => {
+            let again = begin(
+                say::front(&bytes, length),
+                places,
+                readings,
+                heads,
+                links,
+                cells,
+            );
+            end_in_full(again, readings, heads, links, cells);
+        }
+        Printed::Refused { number: _ } => {}
+    }
+}
+
+// A text, entry by entry; and its whole in full as a text.
 fn by_entry(recording: &[i32], text: &[u8]) {
     let mut readings = [0i32; Table::READINGS];
     let mut heads = [0u32; 2];
@@ -152,7 +207,7 @@ fn by_entry(recording: &[i32], text: &[u8]) {
     let mut cells = [0u64; TABLE_CELLS];
     let mut places = [0u16; Text::PARTS];
     open(recording, &mut readings, &mut heads, &links, &cells);
-    begin(
+    let whole = begin(
         text,
         &mut places,
         &readings,
@@ -163,6 +218,69 @@ fn by_entry(recording: &[i32], text: &[u8]) {
     say::words(b"\n");
     let count = heads[0];
     entries(count, &readings, &heads, &links, &mut cells);
+    back(
+        whole,
+        &mut places,
+        &readings,
+        &mut heads,
+        &mut links,
+        &mut cells,
+    );
+}
+
+// Some bytes more than the text below has.
+const STARS: usize = 24;
+
+fn stars_left(stars: &[u8; STARS]) {
+    say::words(b"; ");
+    say::words(stars);
+    say::words(b"\n");
+}
+
+// An entry in full, where so many of the stars are lent; and what is left of all of them.
+fn lent(
+    n: u32,
+    count: usize,
+    readings: &[i32; Table::READINGS],
+    heads: &[u32; 2],
+    links: &[u16; TABLE_LINKS],
+    cells: &[u64; TABLE_CELLS],
+)
+    requires { ⌜ count ≤ 24 ⌝ }
+{
+    let mut stars = [b'*'; STARS];
+    say::words(b"  ");
+    say::number(n as u64);
+    say::words(b" in ");
+    say::number(count as u64);
+    say::words(b" bytes: ");
+    in_full(n, &mut stars[0..count], readings, heads, links, cells);
+    stars_left(&stars);
+}
+
+// The whole of a text, of 19 bytes, and a delayed part, of one, in too few lent bytes and in enough; and an entry that is not held.
+fn few_bytes(recording: &[i32]) {
+    let mut readings = [0i32; Table::READINGS];
+    let mut heads = [0u32; 2];
+    let mut links = [0u16; TABLE_LINKS];
+    let mut cells = [0u64; TABLE_CELLS];
+    let mut places = [0u16; Text::PARTS];
+    open(recording, &mut readings, &mut heads, &links, &cells);
+    let whole = begin(
+        b"data.sumBy(\\a -> a)",
+        &mut places,
+        &readings,
+        &mut heads,
+        &mut links,
+        &mut cells,
+    );
+    say::words(b"\n");
+    lent(whole, 18, &readings, &heads, &links, &cells);
+    lent(whole, 19, &readings, &heads, &links, &cells);
+    lent(whole, STARS, &readings, &heads, &links, &cells);
+    lent(1, 0, &readings, &heads, &links, &cells);
+    lent(1, 1, &readings, &heads, &links, &cells);
+    lent(4, 0, &readings, &heads, &links, &cells);
 }
 
 // The bytes of as many calls as a text can have behind a digit.
@@ -215,7 +333,8 @@ fn full(recording: &[i32]) {
     );
 }
 
-// Memory that an edit declines: 127 places; and a cache in which entry 0, a count, depends on 0.
+// Memory that is declined: 127 places, by an edit; a cache in which entry 0, a count, depends on 0, by an edit, a preview and a print; and
+// such a cache with room for too few readings, by a print.
 fn memory() {
     let readings = [0i32; Table::READINGS];
     let mut heads = [1u32, 0];
@@ -246,6 +365,11 @@ fn memory() {
         &mut links,
         &mut cells,
     );
+    entry(0, &readings, &heads, &links, &mut cells);
+    say::words(b"room for 1023 readings: entry 0 in full: ");
+    let mut bytes = [0u8; Text::BYTES];
+    in_full(0, &mut bytes, &readings[1..], &heads, &links, &cells);
+    say::words(b"\n");
 }
 
 // The texts, one to a line, each over a cache of its own.
@@ -256,6 +380,36 @@ fn sessions(recording: &[i32], texts: &[u8]) {
         session(recording, &texts[at..end]);
         at = end + 1;
     }
+}
+
+// Texts of which every part is shown.
+fn every_part(recording: &[i32]) {
+    by_entry(recording, b"let x = 2 in data.skip(1).take(x)");
+    by_entry(
+        recording,
+        b"data.sumBy(\\p -> data.countWhere(\\q -> q.gt(p)))",
+    );
+    // Blanks, brackets and zeros that go; and those that stay or come, at `->` and around a function that is a receiver
+    by_entry(recording, b"( data ) . skip( 007 )");
+    by_entry(recording, b"-7.div(2)");
+    by_entry(recording, b"1.add(-1)");
+    by_entry(recording, b"-0.sub(-007)");
+    by_entry(recording, b"\\a->-1");
+    by_entry(recording, b"let f = \\a -> a in f.count()");
+    // An unbound name under a lambda of its name
+    by_entry(recording, b"let y = b in \\b -> y");
+    // Wholes whose text the reader would decline: for a lambda's name, a third open lambda, too many parts, and too many bytes
+    by_entry(recording, b"let f = \\a -> a in \\a -> data.sumBy(f)");
+    by_entry(recording, b"let f = \\b -> \\c -> 1 in \\a -> f");
+    by_entry(
+        recording,
+        b"let a = 1 in let b = a.add(a) in let c = b.add(b) in let d = c.add(c) in let e = d.add(d) in let f = e.add(e) in let g = f.add(f) in g.add(g)",
+    );
+    by_entry(
+        recording,
+        b"let a = -2147483648 in let b = a.add(a) in let c = b.add(b) in let d = c.add(c) in let e = d.add(d) in let f = e.add(e) in f.add(f)",
+    );
+    few_bytes(recording);
 }
 
 fn main() {
@@ -294,9 +448,7 @@ fn main() {
         &[0, 2, 3],
         b"let h = \\y -> data.skip(1).sumBy(\\x -> y.div(x)) in data.sumBy(\\x -> data.skip(x).sumBy(h))",
     );
-    // Every part of a text
-    by_entry(&run, b"let x = 2 in data.skip(1).take(x)");
-    by_entry(&run, b"data.sumBy(\\p -> data.countWhere(\\q -> q.gt(p)))");
+    every_part(&run);
     // Taken
     sessions(
         &run,

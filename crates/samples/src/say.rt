@@ -2,6 +2,7 @@
 use interface::answers::Edited;
 use interface::answers::Opened;
 use interface::answers::Previewed;
+use interface::answers::Printed;
 use language::names::BYTE_BASE;
 use libc::STDOUT_FILENO;
 use schedule::View;
@@ -196,5 +197,22 @@ pub fn work(answer: Previewed) {
         Previewed::NotYet { worked } => count(worked),
         Previewed::Finished { worked, shown: _ } => count(worked),
         Previewed::Refused { number: _ } => {}
+    }
+}
+
+// The first bytes, up to so many.
+pub fn front(bytes: &[u8], length: u16) -> &[u8] {
+    let end = length as usize;
+    if bytes.len() < end {
+        return bytes;
+    }
+    &bytes[0..end]
+}
+
+// What a print answers: the text that it wrote to the bytes, or the refusal.
+pub fn print_answer(answer: Printed, bytes: &[u8]) {
+    match answer {
+        Printed::Done { length } => text(front(bytes, length)),
+        Printed::Refused { number: n } => refusal(n),
     }
 }

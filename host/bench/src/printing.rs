@@ -1,5 +1,5 @@
 //! Printing texts of about 1,000 bytes: the whole call against a printer written by hand, and against that printer with the text read again,
-//! since the engine reads what it has written; and the writing of the bytes by itself.
+//! since the engine reads what it has written; and the writing of the bytes by itself, with the test that it asks for.
 
 use crate::cache::Cache;
 use crate::figures::{ENGINE, Figures, PLAIN};
@@ -82,6 +82,7 @@ fn agree(text: &[u8]) -> Printed {
     let (entry, mut bytes) = (edited.whole, [0; ROOM]);
     let answer = cache.print(entry, &mut bytes);
     assert_eq!((answer.refusal, &bytes[..answer.length as usize]), (0, text));
+    assert!(proved::is_right(entry, &cache.links, &cache.cells));
     bytes.fill(0);
     let length = proved::print(entry, &mut bytes, &cache.links, &cache.cells);
     assert_eq!(&bytes[..length as usize], text);
@@ -110,6 +111,7 @@ pub fn measure(figures: &mut Figures) {
     agree_on_others();
     for (name, text) in [
         ("a chain of 63 calls", texts::printed_chain()),
+        ("a chain of 48 calls with names", texts::printed_names()),
         ("calls in arguments, 14 deep", texts::printed_arguments()),
     ] {
         let Printed { cache, entry, tree } = agree(&text);
@@ -117,7 +119,9 @@ pub fn measure(figures: &mut Figures) {
         let (mut plain, mut again) = (Vec::with_capacity(ROOM), Vec::with_capacity(ROOM));
         let mut output = Output::new();
         let mut call = || cache.print(black_box(entry), &mut bytes);
-        let mut part = || proved::print(black_box(entry), &mut alone, &cache.links, &cache.cells);
+        let (links, cells) = (&cache.links, &cache.cells);
+        let mut part = || proved::print(black_box(entry), &mut alone, links, cells);
+        let mut test = || proved::is_right(black_box(entry), links, cells);
         let mut plainly = || {
             plain.clear();
             print(black_box(&tree), &mut plain);
@@ -135,6 +139,7 @@ pub fn measure(figures: &mut Figures) {
                 &mut || timing::batch(CALLS, &mut plainly),
                 &mut || timing::batch(CALLS, &mut read_again),
                 &mut || timing::batch(CALLS, &mut part),
+                &mut || timing::batch(CALLS, &mut test),
             ],
         );
         let name = format!("{name}: {} bytes", plot::number(text.len() as f64));
@@ -144,6 +149,8 @@ pub fn measure(figures: &mut Figures) {
             0,
             &[(ENGINE, best[0]), (PLAIN, best[1]), (READ_BACK, best[2])],
         );
-        figures.part_of("printer", &name, (best[3], best[1]), None);
+        figures.part_of("printer", &name, (best[3], best[1]), Some(5.0));
+        let test = format!("{name}, the test of its nodes alone");
+        figures.part_of("printer", &test, (best[4], best[1]), None);
     }
 }

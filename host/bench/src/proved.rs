@@ -35,6 +35,13 @@ mod raw {
             cells: *const u64,
             cells_len: usize,
         ) -> u64;
+        pub fn measured_right(
+            entry: u32,
+            links: *const u16,
+            links_len: usize,
+            cells: *const u64,
+            cells_len: usize,
+        ) -> u64;
         pub fn measured_can_bind(
             links: *const u16,
             links_len: usize,
@@ -131,7 +138,8 @@ pub fn read(text: &[u8], records: &mut [u64; 256], places: &mut [u16; 128]) -> u
     unsafe { raw::measured_read(text.as_ptr(), text.len(), records, places) }
 }
 
-/// Writes an entry's text: how many bytes it has, or 0 if there are too few. Nothing is tested, and the text is not read again.
+/// Writes an entry's text: how many bytes it has, or 0 if there are too few. The nodes up to the entry are tested first, and the text is not
+/// read again.
 pub fn print(entry: u32, bytes: &mut [u8], links: &[u16], cells: &[u64]) -> u64 {
     // SAFETY: each pointer and length are those of one live slice, and `bytes` is not shared.
     unsafe {
@@ -145,6 +153,15 @@ pub fn print(entry: u32, bytes: &mut [u8], links: &[u16], cells: &[u64]) -> u64 
             cells.len(),
         )
     }
+}
+
+/// The test of `print` alone.
+pub fn is_right(entry: u32, links: &[u16], cells: &[u64]) -> bool {
+    // SAFETY: each pointer and length are those of one live slice.
+    let answer = unsafe {
+        raw::measured_right(entry, links.as_ptr(), links.len(), cells.as_ptr(), cells.len())
+    };
+    answer == 1
 }
 
 /// Whether n records can be bound to the first `count` entries.

@@ -117,6 +117,12 @@ pub fn printed_chain() -> Vec<u8> {
     format!("data{calls}").into_bytes()
 }
 
+/// 1,012 bytes without a digit to work out: a chain of 48 calls with the longest member, whose arguments are names of eight bytes.
+pub fn printed_names() -> Vec<u8> {
+    let calls: String = (0..48).map(|i| format!(".countWhere(speed{i:03})")).collect();
+    format!("data{calls}").into_bytes()
+}
+
 /// 972 bytes: four arguments, each of 14 calls in one another's arguments, with numbers of ten digits.
 pub fn printed_arguments() -> Vec<u8> {
     let nest = |i: usize| {

@@ -4,7 +4,6 @@ use mathlib.Core.List.{_++_}
 use Prim.Native.Nat.{_≤_, _-_}
 use mir.Facts.{toZ-ofZ}
 use borrow.Author.Needs.{needs}
-use lib.IntN.{pos}
 use lib.ListN.{length, take, drop}
 use Rattle.calls.specs.Opening.{copy-go, copy-end}
 use Rattle.calls.proofs.open.copy.Statement.{statement}
@@ -38,13 +37,13 @@ loop-less : tie.Need-loop-less Inv-loop μ-loop
 loop-less c = search needs
 
 loop-again : tie.Need-loop-again Inv-loop μ-loop
-loop-again c = (search needs, search needs, copy-go (pos 0) _ _ _ _ (c .before .before .loop .inv .2) _ (toZ-ofZ (record { sfits = c .readings .given })) (search needs) (search needs))
+loop-again c = (search needs, search needs, copy-go _ _ _ _ (c .before .before .loop .inv .2) _ (toZ-ofZ (record { sfits = c .readings .given })) (search needs) (search needs))
 
 same-length : tie.Need-same-length Inv-loop μ-loop
 same-length c = search needs
 
 returns : tie.Need-returns Inv-loop μ-loop
-returns c = search (needs, copy-end (pos 0))
+returns c = search (needs, copy-end)
 
 pub copy-spec : {M : Type 1} → statement M
 copy-spec =

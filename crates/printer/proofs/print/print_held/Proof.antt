@@ -52,11 +52,11 @@ copy-requires c κs =
     let at-room = at-write .before .before in
     copies _ _ _ _ _ _ (at-room .room .ensures) refl (at-write .write .ensures) (at-if1 .if1 .left)
 
-sub-t23 : tie.Need-sub-t23
-sub-t23 c = search needs
+sub-t20 : tie.Need-sub-t20
+sub-t20 c = search needs
 
-cast-t24 : tie.Need-cast-t24
-cast-t24 c = search needs
+cast-t23 : tie.Need-cast-t23
+cast-t23 c = search needs
 
 same-length : tie.Need-same-length
 same-length c = search needs
@@ -71,7 +71,7 @@ returns-2 c =
     let at-room = at-write .before .before in
     let at-at32 = at-room .before in
     λ readings. held-done _ _ _ _ _ _ _ _ (at-at32 .at32 .ensures) (at-room .room .ensures) refl _ _ (at-write .write .ensures) readings (at-if1 .if1 .left)
-    _ (at-judge .judge .ensures readings) (at-if2 .if2 .taken) _ (at-copy .copy .ensures)
+    _ (at-judge .judge .ensures readings) (at-if2 .if2 .taken) _ (at-copy .copy .ensures .1)
 
 returns-3 : tie.Need-returns-3
 returns-3 c =
@@ -98,8 +98,8 @@ print-held-spec =
     part-text-end
     judge-requires
     copy-requires
-    sub-t23
-    cast-t24
+    sub-t20
+    cast-t23
     same-length
     returns-2
     returns-3)
