@@ -24,8 +24,8 @@ use Rattle.table.specs.ChainLaws.{length-numbered}
 use Rattle.schedule.specs.Works.{workOf, Lent, Works}
 use Rattle.reader.specs.declared.answer.Read.{Read}
 use Rattle.reader.specs.Results.{ReadsInto}
-use Rattle.printer.specs.Putting.{stoppedAt}
-use Rattle.printer.specs.Writing.{Tabled, Writes}
+use Rattle.writer.specs.Putting.{stoppedAt}
+use Rattle.writer.specs.Writing.{Tabled, Writes}
 use Rattle.measured.specs.Measures.{readNumber, ReadInto, canBind, boundAll, boundNumber, bindNumber, packedWork, canWork, workMeasured, Worked, canPrint, entryText, printedBytes, PrintedInto}
 use Rattle.printer.specs.TabledLaws.{tabled-right}
 

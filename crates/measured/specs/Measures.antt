@@ -21,7 +21,7 @@ use Rattle.reader.specs.Results.{answerOf, noBinders}
 use Rattle.reader.specs.declared.answer.Read.{Read}
 use Rattle.reader.specs.declared.answer.Read.the-variants.{Done, Refused}
 use Rattle.printing.specs.Printed.{textOf}
-use Rattle.printer.specs.Writing.{formIn}
+use Rattle.writer.specs.Writing.{formIn}
 
 -- 1 for yes
 abbrev pub flag : Bool → ℕ

@@ -36,8 +36,8 @@ use Rattle.planner.specs.Ready.{any-readings}
 use Rattle.demand.specs.ReadBack.{whole-same}
 use Rattle.calls.specs.Previewing.{refusal, accepted}
 use Rattle.printing.specs.Printed.{textOf}
-use Rattle.printer.specs.Putting.{stoppedAt}
-use Rattle.printer.specs.Writing.{formIn, Tabled, Writes}
+use Rattle.writer.specs.Putting.{stoppedAt}
+use Rattle.writer.specs.Writing.{formIn, Tabled, Writes}
 use Rattle.printer.specs.TabledLaws.{tabled-right}
 use Rattle.printer.specs.Printing.{judged, PrintsHeld}
 

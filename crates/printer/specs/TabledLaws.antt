@@ -19,7 +19,7 @@ use Rattle.table.specs.NodeKinds.{right-fine}
 use Rattle.formulas.specs.Formulas.{formulas}
 use Rattle.bridge.specs.Graphs.{nodes, graph-laws}
 use Rattle.demand.specs.Decoded.{lower}
-use Rattle.printer.specs.Writing.{formIn, Tabled}
+use Rattle.writer.specs.Writing.{formIn, Tabled}
 
 numbered-nth : {A : Type 0} (ν : ℕ → A) (i n j : ℕ) → j < n → getElem? (numbered ν i n) j ≡ some (ν (i + j))
 unfolding numbered

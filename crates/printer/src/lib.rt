@@ -1,4 +1,2 @@
 // Print: the text of an entry's let-free form, written to the lent bytes.
 pub mod print;
-pub mod put;
-pub mod write;

@@ -1,7 +1,5 @@
 // Print (02, T-04): the text of an entry's let-free form, in the lent bytes. It is written in the call's own frame and read back there, as an edit
 // would read it, so that lent bytes are written only when nothing declines it.
-use crate::put::STOPPED;
-use crate::write::write;
 use bytes::copy;
 use calls::lent::refusal;
 use interface::answers::Printed;
@@ -9,6 +7,8 @@ use language::limits::Text;
 use layout::cells::at32;
 use layout::nodes::TEXT_WORDS;
 use planner::plan::bind_text;
+use writer::put::STOPPED;
+use writer::write::write;
 ghost use mathlib.Core.Path.{_≡_};
 ghost use mathlib.Core.Bool.{true};
 ghost use mathlib.Core.List.{List};

@@ -1,0 +1,5 @@
+pub mod NodeTexts
+pub mod Putting
+pub mod PuttingLaws
+pub mod Writing
+pub mod WritingLaws
