@@ -1,21 +1,19 @@
--- Laws of print, each with a premise for every call and test on the code's way: what the text that is read back comes to, and the answers.
+-- Laws of print, each with a premise for every call and test on the code's way: what the text would be read as, and the answers.
 -- Assumes nothing.
-use mathlib.Core.Path.{_≡_, sym, ap, _∙_}
-use mathlib.Core.Bool.{Bool, true, false, cond}
-use mathlib.Core.List.{List, _++_}
-use Prim.Native.Nat.{ℕ, _+_, _-_, _≤_, _<_, min}
+use mathlib.Core.Path.{_≡_, refl, sym, ap, _∙_}
+use mathlib.Core.Bool.{true, false}
+use mathlib.Core.List.{List, [], _++_}
+use Prim.Native.Nat.{ℕ, _+_, _-_, _≤_, _<_, _%_, min}
 use native.Mathlib.Omega.{arith}
-use borrow.Author.Tests.{lt-ltb, le-ltb, ltb-true, ltb-false}
-use lib.Dec.{ltb}
+use borrow.Author.Tests.{eqb-true, eqb-false, ne-eqb, lt-ltb, le-ltb, ltb-true, ltb-false}
+use lib.Dec.{eqb, ltb}
 use lib.IntN.{ℤ}
 use lib.ListN.{length, getD, take, drop, length-take, length-drop}
 use lib.Seq.{take-length}
-use Rattle.language.specs.Cases.{split}
+use Rattle.language.specs.Cases.{impossible, split}
 use Rattle.language.specs.Limits.{textBytes, tableEntries}
-use Rattle.grammar.specs.Grammar.{Expression}
-use Rattle.grammar.specs.KeptLimits.{KeepsLimits}
+use Rattle.grammar.specs.Reading.{Reading, tree}
 use Rattle.grammar.specs.Machine.{readText}
-use Rattle.grammar.specs.Theorems.{text-read-plainly}
 use Rattle.meaning.specs.Forms.{Form, same}
 use Rattle.meaning.specs.FormsLaws.{same-exactly}
 use Rattle.meaning.specs.Binding.{formOf}
@@ -30,53 +28,49 @@ use Rattle.interface.specs.declared.answers.Printed.{Printed}
 use Rattle.interface.specs.declared.answers.Printed.the-variants.{Done, Refused}
 use Rattle.interface.specs.Calls.{formAt, printAnswer}
 use Rattle.interface.specs.Effects.{Prints}
-use Rattle.planner.specs.declared.plan.Plan.{Plan}
-use Rattle.planner.specs.Plans.{BindsTo, Binds}
 use Rattle.planner.specs.Ready.{any-readings}
-use Rattle.demand.specs.ReadBack.{whole-same}
+use Rattle.demand.specs.PrintedEntries.{entry-printable, entry-saturated}
 use Rattle.calls.specs.Previewing.{refusal, accepted}
 use Rattle.printing.specs.Printed.{textOf}
+use Rattle.printing.specs.Trees.{treeOf}
+use Rattle.printing.specs.Printable.{Printable}
+use Rattle.printing.specs.ReadBack.{reads-exactly}
+use Rattle.printing.specs.FormBack.{form-back}
+use Rattle.printing.specs.Judging.{declined, walked, refusalOf, verdict, Saturated}
+use Rattle.printing.specs.JudgingLaws.{Finds, walk-finds}
 use Rattle.writer.specs.Putting.{stoppedAt}
 use Rattle.writer.specs.Writing.{formIn, Tabled, Writes}
 use Rattle.printer.specs.TabledLaws.{tabled-right}
 use Rattle.printer.specs.Printing.{judged, PrintsHeld}
 
--- ---- the text that is read back
+-- ---- what the text would be read as
 
-module _ (heads links cells text : List ℕ) (well : (readings : List ℤ) → wellFormed (memory readings heads links cells) ≡ true) (count entry : ℕ)
-    (is : count ≡ getD heads 0 0) (held : entry < getD heads 0 0) (p : Plan) (P N F : List ℕ)
-    (binds : (readings : List ℤ) (hs : List ℕ) → getD hs 0 0 ≡ count → Binds (memory readings hs links cells) text p P N F) where
-  abbrev at : List ℤ → Memory
-  at readings = memory readings heads links cells
+module _ (f : Form) (p : Printable f) (s : Saturated f) where
+  abbrev found : ℕ
+  found = walked 0 [] f 0
 
-  pub judged-unread : (p .number ≡ 0 → ⊥) → (readings : List ℤ) → 15 ≡ judged (formAt (at readings) entry) text
-  unfolding judged parsed
-  judged-unread n readings = rw (binds readings heads (sym is) .refused n .0)
+  finds : Finds f found
+  finds = walk-finds f p s
 
-  module _ (z : p .number ≡ 0) (readings : List ℤ) where
-    abbrev b : BindsTo (at readings) text p P N F
-    b = binds readings heads (sym is) .bound z
-
-    abbrev e : Expression
-    e = b .expression
-
-    keeps : KeepsLimits e
-    keeps = text-read-plainly text e .0 (b .reads) .1
-
-    -- read by itself, the text has the entry's form
-    test : (r : Bool) → same (formOf e) (formAt (at readings) entry) ≡ r → cond r 0 16 ≡ judged (formAt (at readings) entry) text
-    unfolding judged parsed
-    test r q = rw (b .reads, q)
-
-    pub judged-same : p .whole ≡ entry → 0 ≡ judged (formAt (at readings) entry) text
-    judged-same q =
-        test true (same-exactly (formOf e) (formAt (at readings) entry) .1 (whole-same (at readings) (well readings) e keeps entry held .0 (b .whole ∙ q)))
-
-    pub judged-other : (p .whole ≡ entry → ⊥) → 16 ≡ judged (formAt (at readings) entry) text
-    judged-other n =
-        split (same (formOf e) (formAt (at readings) entry))
-        (λ q. absurd (n (sym (b .whole) ∙ whole-same (at readings) (well readings) e keeps entry held .1 (same-exactly (formOf e) (formAt (at readings) entry) .0 q))))
-        (test false)
+  pub verdict-judged : verdict f ≡ judged f (textOf f)
+  unfolding judged parsed refusalOf
+  verdict-judged = by (readText (textOf f)) refl
+    where
+      by : (r : Reading) → readText (textOf f) ≡ r → verdict f ≡ judged f (textOf f)
+      by (tree e) q =
+          let x = reads-exactly f p e .0 q in
+          let kept = ne-eqb found declined (finds .keeps .1 (x .1)) in
+          let closed = finds .closed (x .1) in
+          let again = same-exactly (formOf (treeOf f)) f in
+          split (eqb (found % 2) 0)
+          (λ z. let y = again .1 (form-back f p .1 (closed .0 (eqb-true (found % 2) 0 z))) in rw (kept, z, q, x .0, y))
+          (λ z. split (same (formOf (treeOf f)) f)
+          (λ y. absurd (eqb-false (found % 2) 0 z (closed .1 (form-back f p .0 (again .0 y)))))
+          (λ y. rw (kept, z, q, x .0, y)))
+      by (Reading.refused i j) q =
+          split (eqb found declined)
+          (λ z. rw (z, q))
+          (λ z. let read = reads-exactly f p (treeOf f) .1 (refl, finds .keeps .0 (eqb-false found declined z)) in impossible (cc))
 
 -- ---- the entries that are written
 
@@ -107,7 +101,7 @@ module _ (m : Memory) (n : ℕ) (bytes : List ℕ) where
       let q = lt-ltb textBytes (length t) (omega arith) in
       record { answer = rw (p, q); filled = rw (p, q) })
 
-  -- a text that there is room for, by what it comes to when it is read back
+  -- a text that there is room for, by what it would be read as
   module _ (room : length t ≤ min (length bytes) textBytes) where
     short : ltb (length bytes) (length t) ≡ false
     short = le-ltb (length bytes) (length t) (omega arith)
@@ -139,18 +133,18 @@ module _ (heads links cells bytes : List ℕ) (entry count room low : ℕ) (is :
   abbrev mem : Memory
   mem = memory rs heads links cells
 
-  same-text : textOf (formIn links cells count entry) ≡ textOf (formAt mem entry)
-  same-text = ap (λ (k : ℕ). textOf (formIn links cells k entry)) is ∙ ap textOf (sym (form-in rs heads links cells entry))
+  same-form : formIn links cells count entry ≡ formAt mem entry
+  same-form = ap (λ (k : ℕ). formIn links cells k entry) is ∙ sym (form-in rs heads links cells entry)
 
   pub held-stopped : at′ ≡ stoppedAt → PrintsHeld mem entry bytes bytes (Refused 15)
-  held-stopped e = held-long mem entry bytes (let z = w .stopped e in let q = ap length same-text in omega arith)
+  held-stopped e = held-long mem entry bytes (let z = w .stopped e in let q = ap (λ (f : Form). length (textOf f)) same-form in omega arith)
 
   module _ (going : at′ ≡ stoppedAt → ⊥) where
     inside : at′ ≤ textBytes
     inside = let z = w .within in omega arith
 
     length-is : length (textOf (formAt mem entry)) ≡ textBytes - at′
-    length-is = sym (ap length (w .written inside ∙ same-text)) ∙ length-drop at′ out ∙ ap (λ (k : ℕ). k - at′) (w .whole)
+    length-is = sym (ap length (w .written inside ∙ ap textOf same-form)) ∙ length-drop at′ out ∙ ap (λ (k : ℕ). k - at′) (w .whole)
 
     -- the part of the frame from at′ on
     abbrev part : List ℕ
@@ -158,19 +152,23 @@ module _ (heads links cells bytes : List ℕ) (entry count room low : ℕ) (is :
 
     text-is : part ≡ textOf (formAt mem entry)
     text-is =
-        ap (take (textBytes - at′)) (w .written inside ∙ same-text) ∙ ap (λ (k : ℕ). take k (textOf (formAt mem entry))) (sym length-is)
+        ap (take (textBytes - at′)) (w .written inside ∙ ap textOf same-form) ∙ ap (λ (k : ℕ). take k (textOf (formAt mem entry))) (sym length-is)
         ∙ take-length (textOf (formAt mem entry))
 
     fits-room : length (textOf (formAt mem entry)) ≤ min (length bytes) textBytes
     fits-room = let z = w .room inside in let q = length-is in let y = inside in omega arith
 
-    pub held-refused : (k : ℕ) → k ≡ judged (formAt mem entry) part → (k ≡ 0 → ⊥) → PrintsHeld mem entry bytes bytes (Refused k)
-    held-refused k e u = held-judged mem entry bytes fits-room k (e ∙ ap (judged (formAt mem entry)) text-is) u
+    module _ (well : wellFormed mem ≡ true) (held : entry < getD heads 0 0) (k : ℕ) (e : k ≡ verdict (formIn links cells count entry)) where
+      judged-is : k ≡ judged (formAt mem entry) (textOf (formAt mem entry))
+      judged-is = e ∙ ap verdict same-form ∙ verdict-judged (formAt mem entry) (entry-printable mem well entry held) (entry-saturated mem well entry held)
 
-    pub held-done : (k : ℕ) → k ≡ judged (formAt mem entry) part → k ≡ 0 → (bytes′ : List ℕ) → bytes′ ≡ take (length part) part ++ drop (length part) bytes
-        → PrintsHeld mem entry bytes bytes′ (Done (textBytes - at′))
-    held-done k e u bytes′ b =
-        held-printed mem entry bytes fits-room (sym u ∙ e ∙ ap (judged (formAt mem entry)) text-is) bytes′ (rw (take-length, text-is) at b) (textBytes - at′) (sym length-is)
+      pub held-refused : (k ≡ 0 → ⊥) → PrintsHeld mem entry bytes bytes (Refused k)
+      held-refused u = held-judged mem entry bytes fits-room k judged-is u
+
+      pub held-done : k ≡ 0 → (bytes′ : List ℕ) → bytes′ ≡ take (length part) part ++ drop (length part) bytes
+          → PrintsHeld mem entry bytes bytes′ (Done (textBytes - at′))
+      held-done u bytes′ b =
+          held-printed mem entry bytes fits-room (sym u ∙ judged-is) bytes′ (rw (take-length, text-is) at b) (textBytes - at′) (sym length-is)
 
 -- the text has room in the lent bytes, of which there are b
 pub copies : (b room low at′ : ℕ) (out t : List ℕ) → room ≡ min b textBytes → low ≡ textBytes - room → Writes low t at′ out → (at′ ≡ stoppedAt → ⊥)

@@ -1,12 +1,11 @@
-// Print (02, T-04): the text of an entry's let-free form, in the lent bytes. It is written in the call's own frame and read back there, as an edit
-// would read it, so that lent bytes are written only when nothing declines it.
+// Print (02, T-04): the text of an entry's let-free form, in the lent bytes. It is written in the call's own frame first, so that lent bytes are
+// written only when nothing declines it.
+use crate::judge::judge;
 use bytes::copy;
 use calls::lent::refusal;
 use interface::answers::Printed;
 use language::limits::Text;
 use layout::cells::at32;
-use layout::nodes::TEXT_WORDS;
-use planner::plan::bind_text;
 use writer::put::STOPPED;
 use writer::write::write;
 ghost use mathlib.Core.Path.{_≡_};
@@ -18,9 +17,8 @@ ghost use lib.ListN.{getD};
 ghost use Rattle.language.specs.Limits.{textBytes};
 ghost use Rattle.layout.specs.Memory.{memory};
 ghost use Rattle.table.specs.WellFormed.{wellFormed};
-ghost use Rattle.interface.specs.Calls.{formAt};
 ghost use Rattle.interface.specs.Effects.{Prints};
-ghost use Rattle.printer.specs.Printing.{judged, PrintsHeld};
+ghost use Rattle.printer.specs.Printing.{PrintsHeld};
 
 // How many bytes there is room for: the lent ones, up to a text's.
 fn room(lent: usize) -> usize
@@ -31,34 +29,6 @@ fn room(lent: usize) -> usize
     } else {
         Text::BYTES
     }
-}
-
-// Whether the text of entry `entry` is turned away: 15, the reader declines it; 16, read by itself it has another form; 0, neither.
-fn judge(text: &[u8], heads: &[u32], links: &[u16], cells: &[u64], entry: u16) -> u8
-    requires { ⌜ entry < getD (now heads) 0 0 ⌝ }
-    requires { ⌜ ((readings : List ℤ) → wellFormed (memory readings (now heads) (now links) (now cells)) ≡ true) ⌝ }
-    ensures { λ r. ⌜ ((readings : List ℤ) → r ≡ judged (formAt (memory readings (now (heads .entry)) (now (links .entry)) (now (cells .entry))) entry) (now (text .entry))) ⌝ }
-{
-    let count = at32(heads, 0) as u16;
-    let mut parts = [0u16; Text::PARTS];
-    let mut numbers = [0u16; Text::PARTS];
-    let mut fresh = [0u64; TEXT_WORDS];
-    let p = bind_text(
-        text,
-        links,
-        cells,
-        count,
-        &mut parts,
-        &mut numbers,
-        &mut fresh,
-    );
-    if p.number != 0 {
-        return 15;
-    }
-    if p.whole == entry {
-        return 0;
-    }
-    16
 }
 
 // A print of an entry that a well-formed cache holds.
@@ -74,10 +44,9 @@ fn print_held(entry: u16, bytes: &mut [u8], heads: &[u32], links: &[u16], cells:
     if at == STOPPED {
         return Printed::Refused { number: 15 };
     }
-    let text = &out[at..];
-    let refused = judge(text, heads, links, cells, entry);
+    let refused = judge(links, cells, count, entry);
     if refused == 0 {
-        copy(text, bytes);
+        copy(&out[at..], bytes);
         return Printed::Done {
             length: (Text::BYTES - at) as u16,
         };

@@ -1,7 +1,7 @@
--- 02, T-04: forms with their texts, and one computed check over the list: brackets, blanks, decimals and names. Assumes nothing.
+-- 02, T-04: forms with their texts, and forms with the refusals of their texts, and one computed check over each list. Assumes nothing.
 use mathlib.Core.Path.{_≡_, refl}
 use mathlib.Core.List.{List, [], _∷_, map}
-use Prim.Native.Nat.{ℕ}
+use Prim.Native.Nat.{ℕ, zero, suc}
 use Prim.Native.String.{String}
 use lib.IntN.{pos, negsuc}
 use Rattle.language.specs.Names
@@ -9,8 +9,11 @@ use Rattle.language.specs.Names.{bytes, packed}
 use Rattle.members.specs.Members
 use Rattle.members.specs.declared.Member.the-variants.{Add, Div, Skip, Take, Count, SumBy, LongestRun}
 use Rattle.meaning.specs.Forms.{Form, number, variable, unbound, readings, ask, call, function}
+use Rattle.meaning.specs.Evaluation
 use Rattle.printing.specs.Printed
 use Rattle.printing.specs.Printed.{textOf}
+use Rattle.printing.specs.Judging
+use Rattle.printing.specs.Judging.{verdict}
 
 -- the text of a form, and a name's number, as definitions that compute
 unfoldable computed : Form → List ℕ
@@ -50,3 +53,47 @@ examples =
 examples-printed : map (λ (e : Form × String). computed (e .0)) examples ≡ map (λ (e : Form × String). spelt (e .1)) examples
 unfolding examples computed spelt named
 examples-printed = refl
+
+-- ---- refusals 15 and 16
+
+unfoldable judged : Form → ℕ
+unfolding Evaluation.hasName Judging.counted Judging.looked Judging.opening Judging.walked Judging.refusalOf
+judged f = verdict f
+
+-- so many calls in one another's arguments, the last with the argument f, and so many in a chain
+unfoldable nested : ℕ → Form → Form
+nested zero f = f
+nested (suc k) f = call Skip readings (nested k f)
+
+unfoldable chain : ℕ → Form
+chain zero = readings
+chain (suc k) = ask Count (chain k)
+
+verdicts : List (Form × ℕ)
+verdicts =
+    -- each variable has a function around it, and no unbound name has
+    (function (named "a") (call Add (variable (named "a")) (unbound (named "b"))), 0)
+    ∷ (variable (named "a"), 16)
+    ∷ (call Add (function (named "a") (variable (named "a"))) (variable (named "a")), 16)
+    ∷ (function (named "a") (unbound (named "a")), 16)
+    -- two functions, of other names
+    ∷ (function (named "a") (function (named "b") (call Add (variable (named "a")) (variable (named "b")))), 0)
+    ∷ (function (named "a") (function (named "a") readings), 15)
+    ∷ (function (named "a") (function (named "b") (function (named "c") readings)), 15)
+    -- 16 open marks: a call's brackets are one, a function is one, and two where it is a receiver
+    ∷ (nested 16 readings, 0)
+    ∷ (nested 17 readings, 15)
+    ∷ (nested 15 (function (named "a") readings), 0)
+    ∷ (nested 16 (function (named "a") readings), 15)
+    ∷ (nested 14 (ask Count (function (named "a") readings)), 0)
+    ∷ (nested 15 (ask Count (function (named "a") readings)), 15)
+    -- 128 parts
+    ∷ (chain 127, 0)
+    ∷ (chain 128, 15)
+    -- 15 before 16
+    ∷ (nested 17 (variable (named "a")), 15)
+    ∷ []
+
+verdicts-given : map (λ (e : Form × ℕ). judged (e .0)) verdicts ≡ map (λ (e : Form × ℕ). e .1) verdicts
+unfolding verdicts judged nested chain named
+verdicts-given = refl

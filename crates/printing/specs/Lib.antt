@@ -3,6 +3,8 @@ pub mod BoundLaws
 pub mod DigitLaws
 mod Examples
 pub mod FormBack
+pub mod Judging
+pub mod JudgingLaws
 pub mod NameLaws
 pub mod Printable
 pub mod Printed

@@ -3,12 +3,12 @@
 use mathlib.Core.Path.{_≡_}
 use mathlib.Core.Bool.{cond}
 use mathlib.Core.Logic.{_⊎_}
-use mathlib.Core.List.{List, [], _++_}
-use Prim.Native.Nat.{ℕ, suc, _+_, _^_, _≤_, _<_}
+use mathlib.Core.List.{List, [], _∷_, _++_}
+use Prim.Native.Nat.{ℕ, zero, suc, _+_, _/_, _%_, _^_, _≤_, _<_}
 use lib.Dec.{eqb}
 use lib.ListN.{length, drop}
 use Rattle.language.specs.Limits.{textBytes}
-use Rattle.language.specs.Names.{bytes, dataWord}
+use Rattle.language.specs.Names.{bytes, byteBase, dataWord}
 use Rattle.members.specs.Members.{ifMember, spelled}
 use Rattle.members.specs.declared.Found.{Found}
 use Rattle.layout.specs.Memory.{Node}
@@ -32,6 +32,11 @@ pub record Puts (low : ℕ) (w : List ℕ) (at : ℕ) (out : List ℕ) (at′ : 
   pub within : at′ ≤ stoppedAt
   pub stopped : at′ ≡ stoppedAt → (at ≡ stoppedAt) ⊎ (at < low + length w)
   pub written : at′ ≤ textBytes → Stands low w at out at′ out′
+
+-- so many bytes of a packed word, with zeros before those that it packs, and then u
+unfoldable pub wholeOnto : ℕ → ℕ → List ℕ → List ℕ
+wholeOnto zero k u = u
+wholeOnto (suc n) k u = wholeOnto n (k / byteBase) ((k % byteBase) ∷ u)
 
 -- the bytes of an entry that is no function and no member
 unfoldable pub leafBytes : Node → List ℕ

@@ -1,15 +1,18 @@
--- Bytes written one after the other, from right to left, are written as one piece; and the loops that write the bytes of a packed word and the
--- digits of a number. Assumes nothing.
-use mathlib.Core.Path.{_≡_, refl, sym, ap, _∙_}
+-- Bytes written one after the other, from right to left, are written as one piece; and the loops that write the bytes of a packed word, one by
+-- one or all eight, and the digits of a number. Assumes nothing.
+use mathlib.Core.Path.{_≡_, refl, sym, ap, _∙_, subst}
 use mathlib.Core.Logic.{_⊎_, inl, inr, ⊎-elim}
 use mathlib.Core.Bool.{Bool, true, false, cond}
 use mathlib.Core.List.{List, [], _∷_, _++_, append-assoc}
-use Prim.Native.Nat.{ℕ, zero, suc, _+_, _-_, _/_, _%_, _^_, _≤_, _<_}
+use Prim.Native.Nat.{ℕ, zero, suc, _+_, _-_, _*_, _/_, _%_, _^_, _≤_, _<_}
 use native.Mathlib.Omega.{arith}
-use native.Mathlib.Nat.{pow-suc}
+use native.Mathlib.Nat.{pow-suc, one-le-pow}
 use borrow.Author.Tests.{ne-eqb, lt-ltb, le-ltb, ltb-true, ltb-false}
-use lib.Dec.{ltb}
+use lib.Count.{leadingZeros, leading-length}
+use lib.Dec.{eqb, ltb}
 use lib.ListN.{length, drop, set, length-append}
+use lib.Pow.{pow-add, pow-mono}
+use lib.Seq.{drop-drop}
 use Rattle.language.specs.Limits.{textBytes, nameBytes}
 use Rattle.language.specs.Cases.{split}
 use Rattle.language.specs.Names.{bytes, packOnto, dataWord}
@@ -24,7 +27,7 @@ use Rattle.layout.specs.Nodes.{numberKind, readingsKind, numberOfKey}
 use Rattle.table.specs.WellFormed.{keyRight}
 use Rattle.printing.specs.Printed.{digitsOnto, digits, decimals, unpackOnto, unpacked}
 use Rattle.printing.specs.Unpacking.{none-packed}
-use Rattle.writer.specs.Putting.{stoppedAt, Puts, leafBytes, memberBytes, Unpacks, Counts}
+use Rattle.writer.specs.Putting.{stoppedAt, Puts, wholeOnto, leafBytes, memberBytes, Unpacks, Counts}
 
 -- nothing is written
 pub puts-none : (low at : ℕ) (out : List ℕ) → at ≤ stoppedAt → Puts low [] at out at out
@@ -121,6 +124,95 @@ module _ {low word at first rest : ℕ} {out out′ : List ℕ} (p : Unpacks low
 
   pub unpacks-end : rest ≡ 0 → Puts low (unpacked word) at out first out′
   unpacks-end e = rw (← p .same, e, none-packed (p .left) (p .done)) (p .puts)
+
+-- all bytes of a packed word, with the zeros before them: one byte more, and the end
+pub whole-byte : (start left left′ rest b : ℕ) (out w : List ℕ) → suc left′ ≡ left → start + left ≤ length out → b ≡ rest % 256
+    → wholeOnto left rest (drop (start + left) out) ≡ w → wholeOnto left′ (rest / 256) (drop (start + left′) (set out (start + left′) b)) ≡ w
+unfolding wholeOnto
+whole-byte start left left′ rest b out w z h e p =
+    let q : suc (start + left′) ≡ start + left = omega arith in
+    let x : wholeOnto (suc left′) rest (drop (start + left) out) ≡ w = subst (λ k. wholeOnto k rest (drop (start + left) out) ≡ w) (sym z) p in
+    rw (drop-set out (start + left′) b (omega arith), q, e) x
+
+pub whole-end : (start left rest : ℕ) (out w : List ℕ) → left ≡ 0 → wholeOnto left rest (drop (start + left) out) ≡ w → drop start out ≡ w
+unfolding wholeOnto
+whole-end start left rest out w z p = let s : start + 0 ≡ start = omega arith in rw (z, s) at p
+
+-- of these the ones that the word packs: behind the zeros
+append-unpacked : (n k : ℕ) (v u : List ℕ) → unpackOnto n k (v ++ u) ≡ unpackOnto n k v ++ u
+unfolding unpackOnto
+append-unpacked zero k v u = refl
+append-unpacked (suc n) k v u = split (eqb k 0) (λ z. rw z) (λ z. rw z (append-unpacked n (k / 256) ((k % 256) ∷ v) u))
+
+past-whole : (n k : ℕ) (u : List ℕ) → drop n (wholeOnto n k u) ≡ u
+unfolding wholeOnto
+past-whole zero k u = refl
+past-whole (suc n) k u =
+    let t : List ℕ = wholeOnto n (k / 256) ((k % 256) ∷ u) in
+    let z : suc n ≡ n + 1 = omega arith in
+    ap (λ m. drop m t) z ∙ sym (drop-drop 1 n t) ∙ ap (drop 1) (past-whole n (k / 256) ((k % 256) ∷ u))
+
+past-zeros : (n k : ℕ) (u : List ℕ) → drop (n - length (unpackOnto n k [])) (wholeOnto n k u) ≡ unpackOnto n k u
+unfolding unpackOnto wholeOnto
+past-zeros zero k u = refl
+past-zeros (suc n) k u =
+    split (eqb k 0)
+    (λ z. let d : suc n - 0 ≡ suc n = omega arith in rw (z, d) (past-whole (suc n) k u))
+    (λ z.
+    let q : ℕ = k / 256 in
+    let l = ap length (append-unpacked n q [] ((k % 256) ∷ [])) ∙ length-append (unpackOnto n q []) ((k % 256) ∷ []) in
+    let d : suc n - length (unpackOnto n q ((k % 256) ∷ [])) ≡ n - length (unpackOnto n q []) = omega (arith, l) in
+    rw (z, d) (past-zeros n q ((k % 256) ∷ u)))
+
+-- how many bytes a word packs: it is below this power of 256, and not below the one before
+unpacked-length : (n k r : ℕ) (u : List ℕ) → k < 256 ^ r → 256 ^ r ≤ 256 * k + 255 → r ≤ n → length (unpackOnto n k u) ≡ r + length u
+unfolding unpackOnto
+unpacked-length zero k zero u h l s = omega arith
+unpacked-length zero k (suc r) u h l s = absurd (omega arith)
+unpacked-length (suc n) k zero u h l s = let z : k ≡ 0 = omega arith in rw z (omega arith)
+unpacked-length (suc n) k (suc r) u h l s =
+    let p = pow-suc 256 r in
+    let g : 1 ≤ 256 ^ r = one-le-pow r 256 (omega arith) in
+    let i = unpacked-length n (k / 256) r ((k % 256) ∷ u) (omega (arith, p)) (omega (arith, p)) (omega arith) in
+    rw (ne-eqb k 0 (λ e. omega (arith, p, g))) (omega (arith, i))
+
+power : (r : ℕ) → 256 ^ r ≡ 2 ^ (8 * r)
+power zero = refl
+power (suc r) =
+    let z : 8 * suc r ≡ 8 * r + 8 = omega arith in
+    pow-suc 256 r ∙ ap (λ x. x * 256) (power r) ∙ sym (ap (λ k. 2 ^ k) z ∙ pow-add 2 (8 * r) 8)
+
+-- eight less the leading bytes that are 0
+pub width-zeros : (word : ℕ) → word < 2 ^ 64 → nameBytes - leadingZeros 64 word / 8 ≡ length (unpacked word)
+width-zeros word h =
+    let t = leading-length 64 word h in
+    let r : ℕ = nameBytes - leadingZeros 64 word / 8 in
+    let u : 2 ^ (t .0) ≤ 2 ^ (8 * r) = pow-mono (omega (arith, t .1)) in
+    let v : 2 ^ (8 * r) ≤ 2 ^ (t .0 + 7) = pow-mono (omega (arith, t .1)) in
+    let i = unpacked-length nameBytes word r [] (omega (arith, power r, t .2, u)) (omega (arith, power r, t .3, v, pow-add 2 (t .0) 7)) (omega arith) in
+    omega (arith, i)
+
+-- they are written directly before the place
+pub puts-whole : (low at word r : ℕ) (out out′ : List ℕ) → low + nameBytes ≤ at → at ≤ textBytes → r ≡ length (unpacked word) → r ≤ nameBytes
+    → length out′ ≡ length out → drop (at - nameBytes) out′ ≡ wholeOnto nameBytes word (drop (at - nameBytes + nameBytes) out) → Puts low (unpacked word) at out (at - r) out′
+puts-whole low at word r out out′ h t e s l p =
+    let u : List ℕ = drop (at - nameBytes + nameBytes) out in
+    let z : at - r ≡ at - nameBytes + (nameBytes - r) = omega arith in
+    let z′ : at - nameBytes + nameBytes ≡ at = omega arith in
+    record {
+      whole = l;
+      within = omega arith;
+      stopped = λ y. absurd (omega arith);
+      written = λ _. record {
+        top = t;
+        room = λ _. omega arith;
+        size = omega arith;
+        bytes =
+            ap (λ k. drop k out′) z ∙ sym (drop-drop (nameBytes - r) (at - nameBytes) out′) ∙ ap (drop (nameBytes - r)) p
+            ∙ ap (λ k. drop (nameBytes - k) (wholeOnto nameBytes word u)) e ∙ past-zeros nameBytes word u
+            ∙ append-unpacked nameBytes word [] u ∙ ap (λ k. unpacked word ++ drop k out) z′;
+      };
+    }
 
 -- the digits of a number
 pub counts-start : (low n at : ℕ) (out : List ℕ) → at ≤ stoppedAt → n < 2 ^ 32 → Counts low n at out at n out

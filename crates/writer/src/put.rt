@@ -10,14 +10,14 @@ use table::entries::member_of;
 ghost use mathlib.Core.Path.{_≡_};
 ghost use mathlib.Core.Bool.{true, cond};
 ghost use mathlib.Core.List.{[], _∷_};
-ghost use Prim.Native.Nat.{_≤_, _<_, _^_};
-ghost use lib.ListN.{length};
-ghost use Rattle.language.specs.Limits.{textBytes};
+ghost use Prim.Native.Nat.{_+_, _≤_, _<_, _^_};
+ghost use lib.ListN.{length, drop};
+ghost use Rattle.language.specs.Limits.{textBytes, nameBytes};
 ghost use Rattle.layout.specs.Held.{shaped};
 ghost use Rattle.layout.specs.Nodes.{memberOfKind, numberOfKey};
 ghost use Rattle.table.specs.WellFormed.{keyRight};
 ghost use Rattle.printing.specs.Printed.{digits, decimals, unpacked};
-ghost use Rattle.writer.specs.Putting.{stoppedAt, Puts, leafBytes, memberBytes};
+ghost use Rattle.writer.specs.Putting.{stoppedAt, Puts, wholeOnto, leafBytes, memberBytes};
 
 // The room is used up.
 pub const STOPPED: usize = Text::BYTES + 1;
@@ -40,8 +40,8 @@ pub fn put_byte(out: &mut [u8; Text::BYTES], low: usize, at: usize, b: u8) -> us
     at - 1
 }
 
-// The bytes that a number packs.
-pub fn put(out: &mut [u8; Text::BYTES], low: usize, at: usize, word: u64) -> usize
+// The bytes that a number packs, one after the other.
+fn put_each(out: &mut [u8; Text::BYTES], low: usize, at: usize, word: u64) -> usize
     requires { ⌜ (length (now out) ≡ textBytes) × (at ≤ stoppedAt) ⌝ }
     ensures { λ r. ⌜ Puts low (unpacked word) at (now (out .entry)) r (now (out .exit)) ⌝ }
 {
@@ -52,6 +52,52 @@ pub fn put(out: &mut [u8; Text::BYTES], low: usize, at: usize, word: u64) -> usi
         rest /= BYTE_BASE;
     }
     first
+}
+
+// Eight bytes have room before a place.
+fn has_room(low: usize, at: usize) -> bool
+    ensures { λ r. ⌜ (r ≡ true → (low + nameBytes ≤ at) × (at ≤ textBytes)) ⌝ }
+{
+    if at < Text::NAME_BYTES {
+        return false;
+    }
+    if Text::BYTES < at {
+        return false;
+    }
+    low <= at - Text::NAME_BYTES
+}
+
+// All eight bytes of a number, with the zeros before those that it packs: compiled they are one store.
+fn put_whole(out: &mut [u8; Text::BYTES], start: usize, word: u64)
+    requires { ⌜ (length (now out) ≡ textBytes) × (start + nameBytes ≤ textBytes) ⌝ }
+    ensures { λ _. ⌜ (length (now (out .exit)) ≡ textBytes) × (drop start (now (out .exit)) ≡ wholeOnto nameBytes word (drop (start + nameBytes) (now (out .entry)))) ⌝ }
+{
+    let mut left = Text::NAME_BYTES;
+    let mut rest = word;
+    while left != 0 {
+        left -= 1;
+        out[start + left] = (rest % BYTE_BASE) as u8;
+        rest /= BYTE_BASE;
+    }
+}
+
+// How many bytes a number packs.
+fn width(word: u64) -> usize
+    ensures { λ r. ⌜ (r ≡ length (unpacked word)) × (r ≤ nameBytes) ⌝ }
+{
+    Text::NAME_BYTES - (u64::leading_zeros(word) / 8) as usize
+}
+
+// The bytes that a number packs. What stands before them is free, so that where there is room all eight are written at once.
+pub fn put(out: &mut [u8; Text::BYTES], low: usize, at: usize, word: u64) -> usize
+    requires { ⌜ (length (now out) ≡ textBytes) × (at ≤ stoppedAt) ⌝ }
+    ensures { λ r. ⌜ Puts low (unpacked word) at (now (out .entry)) r (now (out .exit)) ⌝ }
+{
+    if has_room(low, at) {
+        put_whole(out, at - Text::NAME_BYTES, word);
+        return at - width(word);
+    }
+    put_each(out, low, at, word)
 }
 
 // The decimal digits of a number.

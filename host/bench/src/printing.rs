@@ -1,15 +1,11 @@
-//! Printing texts of about 1,000 bytes: the whole call against a printer written by hand, and against that printer with the text read again,
-//! since the engine reads what it has written; and the writing of the bytes by itself, with the test that it asks for.
+//! Printing texts of about 1,000 bytes against a printer written by hand: the whole call; and the writing of the bytes by itself, with the test
+//! that it asks for.
 
 use crate::cache::Cache;
-use crate::figures::{ENGINE, Figures, PLAIN};
-use crate::reader::{self, Output};
+use crate::figures::Figures;
 use crate::tree::{self, Tree};
 use crate::{member, plot, proved, texts, timing};
 use std::hint::black_box;
-
-/// The side that prints by hand and reads the text again.
-pub const READ_BACK: &str = "plain Rust with reading";
 
 const ROOM: usize = 1024;
 const CALLS: u32 = 100;
@@ -116,8 +112,7 @@ pub fn measure(figures: &mut Figures) {
     ] {
         let Printed { cache, entry, tree } = agree(&text);
         let (mut bytes, mut alone) = ([0; ROOM], [0; ROOM]);
-        let (mut plain, mut again) = (Vec::with_capacity(ROOM), Vec::with_capacity(ROOM));
-        let mut output = Output::new();
+        let mut plain = Vec::with_capacity(ROOM);
         let mut call = || cache.print(black_box(entry), &mut bytes);
         let (links, cells) = (&cache.links, &cache.cells);
         let mut part = || proved::print(black_box(entry), &mut alone, links, cells);
@@ -127,30 +122,19 @@ pub fn measure(figures: &mut Figures) {
             print(black_box(&tree), &mut plain);
             plain.len()
         };
-        let mut read_again = || {
-            again.clear();
-            print(black_box(&tree), &mut again);
-            reader::read(&again, &mut output)
-        };
         let best = timing::in_turn(
             timing::ROUNDS,
             &mut [
                 &mut || timing::batch(CALLS, &mut call),
                 &mut || timing::batch(CALLS, &mut plainly),
-                &mut || timing::batch(CALLS, &mut read_again),
                 &mut || timing::batch(CALLS, &mut part),
                 &mut || timing::batch(CALLS, &mut test),
             ],
         );
         let name = format!("{name}: {} bytes", plot::number(text.len() as f64));
-        figures.row(
-            "printing",
-            &name,
-            0,
-            &[(ENGINE, best[0]), (PLAIN, best[1]), (READ_BACK, best[2])],
-        );
-        figures.part_of("printer", &name, (best[3], best[1]), Some(5.0));
+        figures.part_of("printing", &name, (best[0], best[1]), Some(5.0));
+        figures.part_of("printer", &name, (best[2], best[1]), None);
         let test = format!("{name}, the test of its nodes alone");
-        figures.part_of("printer", &test, (best[4], best[1]), None);
+        figures.part_of("printer", &test, (best[3], best[1]), None);
     }
 }

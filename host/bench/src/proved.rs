@@ -139,7 +139,7 @@ pub fn read(text: &[u8], records: &mut [u64; 256], places: &mut [u16; 128]) -> u
 }
 
 /// Writes an entry's text: how many bytes it has, or 0 if there are too few. The nodes up to the entry are tested first, and the text is not
-/// read again.
+/// judged.
 pub fn print(entry: u32, bytes: &mut [u8], links: &[u16], cells: &[u64]) -> u64 {
     // SAFETY: each pointer and length are those of one live slice, and `bytes` is not shared.
     unsafe {

@@ -3,7 +3,6 @@
 
 use crate::figures::{ENGINE, Figures, PLAIN, name};
 use crate::plot::{self, Panel};
-use crate::printing::READ_BACK;
 use crate::{formulas, lua};
 use std::path::Path;
 use std::{fs, io};
@@ -30,7 +29,7 @@ fn tables(figures: &Figures) -> Vec<(&'static str, String)> {
         ("calls", values(figures, "calls", &[ENGINE], microseconds)),
         ("parts", ratios(figures, "parts", &[PLAIN])),
         ("reading", ratios(figures, "reading", &[PLAIN])),
-        ("printing", ratios(figures, "printing", &[PLAIN, READ_BACK])),
+        ("printing", ratios(figures, "printing", &[PLAIN])),
         ("printer", ratios(figures, "printer", &[PLAIN])),
         ("stretches", ratios(figures, "stretches", &others)),
         ("stretch", ratios(figures, "stretch", &[PLAIN])),

@@ -1,47 +1,52 @@
--- The invariant: what is written and what is left are the word's bytes. Assumes nothing.
-use mathlib.Core.Path.{_∙_}
+-- All eight bytes, of which those before the word's own do not matter, or one after the other. Assumes nothing.
+use mathlib.Core.Path.{sym, _∙_}
+use native.Mathlib.Omega.{arith}
 use borrow.Author.Needs.{needs}
-use Rattle.writer.specs.Putting.{Unpacks}
-use Rattle.writer.specs.PuttingLaws.{unpacks-start, unpacks-byte, unpacks-end}
+use Rattle.writer.specs.PuttingLaws.{puts-whole}
 use Rattle.writer.proofs.put.put.Statement.{statement}
 use Rattle.writer.proofs.put.put.Tie as tie
 
-abbrev Inv-loop : tie.InvT-loop
-Inv-loop out₀ low at word first₀ rest₀ out first rest = Unpacks low word at out₀ first rest out
+has-room-requires : tie.Need-has-room-requires
+has-room-requires c κs = search needs
 
-abbrev μ-loop : tie.MeasureT-loop
-μ-loop out₀ low at word first₀ rest₀ out first rest = rest
+sub-put-whole : tie.Need-sub-put-whole
+sub-put-whole c = let h = c .before .before .has-room .ensures (c .before .if1 .taken) in omega (arith, h)
 
-loop-holds : tie.Need-loop-holds Inv-loop μ-loop
-loop-holds c = unpacks-start _ _ _ _ (search needs) (search needs)
+put-whole-requires : tie.Need-put-whole-requires
+put-whole-requires c κs =
+    let h = c .before .before .has-room .ensures (c .before .if1 .taken) in
+    (c .before .before .before .pre .0, omega (arith, h))
 
-cast-put-byte : tie.Need-cast-put-byte Inv-loop μ-loop
-cast-put-byte c = search needs
+width-requires : tie.Need-width-requires
+width-requires c κs = search needs
 
-put-byte-requires : tie.Need-put-byte-requires Inv-loop μ-loop
-put-byte-requires c κs =
-    let p = c .before .before .loop .inv .puts in
-    (p .whole ∙ c .before .before .before .pre .0, p .within)
+sub-result : tie.Need-sub-result
+sub-result c =
+    let h = c .before .before .before .before .has-room .ensures (c .before .before .before .if1 .taken) in
+    omega (arith, h, c .width .ensures)
 
-loop-less : tie.Need-loop-less Inv-loop μ-loop
-loop-less c = search needs
+returns : tie.Need-returns
+returns c =
+    let h = c .before .before .before .before .has-room .ensures (c .before .before .before .if1 .taken) in
+    let w = c .before .put-whole .ensures in
+    let l = c .before .before .before .before .before .pre .0 in
+    puts-whole _ _ _ _ _ _ (h .0) (h .1) (c .width .ensures .0) (c .width .ensures .1) (w .0 ∙ sym l) (w .1)
 
-loop-again : tie.Need-loop-again Inv-loop μ-loop
-loop-again c =
-    unpacks-byte (c .before .before .before .loop .inv) _ _ _ (search needs) (search needs) (c .put-byte .ensures)
+put-each-requires : tie.Need-put-each-requires
+put-each-requires c κs = search needs
 
-returns : tie.Need-returns Inv-loop μ-loop
-returns c = unpacks-end (c .before .loop .inv) (search needs)
+returns-2 : tie.Need-returns-2
+returns-2 c = search needs
 
 pub put-spec : {M : Type 1} → statement M
 put-spec =
     tie.close
     (tie.spec
-    Inv-loop
-    μ-loop
-    loop-holds
-    cast-put-byte
-    put-byte-requires
-    loop-less
-    loop-again
-    returns)
+    has-room-requires
+    sub-put-whole
+    put-whole-requires
+    width-requires
+    sub-result
+    returns
+    put-each-requires
+    returns-2)
