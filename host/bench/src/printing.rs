@@ -8,6 +8,10 @@ use crate::{member, plot, proved, texts, timing};
 use std::hint::black_box;
 
 const ROOM: usize = 1024;
+
+/// The number of no entry: a print of it ends behind the test of the cache.
+const NONE: u32 = 512;
+
 const CALLS: u32 = 100;
 
 /// The text of a tree without lets, into a buffer that has room for it.
@@ -114,6 +118,7 @@ pub fn measure(figures: &mut Figures) {
         let (mut bytes, mut alone) = ([0; ROOM], [0; ROOM]);
         let mut plain = Vec::with_capacity(ROOM);
         let mut call = || cache.print(black_box(entry), &mut bytes);
+        let mut refused = || cache.print(black_box(NONE), &mut []);
         let (links, cells) = (&cache.links, &cache.cells);
         let mut part = || proved::print(black_box(entry), &mut alone, links, cells);
         let mut test = || proved::is_right(black_box(entry), links, cells);
@@ -126,15 +131,19 @@ pub fn measure(figures: &mut Figures) {
             timing::ROUNDS,
             &mut [
                 &mut || timing::batch(CALLS, &mut call),
+                &mut || timing::batch(CALLS, &mut refused),
                 &mut || timing::batch(CALLS, &mut plainly),
                 &mut || timing::batch(CALLS, &mut part),
                 &mut || timing::batch(CALLS, &mut test),
             ],
         );
         let name = format!("{name}: {} bytes", plot::number(text.len() as f64));
-        figures.part_of("printing", &name, (best[0], best[1]), Some(5.0));
-        figures.part_of("printer", &name, (best[2], best[1]), None);
-        let test = format!("{name}, the test of its nodes alone");
-        figures.part_of("printer", &test, (best[3], best[1]), None);
+        let [call, refused, plainly, part, test] = best[..] else { unreachable!() };
+        figures.part_of("printing", &name, (call, plainly), Some(5.0));
+        let tested = format!("{name}, the test of the cache alone");
+        figures.part_of("printing", &tested, (refused, plainly), None);
+        figures.part_of("printer", &name, (part, plainly), None);
+        let right = format!("{name}, the test of its nodes alone");
+        figures.part_of("printer", &right, (test, plainly), None);
     }
 }
