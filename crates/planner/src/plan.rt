@@ -31,7 +31,7 @@ pub struct Plan {
 
 // Reads the text and binds it to the `count` entries held, whether or not there is room for the new ones: `parts` gets the record of each part,
 // `numbers` the entry of each record, and `fresh` the entries to append.
-pub fn bind_text(
+fn bind_text(
     text: &[u8],
     links: &[u16],
     cells: &[u64],

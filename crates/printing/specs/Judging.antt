@@ -13,8 +13,8 @@ use Rattle.meaning.specs.Forms.{Form, number, variable, unbound, readings, ask,
 use Rattle.meaning.specs.Evaluation.{hasName}
 use Rattle.printing.specs.Printed.{isFunction}
 
--- What a walk has found is a number: twice the parts met, plus 1 if a name was met that would be read as something else. The reader would
--- decline the text: as if there were a part too many.
+-- What a walk has found is a number: twice the parts met, plus 1 if a name was met that would be read as something else. Where the reader would
+-- decline the text it is this one, as for a part too many, whatever else was met.
 abbrev pub declined : ℕ
 declined = suc (2 * suc textParts)
 
