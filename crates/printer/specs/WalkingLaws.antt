@@ -10,7 +10,7 @@ use lib.ListN.{length}
 use Rattle.language.specs.Cases.{split}
 use Rattle.language.specs.Limits.{openMarks, openLambdas}
 use Rattle.members.specs.declared.Member.{Member}
-use Rattle.meaning.specs.Forms.{Form, number, variable, unbound, readings, ask, call, function}
+use Rattle.meaning.specs.Forms.{Form, ask, call, function}
 use Rattle.meaning.specs.Evaluation.{hasName}
 use Rattle.layout.specs.Memory.{Node, nodeAt}
 use Rattle.layout.specs.Nodes.{numberKind, variableKind, unboundKind, functionKind, build, isName}
@@ -20,7 +20,7 @@ use Rattle.table.specs.NodeKinds.{Fine, aNumber, aVariable, anUnbound, theReadi
 use Rattle.table.specs.RightLaws.{right-key, first-low, second-low}
 use Rattle.printing.specs.Printed.{isFunction}
 use Rattle.printing.specs.Judging.{declined, counted, looked, opening, admits, admitsFunction, atReceiver, walked, refusalOf, verdict}
-use Rattle.printing.specs.JudgingLaws.{walked-declined}
+use Rattle.printing.specs.JudgingLaws.{opening-few, walked-few, walked-declined}
 use Rattle.demand.specs.Cells.{name-some}
 use Rattle.writer.specs.NodeTexts.{function-node, ask-node, call-node}
 use Rattle.writer.specs.Writing.{formIn, Tabled}
@@ -71,31 +71,6 @@ names-more s marks x h z =
     let n = name-some x h in
     split (eqb (s .inner) 0) (λ e. rw (z, e, n)) (λ e. rw (z, e))
 
-pub counted-few : (n : ℕ) → counted n ≤ declined
-unfolding counted
-counted-few n = split (ltb n 256) (λ e. let l = ltb-true n 256 e in rw e (omega arith)) (λ e. rw e (omega arith))
-
-opening-few : (b : Bool) (n : ℕ) → n ≤ declined → opening b n ≤ declined
-unfolding opening
-opening-few true n h = h
-opening-few false n h = omega arith
-
-looked-few : (b : Bool) (n : ℕ) → n ≤ declined → looked b n ≤ declined
-unfolding looked
-looked-few true n h = h
-looked-few false n h = omega arith
-
-walked-few : (k : ℕ) (xs : List ℕ) (f : Form) (n : ℕ) → n ≤ declined → walked k xs f n ≤ declined
-unfolding walked
-walked-few k xs (number z) n h = counted-few n
-walked-few k xs (variable x) n h = looked-few (hasName x xs) (counted n) (counted-few n)
-walked-few k xs (unbound x) n h = looked-few (not (hasName x xs)) (counted n) (counted-few n)
-walked-few k xs readings n h = counted-few n
-walked-few k xs (ask m f) n h = walked-few (atReceiver f k) xs f _ (opening-few (admits k) (counted n) (counted-few n))
-walked-few k xs (call m f a) n h =
-    walked-few (atReceiver f k) xs f _ (walked-few (suc k) xs a _ (opening-few (admits k) (counted n) (counted-few n)))
-walked-few k xs (function x b) n h = walked-few (suc k) (x ∷ xs) b _ (opening-few (admitsFunction k xs x) (counted n) (counted-few n))
-
 -- what did not break a limit is within it
 opening-within : (b : Bool) (n : ℕ) → (opening b n ≡ declined → ⊥) → b ≡ true
 unfolding opening
@@ -103,17 +78,17 @@ opening-within true n u = refl
 opening-within false n u = absurd (u refl)
 
 -- a node that is no function and no member
-pub leaf-walked : {q : Node} → Fine q → q .kind < functionKind → (φ : ℕ → Form) (k : ℕ) (xs : List ℕ) (n : ℕ)
-    → (isFunction (build q φ) ≡ false) × (walked k xs (build q φ) n ≡ leafWalked q xs n)
+leaf-walked : {q : Node} → Fine q → q .kind < functionKind → (φ : ℕ → Form) (k : ℕ) (xs : List ℕ) (n : ℕ) → walked k xs (build q φ) n ≡ leafWalked q xs n
 unfolding build walked leafWalked
-leaf-walked (aNumber key) l φ k xs n = (refl, refl)
-leaf-walked (aVariable x) l φ k xs n = (refl, refl)
-leaf-walked (anUnbound x) l φ k xs n = (refl, refl)
-leaf-walked theReadings l φ k xs n = (refl, refl)
+leaf-walked (aNumber key) l φ k xs n = refl
+leaf-walked (aVariable x) l φ k xs n = refl
+leaf-walked (anUnbound x) l φ k xs n = refl
+leaf-walked theReadings l φ k xs n = refl
 leaf-walked (aFunction x b) l φ k xs n = absurd (omega arith)
 leaf-walked (anAsk m f h) l φ k xs n = absurd (omega arith)
 leaf-walked (aCall m f a h) l φ k xs n = absurd (omega arith)
 
+-- a member has a receiver
 member-first : {q : Node} → Fine q → functionKind < q .kind → 1 ≤ q .first
 member-first (aNumber key) l = absurd (omega arith)
 member-first (aVariable x) l = absurd (omega arith)
@@ -200,7 +175,7 @@ module _ (links cells : List ℕ) (count entry : ℕ) (s : Scope) (found : ℕ) 
     -- a member
     module _ (member : functionKind < q .kind) (met₁ : ℕ) (opens : met₁ ≡ opening (admits k) (counted met)) where
       pub call-few : met₁ ≤ declined
-      call-few = rw opens (opening-few (admits k) (counted met) (counted-few met))
+      call-few = rw opens (opening-few (admits k) met)
 
       -- a limit is broken
       pub walks-declined : met₁ ≡ declined → declined ≡ all
@@ -262,13 +237,13 @@ module _ (links cells : List ℕ) (count entry : ℕ) (s : Scope) (found : ℕ) 
               let z : j ≡ v .argument = (let g = v .second in omega arith) in
               let m : k + 1 ≡ suc k = omega arith in
               let is : met₂ ≡ walked (suc k) xs a (opening (admits k) (counted met)) = e ∙ (λ i. walked (m i) xs (φ (z i)) (opens i)) in
-              next (v .receiver) (v .first) met₂ (rw is (walked-few (suc k) xs a (opening (admits k) (counted met)) (opening-few (admits k) (counted met) (counted-few met))))
+              next (v .receiver) (v .first) met₂ (rw is (walked-few (suc k) xs a (opening (admits k) (counted met))))
               (ap (walked (atReceiver f k) xs f) is ∙ call-left (v .member) f a (form ∙ v .form φ))
 
     -- a function
     module _ (kind : q .kind ≡ functionKind) (met₁ : ℕ) (opens : met₁ ≡ opening (admitsFunction marks xs (q .key)) (counted met)) where
       pub function-few : met₁ ≤ declined
-      function-few = rw opens (opening-few (admitsFunction marks xs (q .key)) (counted met) (counted-few met))
+      function-few = rw opens (opening-few (admitsFunction marks xs (q .key)) met)
 
       pub function-declined : met₁ ≡ declined → declined ≡ all
       function-declined z =
@@ -302,9 +277,8 @@ module _ (links cells : List ℕ) (count entry : ℕ) (s : Scope) (found : ℕ) 
 
     pub walks-leaf : q .kind ≤ functionKind → (q .kind ≡ functionKind → ⊥) → leafWalked q xs met ≡ all
     walks-leaf l n =
-        let v = leaf-walked fine (omega arith) φ in
         let same : walked (cond (isFunction (build q φ)) marks k) xs (build q φ) met ≡ all = rw form at (w .same) in
-        sym (v (cond (isFunction (build q φ)) marks k) xs met .1) ∙ same
+        sym (leaf-walked fine (omega arith) φ (cond (isFunction (build q φ)) marks k) xs met) ∙ same
 
 -- ---- the whole form
 

@@ -8,14 +8,13 @@ use Prim.Native.Nat.{ℕ}
 use borrow.Author.Tests.{eqb-true}
 use lib.Dec.{eqb}
 use Rattle.language.specs.Cases.{split}
-use Rattle.language.specs.NamesLaws.{Each}
 use Rattle.meaning.specs.Forms.{Form, number, variable, unbound, readings, ask, call, function}
 use Rattle.meaning.specs.Binding.{Meaning, lookUp, named, asLambda, formOf}
 use Rattle.meaning.specs.Evaluation.{hasName}
 use Rattle.layout.specs.Nodes.{isName}
 use Rattle.printing.specs.Printed.{unpacked}
 use Rattle.printing.specs.Trees.{treeOf}
-use Rattle.printing.specs.Printable.{Printable}
+use Rattle.printing.specs.Printable.{Names, Printable}
 use Rattle.printing.specs.Bound.{bound, Closed}
 use Rattle.printing.specs.NameLaws.{name-again, name-not-data}
 use Rattle.printing.specs.BoundLaws.{form-bound}
@@ -24,9 +23,6 @@ use Rattle.printing.specs.BoundLaws.{form-bound}
 abbrev around : List ℕ → List Meaning
 around [] = []
 around (x ∷ xs) = asLambda (unpacked x) (around xs)
-
-abbrev Names : List ℕ → Type 0
-Names xs = Each (λ x. isName x ≡ true) xs
 
 -- a name is looked up among the numbers
 looked-up : (x : ℕ) → isName x ≡ true → (xs : List ℕ) → Names xs → lookUp (unpacked x) (around xs) ≡ cond (hasName x xs) (variable x) (unbound x)

@@ -12,7 +12,6 @@ use lib.ListN.{length, length-map}
 use Rattle.language.specs.Cases.{impossible, split}
 use Rattle.language.specs.Limits.{textParts, openMarks, openLambdas}
 use Rattle.language.specs.Names.{bytes, dataWord, isData}
-use Rattle.language.specs.NamesLaws.{Each}
 use Rattle.members.specs.Members.{spelled, arguments, takes}
 use Rattle.members.specs.MembersLaws.{name-found}
 use Rattle.members.specs.declared.Member.{Member}
@@ -24,7 +23,7 @@ use Rattle.meaning.specs.Evaluation.{hasName}
 use Rattle.layout.specs.Nodes.{isName}
 use Rattle.printing.specs.Printed.{unpacked, isFunction}
 use Rattle.printing.specs.Trees.{treeWith, treeOf}
-use Rattle.printing.specs.Printable.{Printable}
+use Rattle.printing.specs.Printable.{Names, Printable}
 use Rattle.printing.specs.Bound.{Closed}
 use Rattle.printing.specs.NameLaws.{name-again, name-short, name-not-data}
 use Rattle.printing.specs.Judging.{declined, counted, looked, opening, admits, admitsFunction, atReceiver, walked, Saturated}
@@ -49,6 +48,31 @@ walked-declined k xs readings = refl
 walked-declined k xs (ask m f) = rw (opening-declined (admits k)) (walked-declined (atReceiver f k) xs f)
 walked-declined k xs (Form.call m f a) = rw (opening-declined (admits k), walked-declined (suc k) xs a) (walked-declined (atReceiver f k) xs f)
 walked-declined k xs (function x b) = rw (opening-declined (admitsFunction k xs x)) (walked-declined (suc k) (x ∷ xs) b)
+
+-- and none is greater
+pub counted-few : (n : ℕ) → counted n ≤ declined
+unfolding counted
+counted-few n = split (ltb n (2 * textParts)) (λ e. let l = ltb-true n _ e in rw e (omega arith)) (λ e. rw e (omega arith))
+
+pub opening-few : (b : Bool) (n : ℕ) → opening b (counted n) ≤ declined
+unfolding opening
+opening-few true n = counted-few n
+opening-few false n = omega arith
+
+looked-few : (b : Bool) (n : ℕ) → looked b (counted n) ≤ declined
+unfolding looked
+looked-few true n = counted-few n
+looked-few false n = omega (arith, counted-few n)
+
+pub walked-few : (k : ℕ) (xs : List ℕ) (f : Form) (n : ℕ) → walked k xs f n ≤ declined
+unfolding walked
+walked-few k xs (number z) n = counted-few n
+walked-few k xs (variable x) n = looked-few (hasName x xs) n
+walked-few k xs (unbound x) n = looked-few (not (hasName x xs)) n
+walked-few k xs readings n = counted-few n
+walked-few k xs (ask m f) n = walked-few (atReceiver f k) xs f _
+walked-few k xs (Form.call m f a) n = walked-few (atReceiver f k) xs f _
+walked-few k xs (function x b) n = walked-few (suc k) (x ∷ xs) b _
 
 -- ---- what a finding n says
 
@@ -93,10 +117,6 @@ name-met false i (kept h l d c) = kept h l (omega arith) (λ z. absurd (omega ar
 name-met false i (broken h d) = rw d (broken h refl)
 
 -- ---- the limits at a place, as the walk tests them
-
--- each is a name
-abbrev Names : List ℕ → Type 0
-Names xs = Each (λ x. isName x ≡ true) xs
 
 -- where k marks are open and functions of the names xs are around
 abbrev around : ℕ → List ℕ → Around

@@ -2,7 +2,8 @@
 use mathlib.Core.Path.{refl}
 use borrow.Author.Needs.{needs}
 use Rattle.layout.specs.Nodes.{variableKind, unboundKind}
-use Rattle.printer.specs.WalkingLaws.{counted-few, key-name, leaf-variable, leaf-unbound, leaf-other}
+use Rattle.printing.specs.JudgingLaws.{counted-few}
+use Rattle.printer.specs.WalkingLaws.{key-name, leaf-variable, leaf-unbound, leaf-other}
 use Rattle.printer.proofs.judge.walk_leaf.Statement.{statement}
 use Rattle.printer.proofs.judge.walk_leaf.Tie as tie
 
