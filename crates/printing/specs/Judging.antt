@@ -1,6 +1,8 @@
--- 02, T-04: refusals 15 and 16 of a form's text, found by a walk over the form: its parts are counted, what is open is tested where more opens,
--- and each name is looked up among the functions around it. Assumes nothing: these are definitions. That this is what reading the text would
--- come to is in JudgingLaws.
+-- 02, T-04: refusals 15 and 16 of a form's text but for the text's length, found by a walk over the form: its parts are counted, what is open is
+-- tested where more opens, and each name is looked up among the functions around it. Numbers, names and how many arguments a member is given
+-- are not looked at: it is of forms in which they are right (Printable, and Saturated below), as those of a cache's entries are. Assumes
+-- nothing: these are definitions. That of such forms this is what reading the text would come to, and when the tree keeps the limits, is in
+-- JudgingLaws.
 use mathlib.Core.Path.{_≡_}
 use mathlib.Core.Bool.{Bool, not, _&&_, cond}
 use mathlib.Core.List.{List, [], _∷_}
@@ -13,8 +15,8 @@ use Rattle.meaning.specs.Forms.{Form, number, variable, unbound, readings, ask,
 use Rattle.meaning.specs.Evaluation.{hasName}
 use Rattle.printing.specs.Printed.{isFunction}
 
--- What a walk has found is a number: twice the parts met, plus 1 if a name was met that would be read as something else. Where the reader would
--- decline the text it is this one, as for a part too many, whatever else was met.
+-- What a walk has found is a number: twice the parts met, plus 1 if a name was met that would be read as something else. Where a limit
+-- is broken, so that the reader would decline the text, it is this one, as for a part too many, whatever else was met.
 abbrev pub declined : ℕ
 declined = suc (2 * suc textParts)
 

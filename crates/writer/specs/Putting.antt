@@ -1,13 +1,13 @@
 -- What it means that bytes are written directly before a place, from right to left, as long as there is room. Assumes nothing: these are
 -- definitions.
 use mathlib.Core.Path.{_≡_}
-use mathlib.Core.Bool.{cond}
+use mathlib.Core.Bool.{Bool, _&&_, cond}
 use mathlib.Core.Logic.{_⊎_}
 use mathlib.Core.List.{List, [], _∷_, _++_}
 use Prim.Native.Nat.{ℕ, zero, suc, _+_, _/_, _%_, _^_, _≤_, _<_}
-use lib.Dec.{eqb}
+use lib.Dec.{eqb, leb}
 use lib.ListN.{length, drop}
-use Rattle.language.specs.Limits.{textBytes}
+use Rattle.language.specs.Limits.{textBytes, nameBytes}
 use Rattle.language.specs.Names.{bytes, byteBase, dataWord}
 use Rattle.members.specs.Members.{ifMember, spelled}
 use Rattle.members.specs.declared.Found.{Found}
@@ -32,6 +32,10 @@ pub record Puts (low : ℕ) (w : List ℕ) (at : ℕ) (out : List ℕ) (at′ : 
   pub within : at′ ≤ stoppedAt
   pub stopped : at′ ≡ stoppedAt → (at ≡ stoppedAt) ⊎ (at < low + length w)
   pub written : at′ ≤ textBytes → Stands low w at out at′ out′
+
+-- the bytes of a whole word have room before a place
+abbrev pub hasRoom : ℕ → ℕ → Bool
+hasRoom low at = leb (low + nameBytes) at && leb at textBytes
 
 -- so many bytes of a packed word, with zeros before those that it packs, and then u
 unfoldable pub wholeOnto : ℕ → ℕ → List ℕ → List ℕ

@@ -2,14 +2,14 @@
 -- one or all eight, and the digits of a number. Assumes nothing.
 use mathlib.Core.Path.{_≡_, refl, sym, ap, _∙_, subst}
 use mathlib.Core.Logic.{_⊎_, inl, inr, ⊎-elim}
-use mathlib.Core.Bool.{Bool, true, false, cond}
+use mathlib.Core.Bool.{Bool, true, false, _&&_, cond, and-eq-true-iff}
 use mathlib.Core.List.{List, [], _∷_, _++_, append-assoc}
 use Prim.Native.Nat.{ℕ, zero, suc, _+_, _-_, _*_, _/_, _%_, _^_, _≤_, _<_}
 use native.Mathlib.Omega.{arith}
 use native.Mathlib.Nat.{pow-suc, one-le-pow}
-use borrow.Author.Tests.{ne-eqb, lt-ltb, le-ltb, ltb-true, ltb-false}
+use borrow.Author.Tests.{ne-eqb, lt-ltb, le-ltb, ltb-true, ltb-false, lt-leb, le-leb, leb-true, leb-false}
 use lib.Count.{leadingZeros, leading-length}
-use lib.Dec.{eqb, ltb}
+use lib.Dec.{eqb, ltb, leb}
 use lib.ListN.{length, drop, set, length-append}
 use lib.Pow.{pow-add, pow-mono}
 use lib.Seq.{drop-drop}
@@ -27,7 +27,7 @@ use Rattle.layout.specs.Nodes.{numberKind, readingsKind, numberOfKey}
 use Rattle.table.specs.WellFormed.{keyRight}
 use Rattle.printing.specs.Printed.{digitsOnto, digits, decimals, unpackOnto, unpacked}
 use Rattle.printing.specs.Unpacking.{none-packed}
-use Rattle.writer.specs.Putting.{stoppedAt, Puts, wholeOnto, leafBytes, memberBytes, Unpacks, Counts}
+use Rattle.writer.specs.Putting.{stoppedAt, Puts, hasRoom, wholeOnto, leafBytes, memberBytes, Unpacks, Counts}
 
 -- nothing is written
 pub puts-none : (low at : ℕ) (out : List ℕ) → at ≤ stoppedAt → Puts low [] at out at out
@@ -124,6 +124,28 @@ module _ {low word at first rest : ℕ} {out out′ : List ℕ} (p : Unpacks low
 
   pub unpacks-end : rest ≡ 0 → Puts low (unpacked word) at out first out′
   unpacks-end e = rw (← p .same, e, none-packed (p .left) (p .done)) (p .puts)
+
+-- whether a whole word has room, by the code's three tests; and what it means
+pub room-few : (low at : ℕ) → at < nameBytes → false ≡ hasRoom low at
+room-few low at h = rw (lt-leb (low + nameBytes) at (omega arith))
+
+pub room-none : (low at : ℕ) → textBytes < at → false ≡ hasRoom low at
+room-none low at h = rw (lt-leb at textBytes h) (sym (and-none (leb (low + nameBytes) at)))
+  where
+    and-none : (b : Bool) → (b && false) ≡ false
+    and-none true = refl
+    and-none false = refl
+
+pub room-before : (low at : ℕ) → nameBytes ≤ at → at ≤ textBytes → leb low (at - nameBytes) ≡ hasRoom low at
+room-before low at h t =
+    split (leb low (at - nameBytes))
+    (λ e. let l = leb-true low (at - nameBytes) e in rw (e, le-leb (low + nameBytes) at (omega arith), le-leb at textBytes t))
+    (λ e. let l = leb-false low (at - nameBytes) e in rw (e, lt-leb (low + nameBytes) at (omega arith)))
+
+pub room-is : (low at : ℕ) (r : Bool) → r ≡ hasRoom low at → r ≡ true → (low + nameBytes ≤ at) × (at ≤ textBytes)
+room-is low at r e t =
+    let p = and-eq-true-iff (leb (low + nameBytes) at) (leb at textBytes) .0 (sym e ∙ t) in
+    (leb-true (low + nameBytes) at (p .0), leb-true at textBytes (p .1))
 
 -- all bytes of a packed word, with the zeros before them: one byte more, and the end
 pub whole-byte : (start left left′ rest b : ℕ) (out w : List ℕ) → suc left′ ≡ left → start + left ≤ length out → b ≡ rest % 256

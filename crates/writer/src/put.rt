@@ -17,7 +17,7 @@ ghost use Rattle.layout.specs.Held.{shaped};
 ghost use Rattle.layout.specs.Nodes.{memberOfKind, numberOfKey};
 ghost use Rattle.table.specs.WellFormed.{keyRight};
 ghost use Rattle.printing.specs.Printed.{digits, decimals, unpacked};
-ghost use Rattle.writer.specs.Putting.{stoppedAt, Puts, wholeOnto, leafBytes, memberBytes};
+ghost use Rattle.writer.specs.Putting.{stoppedAt, Puts, hasRoom, wholeOnto, leafBytes, memberBytes};
 
 // The room is used up.
 pub const STOPPED: usize = Text::BYTES + 1;
@@ -56,7 +56,7 @@ fn put_each(out: &mut [u8; Text::BYTES], low: usize, at: usize, word: u64) -> us
 
 // Eight bytes have room before a place.
 fn has_room(low: usize, at: usize) -> bool
-    ensures { λ r. ⌜ (r ≡ true → (low + nameBytes ≤ at) × (at ≤ textBytes)) ⌝ }
+    ensures { λ r. ⌜ r ≡ hasRoom low at ⌝ }
 {
     if at < Text::NAME_BYTES {
         return false;
