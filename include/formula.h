@@ -2,7 +2,7 @@
  * The formula engine: open, edit, preview and print, over memory that the caller lends. C99 or later, and C++.
  *
  * The engine has no memory of its own. All that it keeps between calls stands in a cache of four slices
- * (23,560 bytes); all else is on the stack during a call. It allocates nothing, keeps no pointer after a
+ * (24,584 bytes); all else is on the stack during a call. It allocates nothing, keeps no pointer after a
  * call, reads no clock and has no global variable.
  *
  *     static formula_cache cache;
@@ -47,16 +47,17 @@ extern "C" {
 /* The least lengths of the lent slices, in cells. Cells past them are neither read nor written. */
 #define FORMULA_READINGS_CELLS 1024
 #define FORMULA_HEADS_CELLS 2
-#define FORMULA_LINKS_CELLS 1536
+#define FORMULA_LINKS_CELLS 2048
 #define FORMULA_CELLS_CELLS 2048
 #define FORMULA_PLACES 128
 
-/* The cache in bytes: 4 x 1,024 + 4 x 2 + 2 x 1,536 + 8 x 2,048. */
-#define FORMULA_CACHE_BYTES 23560
+/* The cache in bytes: 4 x 1,024 + 4 x 2 + 2 x 2,048 + 8 x 2,048. */
+#define FORMULA_CACHE_BYTES 24584
 
 /*
  * Refusals. Where more than one applies: 1 to 4 by number; then, of 5 to 12, the one with the lowest byte
- * place, and at one place the lowest number; then 13 or 14; then 15; then 16.
+ * place, and at one place the lowest number; then 13 or 14; then 15; then 16. Number 11 is reserved: it never
+ * occurs, since an inner \ hides an outer one of its name.
  */
 enum formula_refusal {
     FORMULA_ACCEPTED = 0,
@@ -70,7 +71,7 @@ enum formula_refusal {
     FORMULA_REFUSAL_DATA_BOUND = 8,         /* edit: `data` as the name of a let or \ */
     FORMULA_REFUSAL_WRONG_CALL = 9,         /* edit: unknown member, or too few or too many arguments */
     FORMULA_REFUSAL_THIRD_LAMBDA = 10,      /* edit: third open \ */
-    FORMULA_REFUSAL_LAMBDA_REPEATED = 11,   /* edit: \ with the name of a \ around it */
+    FORMULA_REFUSAL_LAMBDA_REPEATED = 11,   /* never: it was a \ with the name of a \ around it */
     FORMULA_REFUSAL_TEXT_LIMIT = 12,        /* edit: 17th open mark or 129th part */
     FORMULA_REFUSAL_TABLE_FULL = 13,        /* edit: entries held plus new ones exceed 512 */
     FORMULA_REFUSAL_NO_SUCH_ENTRY = 14,     /* preview, print: the cache has no entry of this number */
@@ -80,13 +81,14 @@ enum formula_refusal {
 
 /*
  * What an entry shows. The number that div gives is the greatest whole one not above the quotient: -7.div(2) is
- * -4, where -7 / 2 is -3 in C.
+ * -4, where -7 / 2 is -3 in C. The two names of a delayed entry are equal where it awaits two variables of one
+ * spelling: in `\a -> let x = a in \a -> x.add(a)` the part x.add(a) awaits a and a.
  */
 enum formula_kind {
     FORMULA_KIND_NUMBER = 1,   /* first: the number */
     FORMULA_KIND_WINDOW = 2,   /* first: the start, counted in the recording; second: the length */
     FORMULA_KIND_FUNCTION = 3, /* name: the name of its variable */
-    FORMULA_KIND_DELAYED = 4,  /* name, other: the names that it awaits; 0 for none */
+    FORMULA_KIND_DELAYED = 4,  /* name, other: the names that it awaits, which may be equal; 0 for none */
     FORMULA_KIND_MISSING = 5   /* first: the reason */
 };
 
@@ -138,9 +140,10 @@ uint32_t formula_open(const int32_t *recording, size_t recording_length, int32_t
 /*
  * Reads a text and binds it. Each part (let, \, dot, name in use, number; in the order of these marks) gets
  * the number of its entry at its place. Equal parts have one entry, whichever text they stand in, so that
- * results are kept from edit to edit. Nothing is worked out.
+ * results are kept from edit to edit. A function written inside another is not equal to its twin outside of any:
+ * each has an entry of its own. Nothing is worked out.
  * Writes: places 0 to parts - 1, the first head, the links and cells of the new entries.
- * Refusals: 1, 3, 4, 5 to 12 with a byte place, 13.
+ * Refusals: 1, 3, 4, 5 to 10 and 12 with a byte place, 13.
  */
 formula_edit_answer formula_edit(const uint8_t *text, size_t text_length, uint16_t *places,
                                  size_t places_length, const int32_t *readings, size_t readings_length,
@@ -162,7 +165,8 @@ formula_preview_answer formula_preview(uint32_t entry, uint32_t allowance, const
 /*
  * Writes an entry in full, as a text: what its lets stand for is put in their place. The text has no blanks but one
  * on either side of `->`, no brackets that it can do without, and shortest decimals. An edit of it gives this very
- * entry again and adds none. Nothing is worked out.
+ * entry again and adds none: so a function that was written inside another is refused by itself, with 16. Nothing is
+ * worked out.
  * Writes: bytes 0 to length - 1, with no zero behind them. The bytes past them keep their contents.
  * Refusals: 3, 4, 14, 15, 16.
  */
@@ -203,7 +207,7 @@ FORMULA_ASSERT(cells_make_up_the_cache,
                        8 * FORMULA_CELLS_CELLS ==
                    FORMULA_CACHE_BYTES);
 FORMULA_ASSERT(every_reading_has_a_cell, FORMULA_READINGS_CELLS == FORMULA_RECORDING_READINGS);
-FORMULA_ASSERT(an_entry_has_three_links, FORMULA_LINKS_CELLS == 3 * FORMULA_TABLE_ENTRIES);
+FORMULA_ASSERT(an_entry_has_four_links, FORMULA_LINKS_CELLS == 4 * FORMULA_TABLE_ENTRIES);
 FORMULA_ASSERT(an_entry_has_four_cells, FORMULA_CELLS_CELLS == 4 * FORMULA_TABLE_ENTRIES);
 FORMULA_ASSERT(every_part_has_a_place, FORMULA_PLACES == FORMULA_TEXT_PARTS);
 
@@ -270,14 +274,22 @@ static inline void formula_nest_await(formula_nest *nest, uint16_t variable, uin
     }
 }
 
-/* Entry `at` depends on another. It awaits what that one does, but for a function's variable of its own name. */
+/* Whether entry `at` is the function of this variable: it has its name and its level. */
+static inline int formula_nest_binds(const formula_cache *cache, uint32_t at, uint16_t variable)
+{
+    uint32_t other = (uint32_t)variable - 1;
+    return cache->links[4 * at] == 4 && cache->cells[4 * at] == cache->cells[4 * other] &&
+           cache->links[4 * at + 3] == cache->links[4 * other + 3];
+}
+
+/* Entry `at` depends on another. It awaits what that one does, but for a function's own variable. */
 static inline void formula_nest_depend(const formula_cache *cache, uint32_t at, const formula_nest *below,
                                        formula_nest *nest)
 {
     unsigned slot;
     for (slot = 0; slot < 2 && below->awaited[slot] != 0; slot++) {
         uint16_t variable = below->awaited[slot];
-        if (cache->links[3 * at] == 4 && cache->cells[4 * at] == cache->cells[4 * (variable - 1)]) {
+        if (formula_nest_binds(cache, at, variable)) {
             nest->run = (uint8_t)(1 + below->within[slot]);
         } else {
             formula_nest_await(nest, variable, below->within[slot]);
@@ -289,13 +301,13 @@ static inline void formula_nest_depend(const formula_cache *cache, uint32_t at, 
 /* The nest of entry `at` if it runs a function (kinds 18 to 20) over what can be a window (3, 11, 12), or 0. */
 static inline uint8_t formula_nest_run(const formula_cache *cache, const formula_nest *nests, uint32_t at)
 {
-    const uint16_t *links = cache->links + 3 * at;
+    const uint16_t *links = cache->links + 4 * at;
     uint16_t receiver, argument;
     if (links[0] < 18 || links[0] > 20 || links[1] < 1 || links[1] > at || links[2] < 1 || links[2] > at) {
         return 0;
     }
-    receiver = cache->links[3 * (links[1] - 1)];
-    argument = cache->links[3 * (links[2] - 1)];
+    receiver = cache->links[4 * (links[1] - 1)];
+    argument = cache->links[4 * (links[2] - 1)];
     if ((receiver != 3 && receiver != 11 && receiver != 12) || argument != 4) {
         return 0;
     }
@@ -306,7 +318,7 @@ static inline uint8_t formula_nest_run(const formula_cache *cache, const formula
 static inline formula_nest formula_nest_at(const formula_cache *cache, const formula_nest *nests, uint32_t at)
 {
     /* The entry's kind, and one more than each dependency's number, which is lower; 0 for none. */
-    const uint16_t *links = cache->links + 3 * at;
+    const uint16_t *links = cache->links + 4 * at;
     formula_nest nest = {{0, 0}, {0, 0}, 1, 0};
     uint8_t run = formula_nest_run(cache, nests, at);
     unsigned link;

@@ -274,7 +274,7 @@ static const char *refusal_words(uint32_t refusal)
         "data can't be bound",
         "no such member, or a wrong number of arguments",
         "a third function within two others",
-        "the name of a function around this one",
+        "never given",
         "over 16 open marks or 128 parts",
         "the table of 512 entries is full",
         "no such entry",

@@ -13,7 +13,7 @@ use lib.Seq.{getD-set-same, getD-set-other}
 use Rattle.language.specs.Cases.{impossible, split}
 use Rattle.language.specs.Limits.{tableEntries, tableReadings}
 use Rattle.model.specs.Decoding.{decodeFrom}
-use Rattle.layout.specs.Links.{secondIndex, otherIndex, linksWith, cellsWith}
+use Rattle.layout.specs.Links.{levelIndex, otherIndex, linksWith, cellsWith}
 use Rattle.layout.specs.LinksLaws.{links-length, links-apart, links-here, cells-length, cells-apart, cells-kept, cells-key, cells-nothing}
 use Rattle.layout.specs.Memory.{Memory, Node, Entry, nothingKept, fits, entryCount, readingCount, nodeAt, entryAt, entriesFrom, entriesOf}
 use Rattle.layout.specs.Nodes.{kids}
@@ -36,7 +36,7 @@ newEntry n = record { node = n; kept = nothingKept }
 
 module _ (links cells : List ℕ) (k : ℕ) (n : Node) where
   abbrev links′ : List ℕ
-  links′ = linksWith links k (n .kind) (n .first) (n .second)
+  links′ = linksWith links k (n .kind) (n .first) (n .second) (n .level)
 
   abbrev cells′ : List ℕ
   cells′ = cellsWith cells k (n .key)
@@ -45,16 +45,16 @@ module _ (links cells : List ℕ) (k : ℕ) (n : Node) where
   entry-old : (i : ℕ) → i < k → entryAt links′ cells′ i ≡ entryAt links cells i
   entry-old i h =
       rw (
-        links-apart links k (n .kind) (n .first) (n .second) cells′ i (λ e. omega arith),
+        links-apart links k (n .kind) (n .first) (n .second) (n .level) cells′ i (λ e. omega arith),
         cells-apart cells k (n .key) links i (λ e. omega arith),
         cells-kept cells k (n .key) i (λ e. omega arith),
       )
 
   -- the new one is n, with nothing kept
-  entry-new : secondIndex k < length links → otherIndex k < length cells → entryAt links′ cells′ k ≡ newEntry n
+  entry-new : levelIndex k < length links → otherIndex k < length cells → entryAt links′ cells′ k ≡ newEntry n
   entry-new hl hc =
       rw (
-        links-here links k (n .kind) (n .first) (n .second) cells′ hl,
+        links-here links k (n .kind) (n .first) (n .second) (n .level) cells′ hl,
         cells-key cells k (n .key) hc,
         cells-nothing cells k (n .key) hc,
       )
@@ -69,14 +69,14 @@ module _ (links cells : List ℕ) (k : ℕ) (n : Node) where
   entries-last ls cs i zero = let q : i + 0 ≡ i = omega arith in rw q
   entries-last ls cs i (suc m) = let q : suc i + m ≡ i + suc m = omega arith in rw (entries-last ls cs (suc i) m, q)
 
-  entries-more : secondIndex k < length links → otherIndex k < length cells → entriesFrom links′ cells′ 0 (suc k) ≡ entriesFrom links cells 0 k ++ (newEntry n ∷ [])
+  entries-more : levelIndex k < length links → otherIndex k < length cells → entriesFrom links′ cells′ 0 (suc k) ≡ entriesFrom links cells 0 k ++ (newEntry n ∷ [])
   entries-more hl hc =
       let q : 0 + k ≡ k = omega arith in
       entries-last links′ cells′ 0 k ∙ rw (entries-old 0 k (omega arith), q, entry-new hl hc)
 
 append-as : (m : Memory) (n : Node) (j : ℕ)
     → entriesFrom (append m n .links) (append m n .cells) 0 j
-    ≡ entriesFrom (linksWith (m .links) (entryCount m) (n .kind) (n .first) (n .second)) (cellsWith (m .cells) (entryCount m) (n .key)) 0 j
+    ≡ entriesFrom (linksWith (m .links) (entryCount m) (n .kind) (n .first) (n .second) (n .level)) (cellsWith (m .cells) (entryCount m) (n .key)) 0 j
 unfolding append
 append-as m n j = refl
 
@@ -194,7 +194,7 @@ module _ (m : Memory) (n : Node) (f : fits m ≡ true) (w : Well m) (room : entr
   old = entriesFrom (m .links) (m .cells) 0 k
 
   abbrev ls : List ℕ
-  ls = linksWith (m .links) k (n .kind) (n .first) (n .second)
+  ls = linksWith (m .links) k (n .kind) (n .first) (n .second) (n .level)
 
   abbrev cs : List ℕ
   cs = cellsWith (m .cells) k (n .key)

@@ -6,7 +6,7 @@ use Prim.Native.Nat.{ℕ, _+_, _*_, _/_, _%_, _≤_, _<_}
 use lib.Dec.{ltb}
 use lib.ListN.{length, getD, take}
 use Rattle.language.specs.Limits.{textParts, tableEntries}
-use Rattle.layout.specs.Memory.{Node, nodeAt, node}
+use Rattle.layout.specs.Memory.{Node, nodeAt, nodeWith}
 use Rattle.table.specs.WellFormed.{distinct}
 use Rattle.table.specs.Bind.{Bound, bindOne, bindAll}
 use Rattle.layout.specs.Numbered.{numbered}
@@ -15,8 +15,8 @@ use Rattle.table.specs.Chain.{Chained, chainEntries}
 
 unfoldable pub recordAt : List ℕ → ℕ → Node
 recordAt records r =
-    node (getD records (2 * r) 0 % kindBase) (getD records (2 * r + 1) 0) (getD records (2 * r) 0 / kindBase % recordBase)
-    (getD records (2 * r) 0 / (kindBase * recordBase) % recordBase)
+    nodeWith (getD records (2 * r) 0 % kindBase) (getD records (2 * r + 1) 0) (getD records (2 * r) 0 / kindBase % recordBase)
+    (getD records (2 * r) 0 / (kindBase * recordBase) % recordBase) (getD records (2 * r) 0 / (kindBase * recordBase * recordBase) % recordBase)
 
 abbrev pub bound : List Node → List ℕ → Bound
 bound ns is = record { nodes = ns; numbers = is }

@@ -13,7 +13,7 @@ use lib.ListN.{length, getD, set, take, drop, length-set, List·getD-eq-default}
 use lib.Seq.{getD-set-same, getD-set-other, getD-take, take-suc-set, length-take-le, drop-at}
 use Rattle.language.specs.Limits.{textParts, tableEntries}
 use Rattle.layout.specs.Nodes.{sameNode}
-use Rattle.layout.specs.Memory.{Node, nodeAt, node}
+use Rattle.layout.specs.Memory.{Node, nodeAt, nodeWith}
 use Rattle.table.specs.WellFormed.{distinct}
 use Rattle.model.specs.Lists.{index}
 use Rattle.table.specs.Bind.{relinked, relink, Bound, bindOne, bindAll}
@@ -26,38 +26,44 @@ use Rattle.binder.specs.Records.{recordAt, bound, boundNow, Ready, Bound
 use Rattle.layout.specs.declared.nodes.Shape.{Shape}
 
 -- the words of a node that waits, taken apart again
-word-kind : (k f s : ℕ) → k < kindBase → f < entryBase → s < entryBase → wordOf k f s % kindBase ≡ k
-word-kind k f s hk hf hs = omega arith
+word-kind : (k f s l : ℕ) → k < kindBase → f < entryBase → s < entryBase → wordOf k f s l % kindBase ≡ k
+word-kind k f s l hk hf hs = omega arith
 
-word-first : (k f s : ℕ) → k < kindBase → f < entryBase → s < entryBase → wordOf k f s / kindBase % entryBase ≡ f
-word-first k f s hk hf hs = omega arith
+word-first : (k f s l : ℕ) → k < kindBase → f < entryBase → s < entryBase → wordOf k f s l / kindBase % entryBase ≡ f
+word-first k f s l hk hf hs = omega arith
 
-word-second : (k f s : ℕ) → k < kindBase → f < entryBase → s < entryBase → wordOf k f s / (kindBase * entryBase) % entryBase ≡ s
-word-second k f s hk hf hs = omega arith
+word-second : (k f s l : ℕ) → k < kindBase → f < entryBase → s < entryBase → wordOf k f s l / (kindBase * entryBase) % entryBase ≡ s
+word-second k f s l hk hf hs = omega arith
+
+word-level : (k f s l : ℕ) → k < kindBase → f < entryBase → s < entryBase → l < entryBase
+    → wordOf k f s l / (kindBase * entryBase * entryBase) % entryBase ≡ l
+word-level k f s l hk hf hs hl = omega arith
 
 -- nodes that wait
 module _ (fresh : List ℕ) (i : ℕ) (n : Node) where
-  pub fresh-same : n .kind < kindBase → n .first < entryBase → n .second < entryBase → 2 * i + 1 < length fresh → freshAt (withFresh fresh i n) i ≡ n
+  pub fresh-same : n .kind < kindBase → n .first < entryBase → n .second < entryBase → n .level < entryBase → 2 * i + 1 < length fresh
+      → freshAt (withFresh fresh i n) i ≡ n
   unfolding freshAt withFresh
-  fresh-same hk hf hs l =
-      let y = length-set fresh (2 * i) (wordOf (n .kind) (n .first) (n .second)) in
+  fresh-same hk hf hs hl l =
+      let y = length-set fresh (2 * i) (wordOf (n .kind) (n .first) (n .second) (n .level)) in
       rw (
-        getD-set-other (set fresh (2 * i) (wordOf (n .kind) (n .first) (n .second))) (2 * i + 1) (2 * i) (n .key) 0 (λ e. omega arith),
-        getD-set-same (set fresh (2 * i) (wordOf (n .kind) (n .first) (n .second))) (2 * i + 1) (n .key) 0 (omega arith),
-        getD-set-same fresh (2 * i) (wordOf (n .kind) (n .first) (n .second)) 0 (omega arith),
-        word-kind (n .kind) (n .first) (n .second) hk hf hs,
-        word-first (n .kind) (n .first) (n .second) hk hf hs,
-        word-second (n .kind) (n .first) (n .second) hk hf hs,
+        getD-set-other (set fresh (2 * i) (wordOf (n .kind) (n .first) (n .second) (n .level))) (2 * i + 1) (2 * i) (n .key) 0 (λ e. omega arith),
+        getD-set-same (set fresh (2 * i) (wordOf (n .kind) (n .first) (n .second) (n .level))) (2 * i + 1) (n .key) 0 (omega arith),
+        getD-set-same fresh (2 * i) (wordOf (n .kind) (n .first) (n .second) (n .level)) 0 (omega arith),
+        word-kind (n .kind) (n .first) (n .second) (n .level) hk hf hs,
+        word-first (n .kind) (n .first) (n .second) (n .level) hk hf hs,
+        word-second (n .kind) (n .first) (n .second) (n .level) hk hf hs,
+        word-level (n .kind) (n .first) (n .second) (n .level) hk hf hs hl,
       )
 
   pub fresh-other : (j : ℕ) → (j ≡ i → ⊥) → freshAt (withFresh fresh i n) j ≡ freshAt fresh j
   unfolding freshAt withFresh
   fresh-other j u =
       rw (
-        getD-set-other (set fresh (2 * i) (wordOf (n .kind) (n .first) (n .second))) (2 * i + 1) (2 * j) (n .key) 0 (λ e. u (omega arith)),
-        getD-set-other (set fresh (2 * i) (wordOf (n .kind) (n .first) (n .second))) (2 * i + 1) (2 * j + 1) (n .key) 0 (λ e. u (omega arith)),
-        getD-set-other fresh (2 * i) (2 * j) (wordOf (n .kind) (n .first) (n .second)) 0 (λ e. u (omega arith)),
-        getD-set-other fresh (2 * i) (2 * j + 1) (wordOf (n .kind) (n .first) (n .second)) 0 (λ e. u (omega arith)),
+        getD-set-other (set fresh (2 * i) (wordOf (n .kind) (n .first) (n .second) (n .level))) (2 * i + 1) (2 * j) (n .key) 0 (λ e. u (omega arith)),
+        getD-set-other (set fresh (2 * i) (wordOf (n .kind) (n .first) (n .second) (n .level))) (2 * i + 1) (2 * j + 1) (n .key) 0 (λ e. u (omega arith)),
+        getD-set-other fresh (2 * i) (2 * j) (wordOf (n .kind) (n .first) (n .second) (n .level)) 0 (λ e. u (omega arith)),
+        getD-set-other fresh (2 * i) (2 * j + 1) (wordOf (n .kind) (n .first) (n .second) (n .level)) 0 (λ e. u (omega arith)),
       )
 
 pub fresh-size : (fresh : List ℕ) (i : ℕ) (n : Node) → length (withFresh fresh i n) ≡ length fresh
@@ -98,13 +104,14 @@ module _ (numbers : List ℕ) (r link : ℕ) where
       let g = List·getD-eq-default (take r numbers) 0 {n = link - 1} (omega arith) in
       sym (relinked-at (link - 1) z ∙ omega arith)
 
-pub record-is : (records : List ℕ) (r word kind key first second : ℕ) → kind ≡ word % kindBase → key ≡ getD records (2 * r + 1) 0 → first ≡ word / kindBase % recordBase
-    → second ≡ word / (kindBase * recordBase) % recordBase → word ≡ getD records (2 * r) 0 → node kind key first second ≡ recordAt records r
+pub record-is : (records : List ℕ) (r word kind key first second level : ℕ) → kind ≡ word % kindBase → key ≡ getD records (2 * r + 1) 0 → first ≡ word / kindBase % recordBase
+    → second ≡ word / (kindBase * recordBase) % recordBase → level ≡ word / (kindBase * recordBase * recordBase) % recordBase → word ≡ getD records (2 * r) 0
+    → nodeWith kind key first second level ≡ recordAt records r
 unfolding recordAt
-record-is records r word kind key first second k y f s w = rw (k, y, f, s, w)
+record-is records r word kind key first second level k y f s l w = rw (k, y, f, s, l, w)
 
 pub relink-is : (numbers : List ℕ) (r : ℕ) (n : Node) (x : Shape) (first second : ℕ) → first ≡ relinked (take r numbers) (x .first) → second ≡ relinked (take r numbers) (x .second)
-    → shaped x ≡ n → node (x .kind) (x .key) first second ≡ relink (take r numbers) n
+    → shaped x ≡ n → nodeWith (x .kind) (x .key) first second (x .level) ≡ relink (take r numbers) n
 unfolding relink
 relink-is numbers r n x first second p q e = rw (← e, p, q)
 
@@ -183,6 +190,10 @@ module _ (links cells : List ℕ) (count total : ℕ) (records : List ℕ) (r : 
   unfolding relink
   second-low = rw qm (relinked-low numbers r (recordAt records r .second) (ready .known) (omega arith) (ready .places))
 
+  level-low : m .level < entryBase
+  unfolding relink recordAt
+  level-low = rw qm (omega arith)
+
   pub bound-new : (h : ℕ) (fresh′ chain′ : List ℕ) → c ≤ 0 → h ≡ hashOf m → fresh′ ≡ withFresh fresh (total - count) m → chain′ ≡ linked chain h total
       → BoundOne links cells count total records r numbers fresh (total + 1) (set numbers r total) fresh′ chain′
   bound-new h fresh′ chain′ z qh qf qg =
@@ -191,7 +202,7 @@ module _ (links cells : List ℕ) (count total : ℕ) (records : List ℕ) (r : 
       let d = ready .few in
       let y = ready .room in
       let last : heldAt links cells count fresh′ total ≡ m =
-      held-back links cells count fresh′ total a ∙ ap (λ (f : List ℕ). freshAt f (total - count)) qf ∙ fresh-same fresh (total - count) m kind-low first-low second-low (omega arith) in
+      held-back links cells count fresh′ total a ∙ ap (λ (f : List ℕ). freshAt f (total - count)) qf ∙ fresh-same fresh (total - count) m kind-low first-low second-low level-low (omega arith) in
       let old : (j : ℕ) → j < total → ν j ≡ heldAt links cells count fresh′ j =
       λ j l. held-same links cells count fresh total m j a l ∙ ap (λ (f : List ℕ). heldAt links cells count f j) (sym qf) in
       let more : numbered (heldAt links cells count fresh′) 0 (total + 1) ≡ ns ++ (m ∷ []) =

@@ -22,7 +22,7 @@ use Rattle.table.specs.ChainLaws.{numbered-zero}
 use Rattle.binder.specs.Written.{Whole, placed}
 
 pub append-is : (heads links cells heads′ links′ cells′ : List ℕ) (k : ℕ) (n : Node) → k ≡ getD heads 0 0
-    → links′ ≡ linksWith links k (n .kind) (n .first) (n .second) → cells′ ≡ cellsWith cells k (n .key)
+    → links′ ≡ linksWith links k (n .kind) (n .first) (n .second) (n .level) → cells′ ≡ cellsWith cells k (n .key)
     → heads′ ≡ set heads 0 (k + 1) → (readings : List ℤ) → memory readings heads′ links′ cells′ ≡ append (memory readings heads links cells) n
 unfolding append
 append-is heads links cells heads′ links′ cells′ k n q p c h readings = rw (h, p, c, q, add-one (getD heads 0 0))

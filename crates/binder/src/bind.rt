@@ -1,10 +1,11 @@
 // 01, "Binding": a text's records are bound to entries one by one, found or appended, in the call's own frame. No lent cell is written.
-// A record is two words: its kind and its links to earlier records, each 0 or one more than the record's number; and its key.
+// A record is two words: its kind, its links to earlier records, each 0 or one more than the record's number, and its level; and its key.
 use language::limits::Table;
 use language::limits::Text;
 use layout::cells::at64;
 use layout::nodes::KIND_BASE;
 use layout::nodes::RECORD_BASE;
+use layout::nodes::RECORD_LEVEL;
 use layout::nodes::RECORD_WEIGHT;
 use layout::nodes::Shape;
 use layout::nodes::TEXT_WORDS;
@@ -38,6 +39,7 @@ fn record_at(records: &[u64], r: u16) -> Shape
         key: at64(records, 2 * at + 1),
         first: (word / KIND_BASE % RECORD_BASE) as u16,
         second: (word / RECORD_WEIGHT % RECORD_BASE) as u16,
+        level: (word / RECORD_LEVEL % RECORD_BASE) as u16,
     }
 }
 
@@ -68,6 +70,7 @@ fn relink(records: &[u64; TEXT_WORDS], numbers: &[u16; Text::PARTS], r: u16) -> 
         key: x.key,
         first: relinked(numbers, r, x.first),
         second: relinked(numbers, r, x.second),
+        level: x.level,
     }
 }
 

@@ -28,7 +28,7 @@ pub fn append(heads: &mut [u32], links: &mut [u16], cells: &mut [u64], x: Shape)
         ≡ append (memory readings (now (heads .entry)) (now (links .entry)) (now (cells .entry))) (shaped x)) ⌝ }
 {
     let count = at32(heads, 0);
-    put_links(links, count as usize, x.kind, x.first, x.second);
+    put_links(links, count as usize, x.kind, x.first, x.second, x.level);
     put_cells(cells, count as usize, x.key);
     heads[0] = count + 1;
 }

@@ -14,7 +14,7 @@ use Rattle.grammar.specs.Theorems.{text-read-plainly, text-refused}
 use Rattle.grammar.specs.Words.{text-worded}
 use Rattle.meaning.specs.Forms.{Form, number}
 use Rattle.meaning.specs.FormsLaws.{same-eq, same-self, within-self, within-only, within-trans, dependency-within}
-use Rattle.meaning.specs.Binding.{Meaning, asLambda, named, formE, called, placesE, placesC, placesA, placesM, orderE, orderC, orderA, orderM, formOf, formsByPlace, formsInOrder}
+use Rattle.meaning.specs.Binding.{Meaning, asLet, asLambda, named, formE, called, placesE, placesC, placesA, placesM, orderE, orderC, orderA, orderM, formOf, formsByPlace, formsInOrder}
 use Rattle.model.specs.Language.{rejected, parts}
 use Rattle.model.specs.Laws.{Tests, Readable, Rejected, Laws}
 use Rattle.formulas.specs.Formulas.{formulas, parsed}
@@ -27,7 +27,7 @@ mutual
   unfolding placesE partsE
 
   placesE-length : (e : Expression) (Γ : List Meaning) (u : List Form) → length (placesE e Γ u) ≡ partsE e + length u
-  placesE-length (letIn x a b) Γ u = let p = placesE-length a Γ (placesE b ((x, formE a Γ) ∷ Γ) u) in let q = placesE-length b ((x, formE a Γ) ∷ Γ) u in omega arith
+  placesE-length (letIn x a b) Γ u = let p = placesE-length a Γ (placesE b (asLet x (formE a Γ) Γ) u) in let q = placesE-length b (asLet x (formE a Γ) Γ) u in omega arith
   placesE-length (lambda x b) Γ u = let q = placesE-length b (asLambda x Γ) u in omega arith
   placesE-length (name x r) Γ u = let q = placesC-length r (named x Γ) Γ u in omega arith
   placesE-length (literal z r) Γ u = let q = placesC-length r (number z) Γ u in omega arith
@@ -52,7 +52,7 @@ mutual
   unfolding orderE partsE
 
   orderE-length : (e : Expression) (Γ : List Meaning) (u : List Form) → length (orderE e Γ u) ≤ partsE e + length u
-  orderE-length (letIn x a b) Γ u = let p = orderE-length a Γ (orderE b ((x, formE a Γ) ∷ Γ) u) in let q = orderE-length b ((x, formE a Γ) ∷ Γ) u in omega arith
+  orderE-length (letIn x a b) Γ u = let p = orderE-length a Γ (orderE b (asLet x (formE a Γ) Γ) u) in let q = orderE-length b (asLet x (formE a Γ) Γ) u in omega arith
   orderE-length (lambda x b) Γ u = let q = orderE-length b (asLambda x Γ) (formE (lambda x b) Γ ∷ u) in omega arith
   orderE-length (name x r) Γ u = let q = orderC-length r (named x Γ) Γ u in omega arith
   orderE-length (literal z r) Γ u = let q = orderC-length r (number z) Γ u in omega arith

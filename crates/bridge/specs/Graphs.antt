@@ -1,9 +1,10 @@
 -- The table's nodes as the model's graph: a node with its dependencies' forms builds its form, and equal forms have equal nodes.
 -- Assumes nothing.
 use mathlib.Core.Path.{_≡_, refl, sym, ap, _∙_, subst}
-use mathlib.Core.Bool.{Bool, true, false, and-eq-true-iff, cond}
+use mathlib.Core.Bool.{Bool, true, false, cond}
 use mathlib.Core.List.{List, [], _∷_}
-use Prim.Native.Nat.{ℕ, zero, suc, _-_}
+use Prim.Native.Nat.{ℕ, zero, suc, _-_, _<_}
+use native.Mathlib.Omega.{arith}
 use borrow.Author.Tests.{eqb-true, eq-eqb}
 use lib.Dec.{eqb}
 use lib.IntN.{pos, natAbs, -ℤ-+ℤ-cancel}
@@ -12,49 +13,34 @@ use Rattle.members.specs.declared.Member.{Member}
 use Rattle.members.specs.declared.Found.{Found}
 use Rattle.members.specs.declared.Found.the-variants.{Is, Unknown}
 use Rattle.language.specs.Cases.{impossible, split, either, or-right}
-use Rattle.meaning.specs.Forms.{Form, number, variable, unbound, readings, ask, call, function, same, dependency, firstOf, secondOf}
+use Rattle.meaning.specs.Forms.{Form, withLevel, nameIn, levelIn, number, variable, unbound, readings, ask, call, function, same, dependency, firstOf, secondOf}
 use Rattle.meaning.specs.FormsLaws.{same-eq, same-self}
 use Rattle.model.specs.Lists.{member}
 use Rattle.model.specs.ListLaws.{Equality}
 use Rattle.model.specs.Graph.{among, Graph, GraphLaws}
-use Rattle.layout.specs.Memory.{Node, node}
+use Rattle.layout.specs.Memory.{Node, nodeWith, node}
 use Rattle.records.specs.Records.{numberKey}
 use Rattle.layout.specs.Nodes.{numberKind, variableKind, unboundKind, readingsKind, functionKind, memberKind}
-use Rattle.layout.specs.Nodes.{memberOfKind, memberArity, memberForm, arity, listed, kids, sameNode, numberOfKey, build}
+use Rattle.layout.specs.Nodes.{memberOfKind, memberArity, memberForm, arity, listed, kids, sameNode, numberOfKey, variableIn, build}
+use Rattle.table.specs.ChainLaws.{same-equal, same-self as same-node}
 use Rattle.table.specs.NodeKinds.{Fine, aNumber, aVariable, anUnbound, theReadings, aFunction, anAsk, aCall, less-one, member-arity, nodeForm, build-fine}
 use Rattle.formulas.specs.Formulas.{formulas}
 
 abbrev pub nodes : Graph formulas
 nodes = record { Node = Node; Fine = Fine; same = sameNode; links = kids; build = build; nowhere = readings }
 
--- the test of nodes is equality
-node-equal : (a b : Node) → sameNode a b ≡ true → a ≡ b
-unfolding sameNode
-node-equal a b h =
-    let k = eqb-true (a .kind) (b .kind) (and-eq-true-iff _ _ .0 h .0) in
-    let r = and-eq-true-iff (eqb (a .kind) (b .kind)) _ .0 h .1 in
-    let y = eqb-true (a .key) (b .key) (and-eq-true-iff _ _ .0 r .0) in
-    let q = and-eq-true-iff (eqb (a .key) (b .key)) _ .0 r .1 in
-    let f = eqb-true (a .first) (b .first) (and-eq-true-iff _ _ .0 q .0) in
-    let s = eqb-true (a .second) (b .second) (and-eq-true-iff (eqb (a .first) (b .first)) _ .0 q .1) in
-    λ i. record { kind = k i; key = y i; first = f i; second = s i }
-
-node-self : (a : Node) → sameNode a a ≡ true
-unfolding sameNode
-node-self a = rw (eq-eqb (a .kind) (a .kind) refl, eq-eqb (a .key) (a .key) refl, eq-eqb (a .first) (a .first) refl, eq-eqb (a .second) (a .second) refl)
-
 pub equality : Equality sameNode
-equality = record { equal = node-equal; self = node-self }
+equality = record { equal = same-equal; self = same-node }
 
 -- the node of a form, from the numbers of its dependencies
 unfoldable pub nodeOf : Form → ℕ → ℕ → Node
 nodeOf (number z) i j = node numberKind (numberKey z) 0 0
-nodeOf (variable x) i j = node variableKind x 0 0
+nodeOf (variable v) i j = nodeWith variableKind (nameIn v) 0 0 (levelIn v)
 nodeOf (unbound x) i j = node unboundKind x 0 0
 nodeOf readings i j = node readingsKind 0 0 0
 nodeOf (ask m f) i j = node (memberKind m) 0 (suc i) 0
 nodeOf (call m f a) i j = node (memberKind m) 0 (suc i) (suc j)
-nodeOf (function x b) i j = node functionKind x (suc i) 0
+nodeOf (function v b) i j = nodeWith functionKind (nameIn v) (suc i) 0 (levelIn v)
 
 -- the form has a first dependency, and a second
 abbrev HasFirst : Form → Type 0
@@ -84,9 +70,9 @@ record Known (n : Node) (φ : ℕ → Form) (f : Form) : Type 0 where
   second : HasSecond f → (among right (kids n) ≡ true) × (φ right ≡ secondOf f)
 
 -- the dependencies of each kind
-pub kids-function : (x b : ℕ) → kids (node functionKind x (suc b) 0) ≡ b ∷ []
+pub kids-function : (x b k : ℕ) → kids (nodeWith functionKind x (suc b) 0 k) ≡ b ∷ []
 unfolding kids arity
-kids-function x b = rw (less-one b)
+kids-function x b k = rw (less-one b)
 
 pub kids-ask : (m : Member) (f : ℕ) → arguments m ≡ 0 → kids (node (memberKind m) 0 (suc f) 0) ≡ f ∷ []
 unfolding kids
@@ -107,13 +93,26 @@ among-second i j = split (eqb i j) (λ e. rw e) (λ e. rw (e, eq-eqb j j refl))
 pub number-key : (key : ℕ) → numberKey (numberOfKey key) ≡ key
 number-key key = ap natAbs (-ℤ-+ℤ-cancel (pos key) (pos 2147483648))
 
+-- a variable's name and level
+name-back : (x k : ℕ) → k < 2 → nameIn (withLevel x k) ≡ x
+name-back x k h = omega arith
+
+level-back : (x k : ℕ) → k < 2 → levelIn (withLevel x k) ≡ k
+level-back x k h = omega arith
+
 known : {n : Node} (φ : ℕ → Form) (k : Fine n) → Known n φ (nodeForm k φ)
 unfolding nodeOf firstOf secondOf
 known φ (aNumber key) = record { left = 0; right = 0; made = ap (λ (k : ℕ). node numberKind k 0 0) (sym (number-key key)); first = absurd; second = absurd }
-known φ (aVariable x) = record { left = 0; right = 0; made = refl; first = absurd; second = absurd }
+known φ (aVariable x k low) =
+    let p = name-back x k low in
+    let q = level-back x k low in
+    record { left = 0; right = 0; made = rw (p, q); first = absurd; second = absurd }
 known φ (anUnbound x) = record { left = 0; right = 0; made = refl; first = absurd; second = absurd }
 known φ theReadings = record { left = 0; right = 0; made = refl; first = absurd; second = absurd }
-known φ (aFunction x b) = record { left = b; right = 0; made = refl; first = λ u. (rw (kids-function x b) (among-first b []), refl); second = absurd }
+known φ (aFunction x b k low) =
+    let p = name-back x k low in
+    let q = level-back x k low in
+    record { left = b; right = 0; made = rw (p, q); first = λ u. (rw (kids-function x b k) (among-first b []), refl); second = absurd }
 known φ (anAsk m f e) = record { left = f; right = 0; made = refl; first = λ u. (rw (kids-ask m f e) (among-first f []), refl); second = absurd }
 known φ (aCall m f a e) =
     record {
@@ -173,10 +172,10 @@ among-two j k l h p q = split (eqb k j) (λ e. p (eqb-true k j e)) (λ e. q (amo
 only-of : {n : Node} (φ : ℕ → Form) (j : ℕ) (k : Fine n) → among j (kids n) ≡ true → dependency (φ j) (nodeForm k φ) ≡ true
 unfolding dependency member kids arity memberOfKind
 only-of φ j (aNumber key) h = impossible h
-only-of φ j (aVariable x) h = impossible h
+only-of φ j (aVariable x k _) h = impossible h
 only-of φ j (anUnbound x) h = impossible h
 only-of φ j theReadings h = impossible h
-only-of φ j (aFunction x b) h = rw (among-one j b (subst (λ (l : List ℕ). among j l ≡ true) (kids-function x b) h)) (same-self (φ j))
+only-of φ j (aFunction x b k _) h = rw (among-one j b (subst (λ (l : List ℕ). among j l ≡ true) (kids-function x b k) h)) (same-self (φ j))
 only-of φ j (anAsk m f e) h = rw (among-one j f (subst (λ (l : List ℕ). among j l ≡ true) (kids-ask m f e) h)) (same-self (φ j))
 only-of φ j (aCall m f a e) h =
     among-two j f a (subst (λ (l : List ℕ). among j l ≡ true) (kids-call m f a e) h)
@@ -197,15 +196,15 @@ agree-member (Is m) n φ ψ h = by (arguments m) refl
         rw (a, b)
 
 agree-works : (n : Node) (φ ψ : ℕ → Form) → ((j : ℕ) → among j (kids n) ≡ true → φ j ≡ ψ j)
-    → cond (eqb (n .kind) functionKind) (function (n .key) (φ (n .first - 1))) (memberForm (memberOfKind (n .kind)) (φ (n .first - 1)) (φ (n .second - 1)))
-    ≡ cond (eqb (n .kind) functionKind) (function (n .key) (ψ (n .first - 1))) (memberForm (memberOfKind (n .kind)) (ψ (n .first - 1)) (ψ (n .second - 1)))
+    → cond (eqb (n .kind) functionKind) (function (variableIn n) (φ (n .first - 1))) (memberForm (memberOfKind (n .kind)) (φ (n .first - 1)) (φ (n .second - 1)))
+    ≡ cond (eqb (n .kind) functionKind) (function (variableIn n) (ψ (n .first - 1))) (memberForm (memberOfKind (n .kind)) (ψ (n .first - 1)) (ψ (n .second - 1)))
 unfolding kids arity
 agree-works n φ ψ h = by (eqb (n .kind) functionKind) refl
   where
     by : (b : Bool) → eqb (n .kind) functionKind ≡ b
-        → cond b (function (n .key) (φ (n .first - 1))) (memberForm (memberOfKind (n .kind)) (φ (n .first - 1)) (φ (n .second - 1)))
-        ≡ cond b (function (n .key) (ψ (n .first - 1))) (memberForm (memberOfKind (n .kind)) (ψ (n .first - 1)) (ψ (n .second - 1)))
-    by true e = ap (function (n .key)) (h (n .first - 1) (rw e (among-first (n .first - 1) [])))
+        → cond b (function (variableIn n) (φ (n .first - 1))) (memberForm (memberOfKind (n .kind)) (φ (n .first - 1)) (φ (n .second - 1)))
+        ≡ cond b (function (variableIn n) (ψ (n .first - 1))) (memberForm (memberOfKind (n .kind)) (ψ (n .first - 1)) (ψ (n .second - 1)))
+    by true e = ap (function (variableIn n)) (h (n .first - 1) (rw e (among-first (n .first - 1) [])))
     by false e = agree-member (memberOfKind (n .kind)) n φ ψ (λ j a. h j (rw e a))
 
 agree-of : (n : Node) (φ ψ : ℕ → Form) → ((j : ℕ) → among j (kids n) ≡ true → φ j ≡ ψ j) → build n φ ≡ build n ψ
@@ -213,7 +212,7 @@ unfolding build
 agree-of n φ ψ h =
     λ i.
     cond (eqb (n .kind) numberKind) (number (numberOfKey (n .key)))
-    (cond (eqb (n .kind) variableKind) (variable (n .key))
+    (cond (eqb (n .kind) variableKind) (variable (variableIn n))
     (cond (eqb (n .kind) unboundKind) (unbound (n .key))
     (cond (eqb (n .kind) readingsKind) readings (agree-works n φ ψ h i))))
 

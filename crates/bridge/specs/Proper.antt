@@ -1,5 +1,5 @@
 -- What holds of every form of a text that is read: its names are names, its number is within signed 32 bits, its member has the arguments that
--- it takes, and it awaits at most two names. Assumes nothing.
+-- it takes, and it awaits at most two variables. Assumes nothing.
 use mathlib.Core.Path.{_≡_, refl, sym, _∙_}
 use mathlib.Core.Bool.{true, false}
 use mathlib.Core.List.{List, [], _∷_, _++_}
@@ -11,18 +11,18 @@ use lib.ListN.{length}
 use Rattle.members.specs.Members.{arguments}
 use Rattle.language.specs.Cases.{impossible, split, or-right}
 use Rattle.grammar.specs.KeptLimits.{InRange}
-use Rattle.meaning.specs.Forms.{Form, number, variable, unbound, readings, ask, call, function}
+use Rattle.meaning.specs.Forms.{Form, nameIn, number, variable, unbound, readings, ask, call, function}
 use Rattle.meaning.specs.Evaluation.{hasName, joined, without, awaited}
 use Rattle.layout.specs.Nodes.{isName}
 
 abbrev pub Shape : Form → Type 0
 Shape (number z) = InRange z
-Shape (variable x) = isName x ≡ true
+Shape (variable v) = isName (nameIn v) ≡ true
 Shape (unbound x) = isName x ≡ true
 Shape readings = Unit {0}
 Shape (ask m f) = arguments m ≡ 0
 Shape (call m f a) = arguments m ≡ 1
-Shape (function x b) = isName x ≡ true
+Shape (function v b) = isName (nameIn v) ≡ true
 
 pub record Proper (f : Form) : Type 0 where
   pub shape : Shape f

@@ -20,8 +20,8 @@ use Rattle.grammar.specs.KeptLimits.{EverywhereM, KeepsLimits, InRange, NotData
 use Rattle.grammar.specs.SingleLimits.{FewLambdas, ShortNames, DataUnbound, SmallNumbers, RightCalls}
 use Rattle.grammar.specs.KeptLimitsLaws.{keeps-each, weave-E, Both, both}
 use Rattle.grammar.specs.Words.{Worded}
-use Rattle.meaning.specs.Forms.{Form, number, variable, unbound, readings, ask, function}
-use Rattle.meaning.specs.Binding.{Meaning, lookUp, named, asLambda, member, formE, formC, formA, formM, called, orderE, orderC, orderA, orderM, formsInOrder}
+use Rattle.meaning.specs.Forms.{Form, nameIn, number, variable, unbound, readings, ask, function}
+use Rattle.meaning.specs.Binding.{Meaning, lambdas, lookUp, named, asLet, variableOf, asLambda, member, formE, formC, formA, formM, called, orderE, orderC, orderA, orderM, formsInOrder}
 use Rattle.meaning.specs.Evaluation.{hasName, awaited}
 use Rattle.model.specs.Lists.{All}
 use Rattle.layout.specs.Nodes.{isName}
@@ -32,7 +32,7 @@ use Rattle.bridge.specs.Proper.{Shape, Proper, Has, nodup-awaited, has-j
 -- what is known at each site of a tree that a text is read to
 abbrev Known : Site → Around → Type 0
 Known (aLet x) d = Unit {0}
-Known (aLambda x) d = (isName (packed x) ≡ true) × (length (d .lambdas) < openLambdas)
+Known (aLambda x) d = (isName (packed x) ≡ true) × (d .lambdas < openLambdas)
 Known aBracket d = Unit {0}
 Known (aName x) d = isData x ≡ false → isName (packed x) ≡ true
 Known (aNumber z) d = InRange z
@@ -60,17 +60,7 @@ known e h w =
     (both e DataUnbound SmallNumbers (k .dataFree) (k .numbers)))
     (both e RightCalls Worded (k .members) w)
 
--- the names of the lambdas around
-unfoldable lambdaNames : List (List ℕ) → List ℕ
-lambdaNames [] = []
-lambdaNames (x ∷ bs) = packed x ∷ lambdaNames bs
-
-names-length : (bs : List (List ℕ)) → length (lambdaNames bs) ≡ length bs
-unfolding lambdaNames
-names-length [] = refl
-names-length (x ∷ bs) = ap suc (names-length bs)
-
--- a proper form whose awaited names are among the lambdas'
+-- a proper form whose awaited variables are among ns
 record Good (f : Form) (ns : List ℕ) : Type 0 where
   proper : Proper f
   within : (y : ℕ) → Has y (awaited f) → Has y ns
@@ -117,11 +107,11 @@ good-call : (m : List ℕ) (f a : Form) (ns : List ℕ) → length ns ≤ 2 → 
 unfolding awaited
 good-call m f a ns l e g h = good (Form.call (member m) f a) ns l e (λ y i. has-joined y (awaited f) (awaited a) ns (g .within) (h .within) i)
 
-good-variable : (x : ℕ) (ns : List ℕ) → length ns ≤ 2 → isName x ≡ true → Has x ns → Good (variable x) ns
+good-variable : (x : ℕ) (ns : List ℕ) → length ns ≤ 2 → isName (nameIn x) ≡ true → Has x ns → Good (variable x) ns
 unfolding awaited hasName
 good-variable x ns l n i = good (variable x) ns l n (λ y h. split (eqb y x) (λ e. rw (eqb-true y x e) i) (λ e. impossible (rw e at h)))
 
-good-function : (x : ℕ) (b : Form) (ns : List ℕ) → length ns ≤ 2 → isName x ≡ true → Good b (x ∷ ns) → Good (function x b) ns
+good-function : (x : ℕ) (b : Form) (ns : List ℕ) → length ns ≤ 2 → isName (nameIn x) ≡ true → Good b (x ∷ ns) → Good (function x b) ns
 unfolding awaited hasName
 good-function x b ns l n g =
     good (function x b) ns l n
@@ -138,63 +128,70 @@ one-argument : (x : More) (k : ℕ) → k ≤ 1 → k ≡ givenA (first (name []
 unfolding givenA
 one-argument x k h e = omega arith
 
--- the forms in order, each proper; ns are the names of the lambdas around
+-- the forms in order, each proper; ns are the variables of the lambdas around
+-- as many variables as there are lambdas around, and at most two
+abbrev Sized : List ℕ → List Meaning → Around → Type 0
+Sized ns Γ d = (length ns ≡ d .lambdas) × (d .lambdas ≡ lambdas Γ) × (length ns ≤ 2)
+
 mutual
-  unfolding orderE formE called lambdaNames opened inLambda givenA givenM
+  unfolding orderE formE called lambdas opened inLambda givenA givenM
 
-  goodE : (e : Expression) (d : Around) (Γ : List Meaning) → EverywhereE Known e d → length (lambdaNames (d .lambdas)) ≤ 2 → GoodAll Γ (lambdaNames (d .lambdas))
-      → (u : List Form) → All Proper u → Good (formE e Γ) (lambdaNames (d .lambdas)) × All Proper (orderE e Γ u)
-  goodE (letIn x a b) d Γ k l g u p =
-      let gb = goodE b (opened d) ((x, formE a Γ) ∷ Γ) (k .2) l (goodE a (opened d) Γ (k .1) l g [] tt .0, g) u p in
-      (gb .0, goodE a (opened d) Γ (k .1) l g (orderE b ((x, formE a Γ) ∷ Γ) u) (gb .1) .1)
-  goodE (lambda x b) d Γ k l g u p =
-      let n = names-length (d .lambdas) in
+  goodE : (e : Expression) (d : Around) (ns : List ℕ) (Γ : List Meaning) → EverywhereE Known e d → Sized ns Γ d → GoodAll Γ ns
+      → (u : List Form) → All Proper u → Good (formE e Γ) ns × All Proper (orderE e Γ u)
+  goodE (letIn x a b) d ns Γ k l g u p =
+      let gb = goodE b (opened d) ns (asLet x (formE a Γ) Γ) (k .2) l (goodE a (opened d) ns Γ (k .1) l g [] tt .0, g) u p in
+      (gb .0, goodE a (opened d) ns Γ (k .1) l g (orderE b (asLet x (formE a Γ) Γ) u) (gb .1) .1)
+  goodE (lambda x b) d ns Γ k l g u p =
+      let v = variableOf x Γ in
+      let size = l .0 in
+      let counts = l .1 in
       let room = k .0 .1 in
-      let more : length (packed x ∷ lambdaNames (d .lambdas)) ≤ 2 = omega arith in
-      let env : GoodAll (asLambda x Γ) (packed x ∷ lambdaNames (d .lambdas)) =
-      (good-variable (packed x) _ more (k .0 .0) (first-has (packed x) (lambdaNames (d .lambdas))), good-all-more Γ (packed x) (lambdaNames (d .lambdas)) g) in
-      let f = good-function (packed x) (formE b (asLambda x Γ)) (lambdaNames (d .lambdas)) l (k .0 .0) (goodE b (inLambda x d) (asLambda x Γ) (k .1) more env [] tt .0) in
-      (f, goodE b (inLambda x d) (asLambda x Γ) (k .1) more env (function (packed x) (formE b (asLambda x Γ)) ∷ u) (f .proper, p) .1)
-  goodE (name x r) d Γ k l g u p =
-      let f = good-named x Γ (lambdaNames (d .lambdas)) l g (k .0) in
-      let c = goodC r d (named x Γ) Γ (k .1) l g f u p in
+      let n : nameIn v ≡ packed x = omega arith in
+      let name : isName (nameIn v) ≡ true = rw n (k .0 .0) in
+      let more : Sized (v ∷ ns) (asLambda x Γ) (inLambda d) = (ap suc size, ap suc counts, omega arith) in
+      let env : GoodAll (asLambda x Γ) (v ∷ ns) = (good-variable v (v ∷ ns) (more .2) name (first-has v ns), good-all-more Γ v ns g) in
+      let f = good-function v (formE b (asLambda x Γ)) ns (l .2) name (goodE b (inLambda d) (v ∷ ns) (asLambda x Γ) (k .1) more env [] tt .0) in
+      (f, goodE b (inLambda d) (v ∷ ns) (asLambda x Γ) (k .1) more env (function v (formE b (asLambda x Γ)) ∷ u) (f .proper, p) .1)
+  goodE (name x r) d ns Γ k l g u p =
+      let f = good-named x Γ ns (l .2) g (k .0) in
+      let c = goodC r d (named x Γ) ns Γ (k .1) l g f u p in
       (c .0, (f .proper, c .1))
-  goodE (literal z r) d Γ k l g u p =
-      let f = good-number z (lambdaNames (d .lambdas)) l (k .0) in
-      let c = goodC r d (number z) Γ (k .1) l g f u p in
+  goodE (literal z r) d ns Γ k l g u p =
+      let f = good-number z ns (l .2) (k .0) in
+      let c = goodC r d (number z) ns Γ (k .1) l g f u p in
       (c .0, (f .proper, c .1))
-  goodE (bracket e r) d Γ k l g u p =
-      let c = goodC r d (formE e Γ) Γ (k .2) l g (goodE e (opened d) Γ (k .1) l g [] tt .0) u p in
-      (c .0, goodE e (opened d) Γ (k .1) l g (orderC r (formE e Γ) Γ u) (c .1) .1)
+  goodE (bracket e r) d ns Γ k l g u p =
+      let c = goodC r d (formE e Γ) ns Γ (k .2) l g (goodE e (opened d) ns Γ (k .1) l g [] tt .0) u p in
+      (c .0, goodE e (opened d) ns Γ (k .1) l g (orderC r (formE e Γ) Γ u) (c .1) .1)
 
-  goodC : (r : Calls) (d : Around) (f : Form) (Γ : List Meaning) → EverywhereC Known r d → length (lambdaNames (d .lambdas)) ≤ 2
-      → GoodAll Γ (lambdaNames (d .lambdas)) → Good f (lambdaNames (d .lambdas))
-      → (u : List Form) → All Proper u → Good (formC r f Γ) (lambdaNames (d .lambdas)) × All Proper (orderC r f Γ u)
-  goodC done d f Γ k l g h u p = (h, p)
-  goodC (call m a) d f Γ k l g h u p = goodA a m d f Γ (k .0) (k .1) l g h u p
+  goodC : (r : Calls) (d : Around) (f : Form) (ns : List ℕ) (Γ : List Meaning) → EverywhereC Known r d → Sized ns Γ d
+      → GoodAll Γ ns → Good f ns
+      → (u : List Form) → All Proper u → Good (formC r f Γ) ns × All Proper (orderC r f Γ u)
+  goodC done d f ns Γ k l g h u p = (h, p)
+  goodC (call m a) d f ns Γ k l g h u p = goodA a m d f ns Γ (k .0) (k .1) l g h u p
 
-  goodA : (a : Arguments) (m : List ℕ) (d : Around) (f : Form) (Γ : List Meaning) → arguments (member m) ≡ givenA a → EverywhereA Known a d → length (lambdaNames (d .lambdas)) ≤ 2
-      → GoodAll Γ (lambdaNames (d .lambdas)) → Good f (lambdaNames (d .lambdas))
-      → (u : List Form) → All Proper u → Good (formA a m f Γ) (lambdaNames (d .lambdas)) × All Proper (orderA a (called a m f Γ) Γ u)
-  goodA (none r) m d f Γ e k l g h u p =
-      let q = good-ask m f (lambdaNames (d .lambdas)) l e h in
-      let c = goodC r d (ask (member m) f) Γ k l g q u p in
+  goodA : (a : Arguments) (m : List ℕ) (d : Around) (f : Form) (ns : List ℕ) (Γ : List Meaning) → arguments (member m) ≡ givenA a → EverywhereA Known a d → Sized ns Γ d
+      → GoodAll Γ ns → Good f ns
+      → (u : List Form) → All Proper u → Good (formA a m f Γ) ns × All Proper (orderA a (called a m f Γ) Γ u)
+  goodA (none r) m d f ns Γ e k l g h u p =
+      let q = good-ask m f ns (l .2) e h in
+      let c = goodC r d (ask (member m) f) ns Γ k l g q u p in
       (c .0, (q .proper, c .1))
-  goodA (first e′ x) m d f Γ e k l g h u p =
+  goodA (first e′ x) m d f ns Γ e k l g h u p =
       let few = few-arguments (member m) in
-      let q = good-call m f (formE e′ Γ) (lambdaNames (d .lambdas)) l (one-argument x (arguments (member m)) few e) h (goodE e′ (opened d) Γ (k .0) l g [] tt .0) in
-      let c = goodM x d (Form.call (member m) f (formE e′ Γ)) Γ (k .1) l g q u p in
-      (c .0, goodE e′ (opened d) Γ (k .0) l g (orderM x (Form.call (member m) f (formE e′ Γ)) Γ u) (c .1) .1)
+      let q = good-call m f (formE e′ Γ) ns (l .2) (one-argument x (arguments (member m)) few e) h (goodE e′ (opened d) ns Γ (k .0) l g [] tt .0) in
+      let c = goodM x d (Form.call (member m) f (formE e′ Γ)) ns Γ (k .1) l g q u p in
+      (c .0, goodE e′ (opened d) ns Γ (k .0) l g (orderM x (Form.call (member m) f (formE e′ Γ)) Γ u) (c .1) .1)
 
-  goodM : (x : More) (d : Around) (f : Form) (Γ : List Meaning) → EverywhereM Known x d → length (lambdaNames (d .lambdas)) ≤ 2
-      → GoodAll Γ (lambdaNames (d .lambdas)) → Good f (lambdaNames (d .lambdas))
-      → (u : List Form) → All Proper u → Good (formM x f Γ) (lambdaNames (d .lambdas)) × All Proper (orderM x f Γ u)
-  goodM (last r) d f Γ k l g h u p = let c = goodC r d f Γ k l g h u p in (c .0, (h .proper, c .1))
-  goodM (next e x) d f Γ k l g h u p =
-      let c = goodM x d f Γ (k .1) l g h u p in
-      (c .0, goodE e (opened d) Γ (k .0) l g (orderM x f Γ u) (c .1) .1)
+  goodM : (x : More) (d : Around) (f : Form) (ns : List ℕ) (Γ : List Meaning) → EverywhereM Known x d → Sized ns Γ d
+      → GoodAll Γ ns → Good f ns
+      → (u : List Form) → All Proper u → Good (formM x f Γ) ns × All Proper (orderM x f Γ u)
+  goodM (last r) d f ns Γ k l g h u p = let c = goodC r d f ns Γ k l g h u p in (c .0, (h .proper, c .1))
+  goodM (next e x) d f ns Γ k l g h u p =
+      let c = goodM x d f ns Γ (k .1) l g h u p in
+      (c .0, goodE e (opened d) ns Γ (k .0) l g (orderM x f Γ u) (c .1) .1)
 
 -- of a whole tree whose names are words
 pub all-proper : (e : Expression) → KeepsLimits e → EverywhereE Worded e outermost → All Proper (formsInOrder e)
-unfolding lambdaNames
-all-proper e k w = goodE e outermost [] (known e k w) (omega arith) tt [] tt .1
+unfolding lambdas
+all-proper e k w = goodE e outermost [] [] (known e k w) (refl, refl, omega arith) tt [] tt .1

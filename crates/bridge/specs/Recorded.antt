@@ -6,7 +6,7 @@ use mathlib.Core.List.{List, [], _∷_, _++_, map, append-nil, append-assoc, map
 use Prim.Native.Nat.{ℕ, zero, suc, _+_, _<_, _≤_}
 use native.Mathlib.Omega.{arith}
 use borrow.Author.Tests.{eqb-true, le-ltb}
-use lib.Dec.{T, leb→le}
+use lib.Dec.{T, leb→le, eqb, eqb·suc-zero}
 use lib.IntN.{ℤ, pos, negsuc, _+ℤ_, _-ℤ_, +ℤ-negℤ-cancel}
 use lib.Signed.{_≤ℤ_, nonNeg, pos-natAbs}
 use lib.ListN.{length, getD, length-append, List·getD-append}
@@ -22,20 +22,20 @@ use Rattle.language.specs.Cases.{impossible, split}
 use Rattle.grammar.specs.Grammar.{Expression, Calls, Arguments, More, letIn, lambda, name, literal, bracket, done, call, none, first, last, next}
 use Rattle.grammar.specs.Faults.{Around, outermost, opened, inLambda}
 use Rattle.grammar.specs.KeptLimits.{givenA, givenM, EverywhereE, EverywhereC, EverywhereA, EverywhereM, InRange, KeepsLimits}
-use Rattle.grammar.specs.SingleLimits.{RightCalls, SmallNumbers}
+use Rattle.grammar.specs.SingleLimits.{FewLambdas, RightCalls, SmallNumbers}
 use Rattle.grammar.specs.KeptLimitsLaws.{keeps-each}
-use Rattle.meaning.specs.Forms.{Form, number, variable, unbound, readings, ask, function, same}
+use Rattle.meaning.specs.Forms.{Form, withLevel, number, variable, unbound, readings, ask, same}
 use Rattle.meaning.specs.FormsLaws.{same-eq, same-self}
-use Rattle.meaning.specs.Binding.{Meaning, lookUp, named, asLambda, member, formE, formC, formA, formM, called, placesE}
+use Rattle.meaning.specs.Binding.{Meaning, lambdas, lookUp, named, asLet, asLambda, member, formE, formC, formA, formM, called, placesE}
 use Rattle.meaning.specs.Binding.{placesC, placesA, placesM, orderE, orderC, orderA, orderM, formOf, formsByPlace, formsInOrder}
 use Rattle.model.specs.Lists.{All, member as isIn, insert, insertAll}
 use Rattle.model.specs.ListLaws.{Equality, all-append, insert-old, insertAll-has}
 use Rattle.model.specs.Decoding.{decodeFrom}
 use Rattle.model.specs.Graph.{among, formAt, AllPlaced, decode, decode-snoc}
-use Rattle.layout.specs.Memory.{Node, node}
+use Rattle.layout.specs.Memory.{Node, nodeWith, node}
 use Rattle.layout.specs.Nodes.{numberKind, functionKind, memberKind, numberOfKey, build, kids, arity, memberOfKind}
-use Rattle.table.specs.NodeKinds.{Fine, aNumber, aVariable, anUnbound, theReadings, aFunction, anAsk, aCall, nodeForm, build-fine}
-use Rattle.records.specs.Records.{Named, Recorded, newRecord, numberKey, linked, recordScoped, recordName, behind, recordE, recordC, recordA, recordM, recordsOf}
+use Rattle.table.specs.NodeKinds.{Fine, aNumber, aVariable, anUnbound, theReadings, aFunction, anAsk, aCall, fine-low, nodeForm, build-fine}
+use Rattle.records.specs.Records.{Named, lambdasOf, Recorded, newRecord, numberKey, linked, recordScoped, recordName, behind, recordE, recordC, recordA, recordM, recordsOf}
 use Rattle.formulas.specs.Formulas.{formulas}
 use Rattle.table.specs.EntryForms.{formsOf}
 use Rattle.bridge.specs.Graphs.{nodes, kids-function, kids-ask, kids-call, among-one, among-two}
@@ -234,26 +234,38 @@ again t j f h e =
       order = λ u. same-again (formsOf t) u f i;
     }
 
--- the scope of records and the environment of forms: name by name
-abbrev Linked : ℕ → List ℕ → Form → List Node → Type 0
-Linked zero x f t = f ≡ variable (packed x)
-Linked (suc j) x f t = (j < length t) × (formIn t j ≡ f)
+-- the scope of records and the environment of forms: name by name, lets with lets and lambdas with lambdas, where k lambdas are around
+abbrev Linked : ℕ → List ℕ → (k : ℕ) → Meaning → List Node → Type 0
+Linked zero x k e t = (e .1 ≡ variable (withLevel (packed x) k)) × (e .2 ≡ true) × (k < 2)
+Linked (suc j) x k e t = (j < length t) × (formIn t j ≡ e .1) × (e .2 ≡ false)
 
 abbrev Scoped : List Named → List Meaning → List Node → Type 0
 Scoped [] [] t = Unit {0}
 Scoped [] (e ∷ Γ) t = ⊥
 Scoped (s ∷ Σ) [] t = ⊥
-Scoped (s ∷ Σ) (e ∷ Γ) t = (s .0 ≡ e .0) × Linked (s .1) (s .0) (e .1) t × Scoped Σ Γ t
+Scoped (s ∷ Σ) (e ∷ Γ) t = (s .0 ≡ e .0) × Linked (s .1) (s .0) (lambdasOf Σ) e t × Scoped Σ Γ t
 
-linked-longer : (k : ℕ) (x : List ℕ) (f : Form) (t u : List Node) → Linked k x f t → Linked k x f (t ++ u)
-linked-longer zero x f t u h = h
-linked-longer (suc j) x f t u h = let l = length-append t u in let b = h .0 in (omega arith, form-kept t u j (h .0) ∙ h .1)
+linked-longer : (j : ℕ) (x : List ℕ) (k : ℕ) (e : Meaning) (t u : List Node) → Linked j x k e t → Linked j x k e (t ++ u)
+linked-longer zero x k e t u h = h
+linked-longer (suc j) x k e t u h = let l = length-append t u in let b = h .0 in (omega arith, form-kept t u j (h .0) ∙ h .1, h .2)
 
 scoped-longer : (Σ : List Named) (Γ : List Meaning) (t u : List Node) → Scoped Σ Γ t → Scoped Σ Γ (t ++ u)
 scoped-longer [] [] t u h = tt
 scoped-longer [] (e ∷ Γ) t u h = h
 scoped-longer (s ∷ Σ) [] t u h = h
-scoped-longer (s ∷ Σ) (e ∷ Γ) t u h = (h .0, linked-longer (s .1) (s .0) (e .1) t u (h .1), scoped-longer Σ Γ t u (h .2))
+scoped-longer (s ∷ Σ) (e ∷ Γ) t u h = (h .0, linked-longer (s .1) (s .0) (lambdasOf Σ) e t u (h .1), scoped-longer Σ Γ t u (h .2))
+
+-- as many lambdas are around by either
+linked-lambdas : (j : ℕ) (x : List ℕ) (k n : ℕ) (e : Meaning) (t : List Node) → Linked j x k e t → cond (eqb j 0) (suc n) n ≡ cond (e .2) (suc n) n
+linked-lambdas zero x k n e t h = let q = h .1 in rw q
+linked-lambdas (suc j) x k n e t h = let q = h .2 in rw (eqb·suc-zero j, q)
+
+scoped-lambdas : (Σ : List Named) (Γ : List Meaning) (t : List Node) → Scoped Σ Γ t → lambdasOf Σ ≡ lambdas Γ
+unfolding lambdasOf lambdas
+scoped-lambdas [] [] t h = refl
+scoped-lambdas [] (e ∷ Γ) t h = absurd h
+scoped-lambdas (s ∷ Σ) [] t h = absurd h
+scoped-lambdas (s ∷ Σ) (e ∷ Γ) t h = linked-lambdas (s .1) (s .0) (lambdasOf Σ) (lambdasOf Σ) e t (h .1) ∙ rw (scoped-lambdas Σ Γ t (h .2))
 
 scoped-after : (Σ : List Named) (Γ : List Meaning) (t : List Node) (R : Recorded) (f : Form) (pr os : List Form → List Form) → Right R t f pr os → Scoped Σ Γ t → Scoped Σ Γ (R .records)
 scoped-after Σ Γ t R f pr os r h = let x = r .is in rw x (scoped-longer Σ Γ t (r .more) h)
@@ -267,10 +279,10 @@ right-pick : (b : Bool) (A B : Recorded) (t : List Node) (f g : Form) → Right 
 right-pick true A B t f g p q = p
 right-pick false A B t f g p q = q
 
-linked-right : (k : ℕ) (x y : List ℕ) (f : Form) (t : List Node) → packed x ≡ packed y → Linked k y f t → Right (linked k x t) t f (one f) (one f)
+linked-right : (j : ℕ) (x y : List ℕ) (k : ℕ) (e : Meaning) (t : List Node) → packed x ≡ packed y → Linked j y k e t → Right (linked j x k t) t (e .1) (one (e .1)) (one (e .1))
 unfolding isIn kids arity memberOfKind
-linked-right zero x y f t e h = fresh (aVariable (packed x)) t f (λ j. impossible) (ap variable e ∙ sym h)
-linked-right (suc j) x y f t e h = again t j f (h .0) (h .1)
+linked-right zero x y k e t q h = fresh (aVariable (packed x) k (h .2)) t (e .1) (λ j. impossible) (ap (λ (m : ℕ). variable (withLevel m k)) q ∙ sym (h .0))
+linked-right (suc j) x y k e t q h = again t j (e .1) (h .0) (h .1)
 
 scoped-right : (x : List ℕ) (Σ : List Named) (Γ : List Meaning) (t : List Node) → Scoped Σ Γ t → Right (recordScoped x Σ t) t (lookUp x Γ) (one (lookUp x Γ)) (one (lookUp x Γ))
 unfolding recordScoped lookUp isIn kids arity memberOfKind
@@ -282,7 +294,7 @@ scoped-right x (s ∷ Σ) (e ∷ Γ) t h =
     let l = scoped-right x Σ Γ t (h .2) in
     rw (← n)
     (split (sameName x (s .0))
-    (λ q. rw q (linked-right (s .1) x (s .0) (e .1) t (eqb-true (packed x) (packed (s .0)) q) (h .1)))
+    (λ q. rw q (linked-right (s .1) x (s .0) (lambdasOf Σ) e t (eqb-true (packed x) (packed (s .0)) q) (h .1)))
     (λ q. rw q l))
 
 name-right : (x : List ℕ) (Σ : List Named) (Γ : List Meaning) (t : List Node) → Scoped Σ Γ t → Right (recordName x Σ t) t (named x Γ) (one (named x Γ)) (one (named x Γ))
@@ -308,8 +320,8 @@ ask-lower m f i e h j a = let q = among-one j f (rw (kids-ask m f e) at a) in om
 call-lower : (m : Member) (f a i : ℕ) → arguments m ≡ 1 → f < i → a < i → (j : ℕ) → among j (kids (node (memberKind m) 0 (suc f) (suc a))) ≡ true → j < i
 call-lower m f a i e h k j b = among-two j f a (rw (kids-call m f a e) at b) (λ q. omega arith) (λ q. omega arith)
 
-function-lower : (x b i : ℕ) → b < i → (j : ℕ) → among j (kids (node functionKind x (suc b) 0)) ≡ true → j < i
-function-lower x b i h j a = let q = among-one j b (rw (kids-function x b) at a) in omega arith
+function-lower : (x b k i : ℕ) → b < i → (j : ℕ) → among j (kids (nodeWith functionKind x (suc b) 0 k)) ≡ true → j < i
+function-lower x b k i h j a = let q = among-one j b (rw (kids-function x b k) at a) in omega arith
 
 -- a number in range is found again in its key
 shifted : (z : ℤ) → leastNumber ≤ℤ z → T (nonNeg (z +ℤ pos 2147483648))
@@ -352,85 +364,98 @@ low-after R t f ps os r = let x = r .is in let l = length-append t (r .more) in 
 form-after : (R : Recorded) (t : List Node) (f : Form) (ps os : List Form → List Form) → Right R t f ps os → (j : ℕ) → j < length t → formIn (R .records) j ≡ formIn t j
 form-after R t f ps os r j h = ap (λ (k : List Node). formIn k j) (r .is) ∙ form-kept t (r .more) j h
 
-mutual
-  unfolding recordE formE placesE orderE called givenA givenM isIn kids arity memberOfKind
+-- as many lambdas are around a place as its scope has; a let is none
+abbrev Counts : List Named → Around → Type 0
+Counts Σ d = d .lambdas ≡ lambdasOf Σ
 
-  recordedE : (e : Expression) (d : Around) (Σ : List Named) (Γ : List Meaning) (t : List Node) → EverywhereE RightCalls e d → EverywhereE SmallNumbers e d → Scoped Σ Γ t
+counts-let : (x : List ℕ) (j : ℕ) (Σ : List Named) (d : Around) → Counts Σ d → Counts ((x, suc j) ∷ Σ) d
+unfolding lambdasOf
+counts-let x j Σ d q = rw (eqb·suc-zero j) q
+
+mutual
+  unfolding recordE formE placesE orderE called lambdasOf lambdas opened inLambda givenA givenM isIn kids arity memberOfKind
+
+  recordedE : (e : Expression) (d : Around) (Σ : List Named) (Γ : List Meaning) (t : List Node) → EverywhereE RightCalls e d → EverywhereE SmallNumbers e d → EverywhereE FewLambdas e d → Counts Σ d → Scoped Σ Γ t
       → Right (recordE e Σ t) t (formE e Γ) (placesE e Γ) (orderE e Γ)
-  recordedE (letIn x a b) d Σ Γ t c n s =
-      let A = recordedE a (opened d) Σ Γ t (c .1) (n .1) s in
+  recordedE (letIn x a b) d Σ Γ t c n l q s =
+      let A = recordedE a (opened d) Σ Γ t (c .1) (n .1) (l .1) q s in
       let RA = recordE a Σ t in
-      let B = recordedE b (opened d) ((x, suc (RA .root)) ∷ Σ) ((x, formE a Γ) ∷ Γ) (RA .records) (c .2) (n .2) (refl, (A .low, A .form), scoped-after Σ Γ t RA _ _ _ A s) in
+      let B = recordedE b (opened d) ((x, suc (RA .root)) ∷ Σ) (asLet x (formE a Γ) Γ) (RA .records) (c .2) (n .2) (l .2) (counts-let x (RA .root) Σ (opened d) q)
+      (refl, (A .low, A .form, refl), scoped-after Σ Γ t RA _ _ _ A s) in
       rooted (behind (RA .places) (recordE b ((x, suc (RA .root)) ∷ Σ) (RA .records))) t _ _ _ (after RA (recordE b ((x, suc (RA .root)) ∷ Σ) (RA .records)) t _ _ _ _ _ _ A B)
-  recordedE (lambda x b) d Σ Γ t c n s =
-      let B = recordedE b (inLambda x d) ((x, 0) ∷ Σ) (asLambda x Γ) t (c .1) (n .1) (refl, refl, s) in
+  recordedE (lambda x b) d Σ Γ t c n l q s =
+      let z = scoped-lambdas Σ Γ t s in
+      let room = l .0 in
+      let low : lambdasOf Σ < 2 = omega arith in
+      let B = recordedE b (inLambda d) ((x, 0) ∷ Σ) (asLambda x Γ) t (c .1) (n .1) (l .1) (ap suc q) (refl, (rw z, refl, low), s) in
       let RB = recordE b ((x, 0) ∷ Σ) t in
-      pushed (aFunction (packed x) (RB .root)) RB t _ _ _ _ (function-lower (packed x) (RB .root) _ (B .low)) (ap (function (packed x)) (B .form)) B
-  recordedE (name x r) d Σ Γ t c n s =
+      pushed (aFunction (packed x) (RB .root) (lambdasOf Σ) low) RB t _ _ _ _ (function-lower (packed x) (RB .root) (lambdasOf Σ) _ (B .low))
+      (rw (z, B .form)) B
+  recordedE (name x r) d Σ Γ t c n l q s =
       let N = name-right x Σ Γ t s in
       let RN = recordName x Σ t in
       after RN (recordC r (RN .root) Σ (RN .records)) t _ _ _ _ _ _ N
-      (recordedC r d (RN .root) (named x Γ) Σ Γ (RN .records) (c .1) (n .1) (scoped-after Σ Γ t RN _ _ _ N s) (N .low) (N .form))
-  recordedE (literal z r) d Σ Γ t c n s =
+      (recordedC r d (RN .root) (named x Γ) Σ Γ (RN .records) (c .1) (n .1) (l .1) q (scoped-after Σ Γ t RN _ _ _ N s) (N .low) (N .form))
+  recordedE (literal z r) d Σ Γ t c n l q s =
       let k = node numberKind (numberKey z) 0 0 in
       let N = fresh (aNumber (numberKey z)) t (number z) (λ j. impossible) (ap number (key-number z (n .0))) in
       let RN = newRecord k t (length t ∷ []) in
       after RN (recordC r (length t) Σ (t ++ (k ∷ []))) t _ _ _ _ _ _ N
-      (recordedC r d (length t) (number z) Σ Γ (t ++ (k ∷ [])) (c .1) (n .1) (scoped-after Σ Γ t RN _ _ _ N s) (N .low) (N .form))
-  recordedE (bracket e r) d Σ Γ t c n s =
-      let E = recordedE e (opened d) Σ Γ t (c .1) (n .1) s in
+      (recordedC r d (length t) (number z) Σ Γ (t ++ (k ∷ [])) (c .1) (n .1) (l .1) q (scoped-after Σ Γ t RN _ _ _ N s) (N .low) (N .form))
+  recordedE (bracket e r) d Σ Γ t c n l q s =
+      let E = recordedE e (opened d) Σ Γ t (c .1) (n .1) (l .1) q s in
       let RE = recordE e Σ t in
       after RE (recordC r (RE .root) Σ (RE .records)) t _ _ _ _ _ _ E
-      (recordedC r d (RE .root) (formE e Γ) Σ Γ (RE .records) (c .2) (n .2) (scoped-after Σ Γ t RE _ _ _ E s) (E .low) (E .form))
+      (recordedC r d (RE .root) (formE e Γ) Σ Γ (RE .records) (c .2) (n .2) (l .2) q (scoped-after Σ Γ t RE _ _ _ E s) (E .low) (E .form))
 
-  recordedC : (r : Calls) (d : Around) (f : ℕ) (F : Form) (Σ : List Named) (Γ : List Meaning) (t : List Node) → EverywhereC RightCalls r d → EverywhereC SmallNumbers r d → Scoped Σ Γ t
+  recordedC : (r : Calls) (d : Around) (f : ℕ) (F : Form) (Σ : List Named) (Γ : List Meaning) (t : List Node) → EverywhereC RightCalls r d → EverywhereC SmallNumbers r d → EverywhereC FewLambdas r d → Counts Σ d → Scoped Σ Γ t
       → f < length t → formIn t f ≡ F → Right (recordC r f Σ t) t (formC r F Γ) (placesC r F Γ) (orderC r F Γ)
-  recordedC done d f F Σ Γ t c n s h e = still t f F h e
-  recordedC (call m a) d f F Σ Γ t c n s h e = recordedA a m d f F Σ Γ t (given-right m (givenA a) (c .0 .0) (c .0 .1)) (c .1) (n .1) s h e
+  recordedC done d f F Σ Γ t c n l q s h e = still t f F h e
+  recordedC (call m a) d f F Σ Γ t c n l q s h e = recordedA a m d f F Σ Γ t (given-right m (givenA a) (c .0 .0) (c .0 .1)) (c .1) (n .1) (l .1) q s h e
 
   recordedA : (a : Arguments) (m : List ℕ) (d : Around) (f : ℕ) (F : Form) (Σ : List Named) (Γ : List Meaning) (t : List Node) → arguments (member m) ≡ givenA a → EverywhereA RightCalls a d
-      → EverywhereA SmallNumbers a d → Scoped Σ Γ t → f < length t → formIn t f ≡ F
+      → EverywhereA SmallNumbers a d → EverywhereA FewLambdas a d → Counts Σ d → Scoped Σ Γ t → f < length t → formIn t f ≡ F
       → Right (recordA a m f Σ t) t (formA a m F Γ) (λ v. called a m F Γ ∷ placesA a (called a m F Γ) Γ v) (orderA a (called a m F Γ) Γ)
-  recordedA (none r) m d f F Σ Γ t g c n s h e =
+  recordedA (none r) m d f F Σ Γ t g c n l q s h e =
       let k = node (memberKind (member m)) 0 (suc f) 0 in
       let N = fresh (anAsk (member m) f g) t (ask (member m) F) (ask-lower (member m) f (length t) g h) (ap (ask (member m)) e) in
       let RN = newRecord k t (length t ∷ []) in
       after RN (recordC r (length t) Σ (t ++ (k ∷ []))) t _ _ _ _ _ _ N
-      (recordedC r d (length t) (ask (member m) F) Σ Γ (t ++ (k ∷ [])) c n (scoped-after Σ Γ t RN _ _ _ N s) (N .low) (N .form))
-  recordedA (first e′ x) m d f F Σ Γ t g c n s h e =
-      let E = recordedE e′ (opened d) Σ Γ t (c .0) (n .0) s in
+      (recordedC r d (length t) (ask (member m) F) Σ Γ (t ++ (k ∷ [])) c n l q (scoped-after Σ Γ t RN _ _ _ N s) (N .low) (N .form))
+  recordedA (first e′ x) m d f F Σ Γ t g c n l q s h e =
+      let E = recordedE e′ (opened d) Σ Γ t (c .0) (n .0) (l .0) q s in
       let RE = recordE e′ Σ t in
-      let l = low-after RE t _ _ _ E in
+      let w = low-after RE t _ _ _ E in
       let few = few-arguments (member m) in
       let only : arguments (member m) ≡ 1 = omega arith in
-      let M = recordedM x m d f (RE .root) F (formE e′ Γ) (RE .places) Σ Γ (RE .records) only (c .1) (n .1) (scoped-after Σ Γ t RE _ _ _ E s)
+      let M = recordedM x m d f (RE .root) F (formE e′ Γ) (RE .places) Σ Γ (RE .records) only (c .1) (n .1) (l .1) q (scoped-after Σ Γ t RE _ _ _ E s)
       (omega arith) (form-after RE t _ _ _ E f h ∙ e) (E .low) (E .form) (E .inside) in
       replaced _ t _ _ _ _ (extended RE (recordM x m f (RE .root) (RE .places) Σ (RE .records)) t _ _ _ _ _ _ E M)
       (λ v. ap (λ (fs : List Form). Form.call (member m) F (formE e′ Γ) ∷ fs) (E .places _))
 
   recordedM : (x : More) (m : List ℕ) (d : Around) (f a : ℕ) (F A : Form) (ps : List ℕ) (Σ : List Named) (Γ : List Meaning) (t : List Node) → arguments (member m) ≡ 1 → EverywhereM RightCalls x d
-      → EverywhereM SmallNumbers x d → Scoped Σ Γ t → f < length t → formIn t f ≡ F → a < length t → formIn t a ≡ A → All (λ (p : ℕ). p < length t) ps
+      → EverywhereM SmallNumbers x d → EverywhereM FewLambdas x d → Counts Σ d → Scoped Σ Γ t → f < length t → formIn t f ≡ F → a < length t → formIn t a ≡ A → All (λ (p : ℕ). p < length t) ps
       → Right (recordM x m f a ps Σ t) t (formM x (Form.call (member m) F A) Γ)
       (λ v. Form.call (member m) F A ∷ (map (formIn t) ps ++ placesM x (Form.call (member m) F A) Γ v)) (orderM x (Form.call (member m) F A) Γ)
-  recordedM (last r) m d f a F A ps Σ Γ t g c n s h e k i q =
+  recordedM (last r) m d f a F A ps Σ Γ t g c n l o s h e k i q =
       let y = node (memberKind (member m)) 0 (suc f) (suc a) in
       let G = Form.call (member m) F A in
       let N = fresh (aCall (member m) f a g) t G (call-lower (member m) f a (length t) g h k) (λ j. Form.call (member m) (e j) (i j)) in
       let RN = newRecord y t (length t ∷ []) in
-      let C = recordedC r d (length t) G Σ Γ (t ++ (y ∷ [])) c n (scoped-after Σ Γ t RN _ _ _ N s) (N .low) (N .form) in
+      let C = recordedC r d (length t) G Σ Γ (t ++ (y ∷ [])) c n l o (scoped-after Σ Γ t RN _ _ _ N s) (N .low) (N .form) in
       let RC = recordC r (length t) Σ (t ++ (y ∷ [])) in
-      let l = low-after RN t _ _ _ N in
+      let w = low-after RN t _ _ _ N in
       replaced _ t _ _ _ _
-      (after RN (behind ps RC) t _ _ _ _ _ _ N (before ps RC (t ++ (y ∷ [])) _ _ _ (all-longer (length t) _ ps l q) C))
+      (after RN (behind ps RC) t _ _ _ _ _ _ N (before ps RC (t ++ (y ∷ [])) _ _ _ (all-longer (length t) _ ps w q) C))
       (λ v. ap (λ (fs : List Form). G ∷ (fs ++ placesC r G Γ v)) (forms-kept t (y ∷ []) ps q))
-  recordedM (next e′ x) m d f a F A ps Σ Γ t g c n s h e k i q =
-      let E = recordedE e′ (opened d) Σ Γ t (c .0) (n .0) s in
+  recordedM (next e′ x) m d f a F A ps Σ Γ t g c n l o s h e k i q =
+      let E = recordedE e′ (opened d) Σ Γ t (c .0) (n .0) (l .0) o s in
       let RE = recordE e′ Σ t in
       let G = Form.call (member m) F A in
-      let l = low-after RE t _ _ _ E in
-      let M = recordedM x m d f a F A (ps ++ RE .places) Σ Γ (RE .records) g (c .1) (n .1) (scoped-after Σ Γ t RE _ _ _ E s) (omega arith)
+      let w = low-after RE t _ _ _ E in
+      let M = recordedM x m d f a F A (ps ++ RE .places) Σ Γ (RE .records) g (c .1) (n .1) (l .1) o (scoped-after Σ Γ t RE _ _ _ E s) (omega arith)
       (form-after RE t _ _ _ E f h ∙ e) (omega arith) (form-after RE t _ _ _ E a k ∙ i)
-      (all-append (λ (p : ℕ). p < length (RE .records)) ps (RE .places) (all-longer (length t) _ ps l q) (E .inside)) in
+      (all-append (λ (p : ℕ). p < length (RE .records)) ps (RE .places) (all-longer (length t) _ ps w q) (E .inside)) in
       replaced _ t _ _ _ _ (extended RE (recordM x m f a (ps ++ RE .places) Σ (RE .records)) t _ _ _ _ _ _ E M)
       (λ v.
       ap (λ (fs : List Form). G ∷ fs)
@@ -449,10 +474,10 @@ pub record Unfolds (e : Expression) (R : Recorded) : Type 0 where
   pub order : (fs : List Form) → insertAll same (formsOf (R .records)) fs ≡ insertAll same (formsInOrder e) fs
 
 pub unfolds : (e : Expression) → KeepsLimits e → Unfolds e (recordsOf e)
-unfolding decodeFrom
+unfolding decodeFrom lambdasOf
 unfolds e k =
     let l = keeps-each e k in
-    let r = recordedE e outermost [] [] [] (l .members) (l .numbers) tt in
+    let r = recordedE e outermost [] [] [] (l .members) (l .numbers) (l .lambdas) refl tt in
     let x = r .is in
     record {
       placed = rw x (r .placed);
@@ -462,3 +487,11 @@ unfolds e k =
       places = sym (append-nil _) ∙ r .places [];
       order = λ fs. ap (λ (xs : List Form). insertAll same xs fs) (sym (append-nil (formsOf (recordsOf e .records)))) ∙ sym (r .order [] fs);
     }
+
+-- the records of a tree that keeps the limits have levels below 2
+all-low : (i : ℕ) (ns : List Node) → AllPlaced formulas nodes i ns → All (λ (n : Node). n .level < 2) ns
+all-low i [] p = tt
+all-low i (n ∷ ns) p = (fine-low (p .0 .fine), all-low (suc i) ns (p .1))
+
+pub levels-low : (e : Expression) → KeepsLimits e → All (λ (n : Node). n .level < 2) (recordsOf e .records)
+levels-low e k = all-low 0 (recordsOf e .records) (unfolds e k .placed)

@@ -11,6 +11,7 @@ use lib.IntN.{ℤ, pos}
 use lib.ListN.{length, getD, set, take, drop}
 use lib.Seq.{take-suc, drop-cons, set-at, length-take-le, take-length}
 use Rattle.language.specs.Limits.{tableReadings}
+use Rattle.layout.specs.Links.{tableLinks, tableCells}
 use Rattle.layout.specs.Memory.{Memory, fits, memory}
 use Rattle.binder.specs.Written.{Whole}
 use Rattle.binder.specs.WrittenLaws.{whole-is}
@@ -32,8 +33,8 @@ module _ (xs ys zs : List ℤ) (i : ℕ) (all : zs ≡ take i xs ++ drop i ys) w
 pub record Room (readings heads links cells : ℕ) : Type 0 where
   pub in-readings : tableReadings ≤ readings
   pub in-heads : 2 ≤ heads
-  pub in-links : 1536 ≤ links
-  pub in-cells : 2048 ≤ cells
+  pub in-links : tableLinks ≤ links
+  pub in-cells : tableCells ≤ cells
 
 module _ (rs : List ℤ) (heads links cells : List ℕ) (b : Bool) (q : b ≡ fits (memory rs heads links cells)) where
   pub fits-room : b ≡ true → Room (length rs) (length heads) (length links) (length cells)

@@ -12,12 +12,12 @@ use lib.IntN.{ℤ, pos}
 use lib.ListN.{length, getD, getElem?, length-take, length-map, length-append}
 use lib.Signed.{mag}
 use Rattle.language.specs.Cases.{impossible, split}
-use Rattle.language.specs.Limits.{tableEntries, tableReadings}
+use Rattle.language.specs.Limits.{tableEntries, tableReadings, openLambdas}
 use Rattle.members.specs.Members.{arguments}
 use Rattle.members.specs.MembersLaws.{number-below}
 use Rattle.members.specs.declared.Member.{Member}
 use Rattle.values.specs.Packing.{isPacked}
-use Rattle.meaning.specs.Forms.{Form, readings, same, works}
+use Rattle.meaning.specs.Forms.{Form, readings, same, works, nameIn, withLevel}
 use Rattle.meaning.specs.FormsLaws.{same-eq, same-self}
 use Rattle.meaning.specs.Evaluation.{awaited, Shown, shows}
 use Rattle.grammar.specs.KeptLimits.{InRange}
@@ -33,7 +33,7 @@ use Rattle.model.specs.Checks as Checks
 use Rattle.layout.specs.Memory.{Memory, Node, Entry, entryCount, readingCount, recordingOf, entriesOf, nodesOf, node}
 use Rattle.layout.specs.Nodes.{numberKind, variableKind, unboundKind, functionKind, memberKind, kindCount, worksKind}
 use Rattle.layout.specs.Nodes.{arity, memberOfKind, listed, kids, sameNode, build, numberOfKey}
-use Rattle.table.specs.WellFormed.{every, kindKnown, keyRight, arityRight, lower, hasNode, distinct}
+use Rattle.table.specs.WellFormed.{every, kindKnown, keyRight, arityRight, lower, hasNode, distinct, levelRight}
 use Rattle.table.specs.Awaits.{awaitedBy, awaitedAfter}
 use Rattle.table.specs.WellFormed.{isDone, doneAt, allDone, settled, namesRight, keptRight, wellFormed}
 use Rattle.table.specs.AwaitedBuild.{awaited-build}
@@ -62,10 +62,10 @@ every-nth p i (x ∷ xs) h =
 -- the tests of a node by itself
 pub kind-right : (n : Node) → Fine n → kindKnown n ≡ true
 kind-right _ (aNumber k) = refl
-kind-right _ (aVariable x) = refl
+kind-right _ (aVariable x k _) = refl
 kind-right _ (anUnbound x) = refl
 kind-right _ theReadings = refl
-kind-right _ (aFunction x b) = refl
+kind-right _ (aFunction x b k _) = refl
 kind-right _ (anAsk m f e) = let l = number-below m in lt-ltb (memberKind m) kindCount (omega arith)
 kind-right _ (aCall m f a e) = let l = number-below m in lt-ltb (memberKind m) kindCount (omega arith)
 
@@ -78,10 +78,10 @@ key-small key h =
 pub key-right : (n : Node) (φ : ℕ → Form) → Fine n → Shape (build n φ) → keyRight n ≡ true
 unfolding keyRight build
 key-right _ φ (aNumber key) s = lt-ltb key (2 ^ 32) (key-small key s)
-key-right _ φ (aVariable x) s = s
+key-right _ φ (aVariable x k l) s = let q : nameIn (withLevel x k) ≡ x = omega arith in rw q at s
 key-right _ φ (anUnbound x) s = s
 key-right _ φ theReadings s = refl
-key-right _ φ (aFunction x b) s = s
+key-right _ φ (aFunction x b k l) s = let q : nameIn (withLevel x k) ≡ x = omega arith in rw q at s
 key-right _ φ (anAsk m f e) s =
     let no = not-member m in
     rw (no numberKind (omega arith), no variableKind (omega arith), no unboundKind (omega arith), no functionKind (omega arith))
@@ -100,13 +100,23 @@ arity-call : (m : Member) (f a : ℕ) → arguments m ≡ 1 → arityRight (node
 unfolding arityRight
 arity-call m f a e = rw (member-arity m, e, one-link f, one-link a)
 
+pub level-right : (n : Node) → Fine n → levelRight n ≡ true
+unfolding levelRight
+level-right _ (aNumber k) = refl
+level-right _ (aVariable x k l) = lt-ltb k openLambdas l
+level-right _ (anUnbound x) = refl
+level-right _ theReadings = refl
+level-right _ (aFunction x b k l) = lt-ltb k openLambdas l
+level-right _ (anAsk m f e) = rw (not-member m variableKind (omega arith), not-member m functionKind (omega arith))
+level-right _ (aCall m f a e) = rw (not-member m variableKind (omega arith), not-member m functionKind (omega arith))
+
 pub arity-right : (n : Node) → Fine n → arityRight n ≡ true
 unfolding arityRight arity memberOfKind
 arity-right _ (aNumber k) = refl
-arity-right _ (aVariable x) = refl
+arity-right _ (aVariable x k _) = refl
 arity-right _ (anUnbound x) = refl
 arity-right _ theReadings = refl
-arity-right _ (aFunction x b) = rw (one-link b)
+arity-right _ (aFunction x b k _) = rw (one-link b)
 arity-right _ (anAsk m f e) = arity-ask m f e
 arity-right _ (aCall m f a e) = arity-call m f a e
 
@@ -115,10 +125,10 @@ none-lower i = le-leb 0 i (omega arith)
 
 pub lower-by : (i : ℕ) (n : Node) → Fine n → ((j : ℕ) → among j (kids n) ≡ true → j < i) → lower i n ≡ true
 lower-by i _ (aNumber k) h = rw (none-lower i)
-lower-by i _ (aVariable x) h = rw (none-lower i)
+lower-by i _ (aVariable x k _) h = rw (none-lower i)
 lower-by i _ (anUnbound x) h = rw (none-lower i)
 lower-by i _ theReadings h = rw (none-lower i)
-lower-by i _ (aFunction x b) h = let l = h b (among-by b _ _ (kids-function x b) (among-first b [])) in rw (le-leb (suc b) i (omega arith), none-lower i)
+lower-by i _ (aFunction x b k _) h = let l = h b (among-by b _ _ (kids-function x b k) (among-first b [])) in rw (le-leb (suc b) i (omega arith), none-lower i)
 lower-by i _ (anAsk m f e) h = let l = h f (among-by f _ _ (kids-ask m f e) (among-first f [])) in rw (le-leb (suc f) i (omega arith), none-lower i)
 lower-by i _ (aCall m f a e) h =
     let l = h f (among-by f _ _ (kids-call m f a e) (among-first f (a ∷ []))) in
@@ -193,10 +203,10 @@ joined-nth (f ∷ fs) (x ∷ es) (suc p) e l h = joined-nth fs es p e (omega ari
 pub works-kind : {n : Node} (φ : ℕ → Form) (k : Fine n) → works (nodeForm k φ) ≡ worksKind (n .kind)
 unfolding works
 works-kind φ (aNumber key) = refl
-works-kind φ (aVariable x) = refl
+works-kind φ (aVariable x k _) = refl
 works-kind φ (anUnbound x) = refl
 works-kind φ theReadings = refl
-works-kind φ (aFunction x b) = refl
+works-kind φ (aFunction x b k _) = refl
 works-kind φ (anAsk m f e) = sym (le-leb functionKind (memberKind m) (omega arith))
 works-kind φ (aCall m f a e) = sym (le-leb functionKind (memberKind m) (omega arith))
 
@@ -373,10 +383,11 @@ module _ (m : Memory) (o : Ok m) (i : Invariant formulas formula-laws (holds m))
       let c4 = from (λ k (e : Entry). keyRight (e .node)) es
       (λ j e h. let a = at j e h in key-right (e .node) (formAt formulas nodes fs) (a .placed .fine)
       (subst Shape (sym (a .form)) (all-nth Proper fs j (getD fs j readings) proper (a .held) .shape))) in
-      let c5 = from (λ k (e : Entry). arityRight (e .node)) es (λ j e h. arity-right (e .node) (at j e h .placed .fine)) in
-      let c6 = from (λ k (e : Entry). lower k (e .node)) es (λ j e h. lower-by j (e .node) (at j e h .placed .fine) (at j e h .placed .lower)) in
-      let c7 = distinct-by ns alone in
-      let c8 = from (λ k (f : Form). leb (length (awaited f)) 2) fs few-names in
-      let c9 = from (λ k (e : Entry). settled es e) es (λ j e h. settled-at j e (at j e h)) in
-      let c10 = from (λ k (e : Entry). keptRight (readingCount m) e) es (λ j e h. kept j e (at j e h) (all-nth Written es j e (o .written) h)) in
-      rw (c1, c2, c3, c4, c5, c6, c7, c8, c9, c10)
+      let c5 = from (λ k (e : Entry). levelRight (e .node)) es (λ j e h. level-right (e .node) (at j e h .placed .fine)) in
+      let c6 = from (λ k (e : Entry). arityRight (e .node)) es (λ j e h. arity-right (e .node) (at j e h .placed .fine)) in
+      let c7 = from (λ k (e : Entry). lower k (e .node)) es (λ j e h. lower-by j (e .node) (at j e h .placed .fine) (at j e h .placed .lower)) in
+      let c8 = distinct-by ns alone in
+      let c9 = from (λ k (f : Form). leb (length (awaited f)) 2) fs few-names in
+      let c10 = from (λ k (e : Entry). settled es e) es (λ j e h. settled-at j e (at j e h)) in
+      let c11 = from (λ k (e : Entry). keptRight (readingCount m) e) es (λ j e h. kept j e (at j e h) (all-nth Written es j e (o .written) h)) in
+      rw (c1, c2, c3, c4, c5, c6, c7, c8, c9, c10, c11)

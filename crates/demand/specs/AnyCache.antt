@@ -16,7 +16,7 @@ use Rattle.language.specs.Cases.{impossible, split}
 use Rattle.language.specs.Limits.{tableEntries}
 use Rattle.values.specs.Packing.{isPacked}
 use Rattle.model.specs.Lists.{All, countIf}
-use Rattle.layout.specs.Memory.{Memory, Node, Kept, Entry, fits, entryCount, readingCount, recordingOf, nodeAt, keptAt, entryAt, entriesFrom}
+use Rattle.layout.specs.Memory.{Memory, Node, Kept, Entry, fits, entryCount, readingCount, recordingOf, nodeAt, keptAt, entryAt, entriesFrom, nodeWith}
 use Rattle.layout.specs.Nodes.{functionKind, worksKind, arity, listed, kids, isName}
 use Rattle.table.specs.WellFormed.{keyRight, doneAt, allDone, settled, namesRight, keptRight}
 use Rattle.table.specs.Right.{nodeRight}
@@ -26,7 +26,7 @@ use Rattle.table.specs.Checked.{keptOk}
 use Rattle.table.specs.CheckedLaws.{done-is}
 use Rattle.binder.specs.AppendedLaws.{Well, and-true, settled-later}
 use Rattle.layout.specs.LinksLaws.{kept-length as keep-length, kept-key as keep-key, kept-apart as keep-apart, kept-here as keep-here}
-use Rattle.layout.specs.Links.{kindAt, firstAt, secondAt, keyAt, valueAt, isBelow}
+use Rattle.layout.specs.Links.{kindAt, firstAt, secondAt, keyAt, valueAt, isBelow, levelAt}
 use Rattle.table.specs.ArityLaws.{a-second}
 use Rattle.table.specs.Waits.{waitsFrom}
 use Rattle.table.specs.AwaitsLaws.{few-at}
@@ -143,7 +143,7 @@ module _ (m : Memory) (f : fits m ≡ true) (well : Well m) (sound : All IsReadi
 
   node-key : (now : List ℕ) → ((j : ℕ) → keyAt now j ≡ keyAt (m .cells) j) → (j : ℕ) → nodeAt links now j ≡ nodeAt links (m .cells) j
   unfolding nodeAt
-  node-key now h j = λ t. record { kind = kindAt links j; key = h j t; first = firstAt links j; second = secondAt links j }
+  node-key now h j = λ t. nodeWith (kindAt links j) (h j t) (firstAt links j) (secondAt links j) (levelAt links j)
 
   function-named : (i : ℕ) → i < c → kindAt links i ≡ functionKind → isName (keyAt (m .cells) i) ≡ true
   unfolding nodeAt keyRight

@@ -13,7 +13,7 @@ use Rattle.model.specs.Lists.{member, index}
 use Rattle.model.specs.Decoding.{decodeFrom}
 use Rattle.model.specs.Graph.{among, formAt, AllPlaced, decode}
 use Rattle.model.specs.Binder as Binder
-use Rattle.layout.specs.Memory.{Node}
+use Rattle.layout.specs.Memory.{Node, nodeWith}
 use Rattle.layout.specs.Nodes.{sameNode, build, kids, arity, memberOfKind}
 use Rattle.table.specs.Bind.{relinked, relink, Bound, bindOne, bindAll}
 use Rattle.table.specs.NodeKinds.{Fine, aNumber, aVariable, anUnbound, theReadings, aFunction, anAsk, aCall, nodeForm, build-fine}
@@ -26,16 +26,16 @@ linkBy ρ zero = 0
 linkBy ρ (suc j) = suc (ρ j)
 
 unfoldable pub relinkBy : Node → (ℕ → ℕ) → Node
-relinkBy n ρ = record { kind = n .kind; key = n .key; first = linkBy ρ (n .first); second = linkBy ρ (n .second) }
+relinkBy n ρ = nodeWith (n .kind) (n .key) (linkBy ρ (n .first)) (linkBy ρ (n .second)) (n .level)
 
 -- a node so changed is of the same kind, and its form is of the forms of the changed links
 fine-relinked : {n : Node} (ρ : ℕ → ℕ) (k : Fine n) → (l : Fine (relinkBy n ρ)) × ((φ : ℕ → Form) → nodeForm l φ ≡ nodeForm k (λ (j : ℕ). φ (ρ j)))
 unfolding relinkBy
 fine-relinked ρ (aNumber key) = (aNumber key, λ φ. refl)
-fine-relinked ρ (aVariable x) = (aVariable x, λ φ. refl)
+fine-relinked ρ (aVariable x k l) = (aVariable x k l, λ φ. refl)
 fine-relinked ρ (anUnbound x) = (anUnbound x, λ φ. refl)
 fine-relinked ρ theReadings = (theReadings, λ φ. refl)
-fine-relinked ρ (aFunction x b) = (aFunction x (ρ b), λ φ. refl)
+fine-relinked ρ (aFunction x b k l) = (aFunction x (ρ b) k l, λ φ. refl)
 fine-relinked ρ (anAsk m f e) = (anAsk m (ρ f) e, λ φ. refl)
 fine-relinked ρ (aCall m f a e) = (aCall m (ρ f) (ρ a) e, λ φ. refl)
 
@@ -48,10 +48,11 @@ among-by j l k e h = rw e h
 from-relinked : (n : Node) (ρ : ℕ → ℕ) (j : ℕ) → Fine n → among j (kids (relinkBy n ρ)) ≡ true → (k : ℕ) × (among k (kids n) ≡ true) × (ρ k ≡ j)
 unfolding relinkBy kids arity memberOfKind member
 from-relinked _ ρ j (aNumber k) h = impossible h
-from-relinked _ ρ j (aVariable x) h = impossible h
+from-relinked _ ρ j (aVariable x k _) h = impossible h
 from-relinked _ ρ j (anUnbound x) h = impossible h
 from-relinked _ ρ j theReadings h = impossible h
-from-relinked _ ρ j (aFunction x b) h = (b, among-by b _ _ (kids-function x b) (among-first b []), among-one j (ρ b) (subst (λ (l : List ℕ). among j l ≡ true) (kids-function x (ρ b)) h))
+from-relinked _ ρ j (aFunction x b k _) h =
+    (b, among-by b _ _ (kids-function x b k) (among-first b []), among-one j (ρ b) (subst (λ (l : List ℕ). among j l ≡ true) (kids-function x (ρ b) k) h))
 from-relinked _ ρ j (anAsk m f e) h = (f, among-by f _ _ (kids-ask m f e) (among-first f []), among-one j (ρ f) (subst (λ (l : List ℕ). among j l ≡ true) (kids-ask m (ρ f) e) h))
 from-relinked _ ρ j (aCall m f a e) h =
     among-two j (ρ f) (ρ a) (subst (λ (l : List ℕ). among j l ≡ true) (kids-call m (ρ f) (ρ a) e) h)
@@ -68,7 +69,7 @@ link-same numbers (suc j) = refl
 
 relink-same : (numbers : List ℕ) (n : Node) → relink numbers n ≡ relinkBy n (λ (k : ℕ). getD numbers k 0)
 unfolding relink relinkBy
-relink-same numbers n = λ i. record { kind = n .kind; key = n .key; first = link-same numbers (n .first) i; second = link-same numbers (n .second) i }
+relink-same numbers n = λ i. nodeWith (n .kind) (n .key) (link-same numbers (n .first) i) (link-same numbers (n .second) i) (n .level)
 
 -- found: below the length; not found: the length
 found-below : (n : Node) (ns : List Node) → member sameNode n ns ≡ true → index sameNode n ns < length ns

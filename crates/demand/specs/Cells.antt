@@ -1,7 +1,7 @@
 -- The cells of what a form shows pass the tests of refusal 4, and show it again. Assumes nothing.
 use mathlib.Core.Path.{_≡_, refl, sym, ap, _∙_, subst}
 use mathlib.Core.Bool.{Bool, true, false, _||_}
-use mathlib.Core.List.{List, [], _∷_}
+use mathlib.Core.List.{List, [], _∷_, map}
 use mathlib.Core.Option.{some}
 use Prim.Native.Nat.{ℕ, _<_, _≤_}
 use native.Mathlib.Omega.{arith}
@@ -20,7 +20,7 @@ use Rattle.rules.specs.Apply.{isMissing, isDelayed, byRule0, byRule1, apply0, a
 use Rattle.values.specs.Keepable.{Storable, Keepable}
 use Rattle.values.specs.Packing.{packOf, unpackOf, isPacked, functionCell, delayedCell}
 use Rattle.values.specs.PackingLaws.{round, packed-above, kept-passes}
-use Rattle.meaning.specs.Forms.{Form, number, variable, unbound, readings, ask, call, function, nameOf}
+use Rattle.meaning.specs.Forms.{Form, number, variable, unbound, readings, ask, call, function, nameIn, nameOf}
 use Rattle.meaning.specs.FormsLaws.{within-self}
 use Rattle.meaning.specs.Evaluation.{valueOf, nowhere, lookup, evaluate, hasName, awaited, Shown, aNumber, aWindow, aFunction, aDelay, aReason, shownAs, shows}
 use Rattle.layout.specs.Memory.{Kept as Cells}
@@ -111,7 +111,7 @@ fun1 m xs v w run =
     (λ _. by-cond NoFun (isDelayed v || isDelayed w) Delayed _ (λ e. refl)
     (λ _. plain-fun (byRule1 (rule m) xs v w run) (plain-rule1 m xs v w run))))
 
-function-name : (xs : List ℤ) (f : Form) → Deep f → isFun (valueOf (evaluate xs nowhere f)) ≡ true → isName (nameOf f) ≡ true
+function-name : (xs : List ℤ) (f : Form) → Deep f → isFun (valueOf (evaluate xs nowhere f)) ≡ true → isName (nameIn (nameOf f)) ≡ true
 unfolding evaluate valueOf lookup nameOf
 function-name xs (number z) d h = impossible h
 function-name xs (variable x) d h = impossible h
@@ -127,18 +127,19 @@ unfolding isName wordNumber
 name-some y h = ne-eqb y 0 (λ e. impossible (rw e at h))
 
 -- one name or two
-keeps-delay : (n : ℕ) (xs : List ℕ) → length xs ≤ 2 → (y : ℕ) → Has y xs → ((z : ℕ) → Has z xs → isName z ≡ true) → Keepable n Delayed → Keeps n (aDelay xs)
+keeps-delay : (n : ℕ) (xs : List ℕ) → length xs ≤ 2 → (y : ℕ) → Has y xs → ((z : ℕ) → Has z xs → isName (nameIn z) ≡ true) → Keepable n Delayed
+    → Keeps n (aDelay (map nameIn xs))
 unfolding namesRight hasName
 keeps-delay n [] l y h g k = impossible h
 keeps-delay n (a ∷ []) l y h g k =
     let p = g a (rw (eq-eqb a a refl)) in
-    let y = name-some a p in
+    let y = name-some (nameIn a) p in
     record { names = rw (p, y); packed = kept-passes n Delayed k; above = packed-above Delayed; mark = rw (round Delayed tt, y) }
 keeps-delay n (a ∷ b ∷ []) l y h g k =
     let p = g a (rw (eq-eqb a a refl)) in
     let q = g b (split (eqb b a) (λ e. rw e) (λ e. rw (e, eq-eqb b b refl))) in
-    let y = name-some a p in
-    let z = name-some b q in
+    let y = name-some (nameIn a) p in
+    let z = name-some (nameIn b) q in
     record { names = rw (p, q, y, z); packed = kept-passes n Delayed k; above = packed-above Delayed; mark = rw (round Delayed tt, y, z) }
 keeps-delay n (a ∷ b ∷ c ∷ xs) l y h g k = absurd (omega arith)
 
@@ -149,12 +150,12 @@ keeps-function n x p k = record { names = rw p; packed = kept-passes n Function 
 -- what a proper form shows
 module _ (xs : List ℤ) (short : length xs ≤ tableReadings) (small : (i : ℕ) → i < length xs → mag (getD xs i (pos 0)) < 2147483648) (f : Form)
     (d : Deep f) where
-  by : (v : Value) → valueOf (evaluate xs nowhere f) ≡ v → Keepable (length xs) v → Keeps (length xs) (shownAs (nameOf f) (awaited f) v)
+  by : (v : Value) → valueOf (evaluate xs nowhere f) ≡ v → Keepable (length xs) v → Keeps (length xs) (shownAs (nameIn (nameOf f)) (map nameIn (awaited f)) v)
   by (Number z) e k = keeps-plain (length xs) (Number z) (aNumber z) k (λ q. never (cc)) (λ q. never (cc)) refl refl
   by (Window s l) e k = keeps-plain (length xs) (Window s l) (aWindow s l) k (λ q. never (cc)) (λ q. never (cc)) refl refl
   by (Missing r) e k = keeps-plain (length xs) (Missing r) (aReason r) k (λ q. never (cc)) (λ q. never (cc)) refl refl
   by Delayed e k = let a = delayed-awaits xs f nowhere (ap isDelayed e) in keeps-delay (length xs) (awaited f) (d f (within-self f) .few) (a .name) (a .free) (name-of f d) k
-  by Function e k = keeps-function (length xs) (nameOf f) (function-name xs f d (ap isFun e)) k
+  by Function e k = keeps-function (length xs) (nameIn (nameOf f)) (function-name xs f d (ap isFun e)) k
 
   pub keeps : Keeps (length xs) (shows xs f)
   unfolding shows

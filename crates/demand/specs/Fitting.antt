@@ -19,7 +19,7 @@ use Rattle.rules.specs.declared.Value.the-variants.{Number, Window, Function, D
 use Rattle.rules.specs.Apply.{isDelayed, apply0, apply1}
 use Rattle.values.specs.Keepable.{Keepable}
 use Rattle.values.specs.KeepableApply.{kept-apply0, kept-apply1}
-use Rattle.meaning.specs.Forms.{Form, number, variable, unbound, readings, ask, call, function, same, within}
+use Rattle.meaning.specs.Forms.{Form, nameIn, number, variable, unbound, readings, ask, call, function, same, within}
 use Rattle.meaning.specs.FormsLaws.{same-self, within-self}
 use Rattle.meaning.specs.Evaluation.{Result, plain, runs, valueOf, runOf, Environment, nowhere, bind, lookup, settled, functionOf, evaluate, hasName, awaited}
 use Rattle.layout.specs.Nodes.{isName}
@@ -126,7 +126,7 @@ awaited-within y (call m f a) h =
     (λ i. or-right (within (variable y) f) _ (awaited-within y a i)))
 awaited-within y (function x b) h = or-right (same (variable y) (function x b)) _ (awaited-within y b (has-without y x (awaited b) h .0))
 
-pub name-of : (f : Form) → Deep f → (y : ℕ) → Has y (awaited f) → isName y ≡ true
+pub name-of : (f : Form) → Deep f → (y : ℕ) → Has y (awaited f) → isName (nameIn y) ≡ true
 name-of f d y h = d (variable y) (awaited-within y f h) .shape
 
 -- every value in an evaluation may be kept

@@ -39,7 +39,7 @@ use Rattle.bridge.specs.Proper.{Proper}
 use Rattle.bridge.specs.FormulaLaws.{readable}
 use Rattle.interface.specs.Calls.{boundTo, tooMany, editedMemory, readMemory}
 use Rattle.demand.specs.Standing.{stands-placed, count-nodes}
-use Rattle.demand.specs.Accepted.{kind-right, key-right, arity-right, lower-by, has-at, awaited-by, awaited-after}
+use Rattle.demand.specs.Accepted.{kind-right, key-right, level-right, arity-right, lower-by, has-at, awaited-by, awaited-after}
 use Rattle.demand.specs.Decoded.{one-number, nodes-apart, all-placed, forms-distinct}
 use Rattle.demand.specs.Holds.{holds}
 use Rattle.demand.specs.Editing.{gs, fitted, new, nodes-are, dropped, added, grown-forms, sizes}
@@ -48,7 +48,7 @@ use Rattle.demand.specs.Editing.{gs, fitted, new, nodes-are, dropped, ad
 
 right-node : (i : ℕ) (n : Node) (φ : ℕ → Form) → Placed formulas nodes i n → Proper (build n φ) → nodeRight i n ≡ true
 unfolding nodeRight
-right-node i n φ p q = rw (kind-right n (p .fine), key-right n φ (p .fine) (q .shape), arity-right n (p .fine), lower-by i n (p .fine) (p .lower))
+right-node i n φ p q = rw (kind-right n (p .fine), key-right n φ (p .fine) (q .shape), level-right n (p .fine), arity-right n (p .fine), lower-by i n (p .fine) (p .lower))
 
 not-held : (n : Node) (ns ms : List Node) → Distinct sameNode (ns ++ (n ∷ ms)) → hasNode n ns ≡ false
 not-held n ns ms d =

@@ -85,10 +85,10 @@ raised-kids : (i : ℕ) (n : Node) (k : ℕ) (flags : List ℕ) → i ≤ length
     → eqb (getD (raised i (n .second) (raised i (n .first) flags)) k 0) 1 ≡ cond (among k (kids n)) true (eqb (getD flags k 0) 1)
 unfolding raised kids arity memberOfKind member
 raised-kids i _ k flags h (aNumber key) lower = refl
-raised-kids i _ k flags h (aVariable x) lower = refl
+raised-kids i _ k flags h (aVariable x _ _) lower = refl
 raised-kids i _ k flags h (anUnbound x) lower = refl
 raised-kids i _ k flags h theReadings lower = refl
-raised-kids i _ k flags h (aFunction x b) lower = by-kids k flags _ _ (kids-function x b) (λ l. raised-one i b k flags h (lower b (l b (among-first b []))))
+raised-kids i _ k flags h (aFunction x b v _) lower = by-kids k flags _ _ (kids-function x b v) (λ l. raised-one i b k flags h (lower b (l b (among-first b []))))
 raised-kids i _ k flags h (anAsk m f q) lower = by-kids k flags _ _ (kids-ask m f q) (λ l. raised-one i f k flags h (lower f (l f (among-first f []))))
 raised-kids i _ k flags h (aCall m f a q) lower =
     by-kids k flags _ _ (kids-call m f a q) (λ l. raised-two i f a k flags h (lower f (l f (among-first f (a ∷ [])))) (lower a (l a (among-second f a))))

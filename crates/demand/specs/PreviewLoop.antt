@@ -2,7 +2,7 @@
 -- to the allowance. That is the model's loop over the entries held. Assumes nothing.
 use mathlib.Core.Path.{_≡_, refl, sym, ap, _∙_}
 use mathlib.Core.Bool.{Bool, true, false, cond, not, _&&_, and-eq-true-iff}
-use mathlib.Core.List.{List, [], _∷_}
+use mathlib.Core.List.{List, [], _∷_, map}
 use mathlib.Core.Logic.{_⊎_, inl, inr}
 use mathlib.Core.Option.{none, some}
 use Prim.Native.Nat.{ℕ, zero, suc, _+_, _*_, _-_, _<_, _≤_}
@@ -15,7 +15,7 @@ use lib.Seq.{getD-set-same, getD-set-other}
 use Rattle.language.specs.Cases.{split}
 use Rattle.language.specs.Limits.{tableEntries}
 use Rattle.values.specs.Packing.{packOf}
-use Rattle.meaning.specs.Forms.{Form, readings, works, nameOf}
+use Rattle.meaning.specs.Forms.{Form, readings, works, nameOf, nameIn}
 use Rattle.meaning.specs.Evaluation.{valueOf, nowhere, evaluate, awaited, Shown, shows}
 use Rattle.model.specs.Lists.{isSome}
 use Rattle.model.specs.Language.{Language}
@@ -109,9 +109,9 @@ pub record Ready (links cells waits flags : List ℕ) (xs : List ℤ) (fs : List
   pub inside : n < c
   pub room : entryCells * c ≤ length cells
   pub good : Good links cells waits xs (suc n) (formAt fs)
-  pub names : (i : ℕ) → i ≤ n → slotNames cells (getD waits i 0) ≡ awaited (formAt fs i)
+  pub names : (i : ℕ) → i ≤ n → slotNames cells (getD waits i 0) ≡ map nameIn (awaited (formAt fs i))
   pub full : (i : ℕ) → i ≤ n → leb 1 (slotA (getD waits i 0)) ≡ false → leb 1 (slotB (getD waits i 0)) ≡ false
-  pub keys : (i : ℕ) → i ≤ n → functionKind ≤ kindAt links i → keyAt cells i ≡ nameOf (formAt fs i)
+  pub keys : (i : ℕ) → i ≤ n → functionKind ≤ kindAt links i → keyAt cells i ≡ nameIn (nameOf (formAt fs i))
   pub works : (i : ℕ) → i < c → works (formAt fs i) ≡ worksKind (kindAt links i)
   pub marks : (i : ℕ) → i < c → markOf (keptFor (shownAt xs fs i)) ≡ some (shownAt xs fs i)
   -- what is flagged, and what it depends on
@@ -223,7 +223,7 @@ module _ (links cells waits flags : List ℕ) (xs : List ℤ) (fs : List Form) (
       abbrev then : List ℕ
       then = kept now i v (getD waits i 0)
 
-      names-now : slotNames now (getD waits i 0) ≡ awaited (φ i)
+      names-now : slotNames now (getD waits i 0) ≡ map nameIn (awaited (φ i))
       names-now = rw (s .keys (slotA (getD waits i 0) - 1), s .keys (slotB (getD waits i 0) - 1)) (ready .names i most)
 
       kept-here : keptAt then i ≡ keptFor (shownAt xs fs i)

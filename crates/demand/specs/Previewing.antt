@@ -14,7 +14,7 @@ use lib.ListN.{length, getD, getElem?, replicate, length-take, length-map}
 use lib.Signed.{mag}
 use Rattle.language.specs.Cases.{impossible, split}
 use Rattle.language.specs.Limits.{tableEntries}
-use Rattle.meaning.specs.Forms.{Form, readings, works, nameOf, same, dependency, within}
+use Rattle.meaning.specs.Forms.{Form, readings, works, nameOf, same, dependency, within, nameIn, withLevel}
 use Rattle.meaning.specs.Evaluation.{awaited, shows}
 use Rattle.model.specs.Lists.{All, countIf, index}
 use Rattle.model.specs.ListLaws.{nth-has, nth-map, getD-nth, all-nth, member-nth, nth-index, index-nth, on-count}
@@ -25,14 +25,14 @@ use Rattle.model.specs.Invariant.{Invariant}
 use Rattle.model.specs.Graph.{among, Stands, linksAt, decodes}
 use Rattle.model.specs.Sweep.{needed, swept, linked}
 use Rattle.model.specs.Previews.{Values, counts-as-model, works-as-model}
-use Rattle.layout.specs.Memory.{Memory, Node, Entry, entryCount, readingCount, recordingOf, nodeAt, keptAt, entryAt, entriesFrom, entriesOf, nodesOf, nothingKept}
+use Rattle.layout.specs.Memory.{Memory, Node, Entry, entryCount, readingCount, recordingOf, nodeAt, keptAt, entryAt, entriesFrom, entriesOf, nodesOf, nothingKept, nodeWith}
 use Rattle.layout.specs.Nodes.{functionKind, worksKind, kids, build}
 use Rattle.table.specs.Right.{nodeRight}
 use Rattle.layout.specs.Numbered.{numbered}
 use Rattle.table.specs.WellFormed.{wellFormed}
 use Rattle.table.specs.CheckedLaws.{nodes-are}
 use Rattle.binder.specs.AppendedLaws.{well-parts}
-use Rattle.layout.specs.Links.{kindAt, firstAt, secondAt, keyAt}
+use Rattle.layout.specs.Links.{kindAt, firstAt, secondAt, keyAt, levelAt}
 use Rattle.table.specs.Waits.{waitsFrom}
 use Rattle.table.specs.NodeKinds.{Fine, aNumber, aVariable, anUnbound, theReadings, aFunction, anAsk, aCall, nodeForm, build-fine}
 use Rattle.evaluator.specs.Frames.{startAt, startFrom}
@@ -62,7 +62,7 @@ use Rattle.demand.specs.PreviewLoop.{formAt, shownAt, held-nth, Ready, S
 
 -- what a node says of its form: the name that a function shows, and its links
 record Says (n : Node) (f : Form) : Type 0 where
-  key : functionKind ≤ n .kind → n .key ≡ nameOf f
+  key : functionKind ≤ n .kind → n .key ≡ nameIn (nameOf f)
   first : (d : ℕ) → n .first ≡ suc d → among d (kids n) ≡ true
   second : (d : ℕ) → n .second ≡ suc d → among d (kids n) ≡ true
 
@@ -72,13 +72,14 @@ says-leaf n f k p q = record { key = λ h. absurd (omega arith); first = λ d g.
 says : {n : Node} (φ : ℕ → Form) (k : Fine n) → Says n (nodeForm k φ)
 unfolding nameOf
 says φ (aNumber key) = says-leaf _ _ (omega arith) refl refl
-says φ (aVariable x) = says-leaf _ _ (omega arith) refl refl
+says φ (aVariable x _ _) = says-leaf _ _ (omega arith) refl refl
 says φ (anUnbound x) = says-leaf _ _ (omega arith) refl refl
 says φ theReadings = says-leaf _ _ (omega arith) refl refl
-says φ (aFunction x b) =
+says φ (aFunction x b k l) =
+    let n : nameIn (withLevel x k) ≡ x = omega arith in
     record {
-      key = λ h. refl;
-      first = λ d e. let q : d ≡ b = omega arith in among-by d _ _ (kids-function x b) (rw q (among-first b []));
+      key = λ h. sym n;
+      first = λ d e. let q : d ≡ b = omega arith in among-by d _ _ (kids-function x b k) (rw q (among-first b []));
       second = λ d e. absurd (omega arith);
     }
 says φ (anAsk m f e) =
@@ -104,7 +105,7 @@ nodes-same : (links cells now : List ℕ) (c : ℕ) → ((j : ℕ) → keyAt now
 unfolding nodeAt
 nodes-same links cells now c h =
     nodes-are links now 0 c
-    ∙ (λ t. numbered (λ j. record { kind = kindAt links j; key = h j t; first = firstAt links j; second = secondAt links j }) 0 c)
+    ∙ (λ t. numbered (λ j. nodeWith (kindAt links j) (h j t) (firstAt links j) (secondAt links j) (levelAt links j)) 0 c)
     ∙ sym (nodes-are links cells 0 c)
 
 count-zero : {A : Type 0} (p : A → Bool) (xs : List A) (i : ℕ) (x : A) → countIf p xs ≡ 0 → getElem? xs i ≡ some x → p x ≡ false

@@ -2,7 +2,7 @@
 -- entry itself, of a member or a function from what is kept. Assumes nothing.
 use mathlib.Core.Path.{_≡_, refl, sym, ap, _∙_}
 use mathlib.Core.Bool.{true, false, and-eq-true-iff, cond}
-use mathlib.Core.List.{List}
+use mathlib.Core.List.{List, map}
 use mathlib.Core.Option.{none, some}
 use Prim.Native.Nat.{ℕ, zero, suc, _+_, _%_, _<_, _≤_}
 use native.Mathlib.Omega.{arith}
@@ -21,7 +21,7 @@ use Rattle.values.specs.Keepable as Values
 use Rattle.values.specs.Packing.{packOf, unpackOf}
 use Rattle.values.specs.PackingLaws.{round}
 use Rattle.values.specs.Ranges.{down-range}
-use Rattle.meaning.specs.Forms.{Form, readings, nameOf}
+use Rattle.meaning.specs.Forms.{Form, readings, nameOf, nameIn, withLevel}
 use Rattle.meaning.specs.Evaluation.{valueOf, nowhere, lookup, evaluate, awaited, Shown, aNumber, aWindow, aFunction, aDelay, aReason, shownAs, shows}
 use Rattle.model.specs.ListLaws.{getD-nth}
 use Rattle.model.specs.Invariant.{Invariant}
@@ -86,7 +86,7 @@ module _ (size : ℕ) (links cells : List ℕ) where
       from-at k 0 (replicate tableEntries 0) j (omega arith) (omega arith) (omega arith)
 
 -- the value kept is that of the form
-value-kept : (f : Form) (v : Value) → keptFor (shownAs (nameOf f) (awaited f) v) .value ≡ packOf v
+value-kept : (f : Form) (v : Value) → keptFor (shownAs (nameIn (nameOf f)) (map nameIn (awaited f)) v) .value ≡ packOf v
 value-kept f (Number z) = refl
 value-kept f (Window s l) = refl
 value-kept f Function = refl
@@ -107,9 +107,9 @@ names-kept (aDelay xs) = (refl, refl)
 names-kept (aReason r) = (refl, refl)
 
 -- where w holds the names that the form awaits, the cells kept with its value are those of what it shows
-pub kept-cells : (cells : List ℕ) (i w : ℕ) (xs : List ℤ) (f : Form) → (leb 1 (slotA w) ≡ false → leb 1 (slotB w) ≡ false) → slotNames cells w ≡ awaited f
+pub kept-cells : (cells : List ℕ) (i w : ℕ) (xs : List ℤ) (f : Form) → (leb 1 (slotA w) ≡ false → leb 1 (slotB w) ≡ false) → slotNames cells w ≡ map nameIn (awaited f)
     → Values.Keepable (length xs) (valueOf (evaluate xs nowhere f)) → length xs ≤ tableReadings
-    → (valueOf (evaluate xs nowhere f) ≡ Function → keyAt cells i ≡ nameOf f)
+    → (valueOf (evaluate xs nowhere f) ≡ Function → keyAt cells i ≡ nameIn (nameOf f))
     → keptFor (shows xs f)
     ≡ record {
       value = packOf (valueOf (evaluate xs nowhere f));
@@ -120,7 +120,7 @@ unfolding shows
 kept-cells cells i w xs f full names k h g =
     let v = valueOf (evaluate xs nowhere f) in
     let s = kept-shows (length xs) cells i w f full names v k h g in
-    let n = names-kept (shownAs (nameOf f) (awaited f) v) in
+    let n = names-kept (shownAs (nameIn (nameOf f)) (map nameIn (awaited f)) v) in
     λ t.
     record {
       value = shown-value xs f t;
@@ -165,10 +165,12 @@ leaf xs _ φ s (aNumber key) h k =
     let l = ltb-true key 4294967296 h in
     let q : key % 4294967296 + 1 ≡ suc key = omega arith in
     record { value = q ∙ ap suc (sym (number-key key)); held = down-range 2147483648 key (omega arith); shown = λ u. refl }
-leaf xs _ φ s (aVariable x) h k = record { value = refl; held = tt; shown = λ u. rw (name-some x h) }
+leaf xs _ φ s (aVariable x v l) h k =
+    let q : nameIn (withLevel x v) ≡ x = omega arith in
+    record { value = refl; held = tt; shown = λ u. rw (name-some x h, q) }
 leaf xs _ φ s (anUnbound x) h k = record { value = refl; held = omega arith; shown = λ u. refl }
 leaf xs _ φ s theReadings h k = record { value = omega arith; held = (omega arith, omega arith); shown = λ u. refl }
-leaf xs _ φ s (aFunction x b) h k = absurd (omega arith)
+leaf xs _ φ s (aFunction x b v _) h k = absurd (omega arith)
 leaf xs _ φ s (anAsk m f e) h k = absurd (omega arith)
 leaf xs _ φ s (aCall m f a e) h k = absurd (omega arith)
 

@@ -1,7 +1,7 @@
 -- The reader's cursor: the tokens that are left, what has been counted, and the tests at each token in the order of 01's refusals.
 -- This is in the shape of the code: a cursor is a struct by value, and where its number is not 0 nothing more is done.
 -- Assumes nothing: these are definitions.
-use mathlib.Core.Bool.{Bool, false, cond, _||_}
+use mathlib.Core.Bool.{Bool, cond, _||_}
 use mathlib.Core.List.{List, [], _∷_}
 use Prim.Native.Nat.{ℕ, zero, suc, _+_, _*_}
 use lib.Dec.{leb, eqb}
@@ -136,15 +136,10 @@ unfoldable pub binderOf : List ℕ → ℕ → ℕ → ℕ
 binderOf scope x zero = 0
 binderOf scope x (suc b) = when (eqb x (binderName scope b)) (λ _. suc b) (λ _. binderOf scope x b)
 
--- how many lambdas are open
+-- how many lambdas are open; a lambda's level (02, T-05) is that at its own \
 unfoldable pub lambdasIn : List ℕ → ℕ → ℕ
 lambdasIn scope zero = 0
 lambdasIn scope (suc b) = cond (eqb (binderLink scope b) 0) (suc (lambdasIn scope b)) (lambdasIn scope b)
-
--- is the name one of an open lambda
-unfoldable pub lambdaIn : List ℕ → ℕ → ℕ → Bool
-lambdaIn scope x zero = false
-lambdaIn scope x (suc b) = cond (eqb (binderLink scope b) 0) (eqb x (binderName scope b) || lambdaIn scope x b) (lambdaIn scope x b)
 
 -- 01's refusals 5 to 12 at a token, the lowest number that applies, 0 for none; w: an expression begins where a member takes no argument
 unfoldable pub atPart : ℕ → ℕ
@@ -172,13 +167,9 @@ atNumber w z parts = cond (isOutside z) 6 (cond w 9 (atPart parts))
 unfoldable pub atMark : ℕ → List Located → ℕ
 atMark k rest = cond (isAt k rest) 0 5
 
-unfoldable pub atLetName : List Located → ℕ
-atLetName rest = cond (isAt wordKind rest) (cond (isLong (headWord rest)) 7 (cond (isData (headWord rest)) 8 0)) 5
-
-unfoldable pub atLambdaName : List ℕ → ℕ → List Located → ℕ
-atLambdaName scope depth rest =
-    cond (isAt wordKind rest)
-    (cond (isLong (headWord rest)) 7 (cond (isData (headWord rest)) 8 (cond (lambdaIn scope (packed (headWord rest)) depth) 11 0))) 5
+-- the name that a let or a lambda binds
+unfoldable pub atBinder : List Located → ℕ
+atBinder rest = cond (isAt wordKind rest) (cond (isLong (headWord rest)) 7 (cond (isData (headWord rest)) 8 0)) 5
 
 unfoldable pub atMember : List Located → ℕ
 atMember rest = cond (isAt wordKind rest) (cond (isUnknown (memberOf (headWord rest))) 9 0) 5
@@ -248,14 +239,14 @@ module _ (end : ℕ) where
   unfoldable pub letHead : Bool → ℕ → Cursor → Cursor
   letHead w marks c =
       next (judge (atLet w marks (c .parts)) c (λ _. passPart c)) (λ a.
-      next (judge (atLetName (a .rest)) a (λ _. passName a)) (λ b.
+      next (judge (atBinder (a .rest)) a (λ _. passName a)) (λ b.
       need equalsKind b))
 
   -- \ name ->
   unfoldable pub lambdaHead : Bool → ℕ → ℕ → List ℕ → Cursor → Cursor
   lambdaHead w marks depth scope c =
       next (judge (atLambda w (lambdasIn scope depth) marks (c .parts)) c (λ _. passPart c)) (λ a.
-      next (judge (atLambdaName scope depth (a .rest)) a (λ _. passName a)) (λ b.
+      next (judge (atBinder (a .rest)) a (λ _. passName a)) (λ b.
       need arrowKind b))
 
   -- . member (

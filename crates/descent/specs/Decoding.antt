@@ -1,17 +1,17 @@
--- A record is read back from its two words, where its kind is below 32 and its first link below 256. Assumes nothing.
+-- A record is read back from its two words, where its kind is below 32 and its links below 256. Assumes nothing.
 use mathlib.Core.Path.{_≡_, refl}
 use mathlib.Core.List.{List, [], _∷_, _++_}
 use Prim.Native.Nat.{ℕ, zero, suc, _+_, _*_, _/_, _%_, _≤_, _<_}
 use native.Mathlib.Omega.{arith}
 use lib.ListN.{length, getD}
 use Rattle.language.specs.Limits.{textParts}
-use Rattle.layout.specs.Memory.{Node, node}
+use Rattle.layout.specs.Memory.{Node, nodeWith}
 use Rattle.descent.specs.Descent.{linkWord}
 use Rattle.descent.specs.Cells.{words}
 use Rattle.descent.specs.Linked.{Earlier}
 
 abbrev pub nodeOf : ℕ → ℕ → Node
-nodeOf w key = node (w % 32) key (w / 32 % 256) (w / 8192)
+nodeOf w key = nodeWith (w % 32) key (w / 32 % 256) (w / 8192 % 256) (w / 2097152)
 
 -- record r
 unfoldable pub recordAt : List ℕ → ℕ → Node
@@ -22,18 +22,27 @@ unfoldable pub recordsFrom : List ℕ → ℕ → ℕ → List Node
 recordsFrom cells r zero = []
 recordsFrom cells r (suc n) = recordAt cells r ∷ recordsFrom cells (suc r) n
 
-kind-back : (k f s : ℕ) → k < 32 → (k + 32 * f + 8192 * s) % 32 ≡ k
-kind-back k f s h = omega arith
+module _ (k f s l : ℕ) (h : k < 32) where
+  kind-back : (k + 32 * f + 8192 * s + 2097152 * l) % 32 ≡ k
+  kind-back = omega arith
 
-first-back : (k f s : ℕ) → k < 32 → f < 256 → (k + 32 * f + 8192 * s) / 32 % 256 ≡ f
-first-back k f s h i = omega arith
+  first-back : f < 256 → (k + 32 * f + 8192 * s + 2097152 * l) / 32 % 256 ≡ f
+  first-back i = omega arith
 
-second-back : (k f s : ℕ) → k < 32 → f < 256 → (k + 32 * f + 8192 * s) / 8192 ≡ s
-second-back k f s h i = omega arith
+  second-back : f < 256 → s < 256 → (k + 32 * f + 8192 * s + 2097152 * l) / 8192 % 256 ≡ s
+  second-back i j = omega arith
 
-node-back : (n : Node) → n .kind < 32 → n .first < 256 → nodeOf (linkWord n) (n .key) ≡ n
+  level-back : f < 256 → s < 256 → (k + 32 * f + 8192 * s + 2097152 * l) / 2097152 ≡ l
+  level-back i j = omega arith
+
+node-back : (n : Node) → n .kind < 32 → n .first < 256 → n .second < 256 → nodeOf (linkWord n) (n .key) ≡ n
 unfolding linkWord
-node-back n h i = rw (kind-back (n .kind) (n .first) (n .second) h, first-back (n .kind) (n .first) (n .second) h i, second-back (n .kind) (n .first) (n .second) h i) refl
+node-back n h i j =
+    let k = n .kind in
+    let f = n .first in
+    let s = n .second in
+    let l = n .level in
+    rw (kind-back k f s l h, first-back k f s l h i, second-back k f s l h i j, level-back k f s l h i j) refl
 
 record-behind : (a b : ℕ) (cells : List ℕ) (r : ℕ) → recordAt (a ∷ b ∷ cells) (suc r) ≡ recordAt cells r
 unfolding recordAt
@@ -53,4 +62,4 @@ unfolding words recordsFrom recordAt
 records-back [] cells i h l = refl
 records-back (n ∷ ns) cells i h l =
     let k = h .0 in
-    rw (node-back n (k .kind) (omega (arith, k .first)), records-behind (linkWord n) (n .key) (words ns ++ cells) 0 (length ns), records-back ns cells (suc i) (h .1) (omega arith)) refl
+    rw (node-back n (k .kind) (omega (arith, k .first)) (omega (arith, k .second)), records-behind (linkWord n) (n .key) (words ns ++ cells) 0 (length ns), records-back ns cells (suc i) (h .1) (omega arith)) refl

@@ -5,16 +5,16 @@ use mathlib.Core.Bool.{Bool, false}
 use mathlib.Core.List.{List}
 use Prim.Native.Nat.{ℕ, zero, suc, _+_, _*_, _-_}
 use lib.Dec.{eqb}
-use lib.ListN.{length, getD, set}
+use lib.ListN.{length, set}
 use Rattle.language.specs.Limits.{openMarks}
 use Rattle.language.specs.Names.{packed, dataWord}
 use Rattle.grammar.specs.Tokens.{when, Located, tokens}
-use Rattle.layout.specs.Memory.{Node, node}
+use Rattle.layout.specs.Memory.{Node, nodeWith, node}
 use Rattle.layout.specs.Nodes.{numberKind, variableKind, unboundKind, readingsKind, functionKind}
 use Rattle.layout.specs.Held.{kindBase, recordBase}
 use Rattle.records.specs.Records.{numberKey}
 use Rattle.descent.specs.Cursor.{Cursor, letKind, inKind, lambdaKind, dotKind, openKind, shutKind, commaKind, wordKind, digitsKind, endKind}
-use Rattle.descent.specs.Cursor.{isAt, headWord, headValue, binderOf, atBracket, atName, atNumber, atMark, atShut, atComma, pass, passPart}
+use Rattle.descent.specs.Cursor.{isAt, headWord, headValue, binderLink, binderOf, lambdasIn, atBracket, atName, atNumber, atMark, atShut, atComma, pass, passPart}
 use Rattle.descent.specs.Cursor.{refuse, judge, need, letHead, lambdaHead, callHead}
 
 -- the cells of the binders that can be open, two each
@@ -37,7 +37,7 @@ then s k = when (eqb (s .cursor .number) 0) (λ _. k s) (λ _. s)
 
 -- the first word of a record; the second is its key
 unfoldable pub linkWord : Node → ℕ
-linkWord n = n .kind + kindBase * n .first + kindBase * recordBase * n .second
+linkWord n = n .kind + kindBase * n .first + kindBase * recordBase * n .second + kindBase * recordBase * recordBase * n .level
 
 -- the cursor behind one more record, and behind the use of record j
 unfoldable pub counted : Cursor → Cursor
@@ -68,13 +68,14 @@ mark p s = record { cursor = s .cursor; records = s .records; places = set (s .p
 unfoldable pub enter : (depth x link : ℕ) → State → State
 enter depth x j s = record { cursor = s .cursor; records = s .records; places = s .places; scope = set (set (s .scope) (2 * depth) x) (2 * depth + 1) j }
 
--- a bound name stands for a variable, or for a record
-unfoldable pub putBound : (p x link : ℕ) → State → State
-putBound p x j s = when (eqb j 0) (λ _. put p (node variableKind x 0 0) s) (λ _. link p (j - 1) s)
+-- a bound name stands for a variable, which has its lambda's level, or for a record
+unfoldable pub putBound : (p x link level : ℕ) → State → State
+putBound p x j level s = when (eqb j 0) (λ _. put p (nodeWith variableKind x 0 0 level) s) (λ _. link p (j - 1) s)
 
 -- b: one more than the binder's number, 0 for none
 unfoldable pub putScoped : (p x b : ℕ) → State → State
-putScoped p x b s = when (eqb b 0) (λ _. put p (node unboundKind x 0 0) s) (λ _. putBound p x (getD (s .scope) (2 * b - 1) 0) s)
+putScoped p x b s =
+    when (eqb b 0) (λ _. put p (node unboundKind x 0 0) s) (λ _. putBound p x (binderLink (s .scope) (b - 1)) (lambdasIn (s .scope) (b - 1)) s)
 
 -- the packed name x in use
 unfoldable pub putName : (p x depth : ℕ) → State → State
@@ -139,7 +140,7 @@ module _ (end : ℕ) where
   readLambda rd w marks depth s =
       then (moved s (lambdaHead end w marks depth (s .scope) (s .cursor))) (λ h.
       then (rd (inExpression false (suc marks) (suc depth)) (enter depth (h .cursor .name) 0 h)) (λ r.
-      put (s .cursor .parts) (node functionKind (h .cursor .name) (suc (r .cursor .root)) 0) r))
+      put (s .cursor .parts) (nodeWith functionKind (h .cursor .name) (suc (r .cursor .root)) 0 (lambdasIn (s .scope) depth)) r))
 
   unfoldable pub readBracket : Reader → Bool → ℕ → ℕ → State → State
   readBracket rd w marks depth s =

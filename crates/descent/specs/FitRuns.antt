@@ -2,17 +2,16 @@
 use mathlib.Core.Path.{_≡_, refl}
 use mathlib.Core.Bool.{Bool, true, false}
 use mathlib.Core.List.{List}
-use Prim.Native.Nat.{ℕ, zero, suc, _+_, _*_, _-_, _≤_, _<_}
+use Prim.Native.Nat.{ℕ, zero, suc, _+_, _-_, _≤_, _<_}
 use native.Mathlib.Omega.{arith}
 use lib.Dec.{eqb, lit<}
-use lib.ListN.{getD}
 use borrow.Author.Tests.{eqb-true, eqb-false}
 use Rattle.language.specs.Limits.{textParts}
 use Rattle.language.specs.Names.{dataWord}
 use Rattle.grammar.specs.Tokens.{when}
 use Rattle.grammar.specs.TokensLaws.{by-test}
 use Rattle.layout.specs.Memory.{Node}
-use Rattle.descent.specs.Cursor.{Cursor, binderLink, binderOf, isAt, letKind, lambdaKind, openKind, shutKind, commaKind, wordKind, digitsKind}
+use Rattle.descent.specs.Cursor.{Cursor, binderName, binderLink, binderOf, isAt, letKind, lambdaKind, openKind, shutKind, commaKind, wordKind, digitsKind}
 use Rattle.descent.specs.Cursor.{headWord, atComma, atName, pass, passPart, refuse, judge, lambdaHead, callHead}
 use Rattle.descent.specs.Descent.{State, moved, then, counted, rooted, put, link, mark, enter, putBound, putScoped, putName, Call, newCall, firstGiven, nextGiven}
 use Rattle.descent.specs.Descent.{Mode, Reader, inExpression, inCalls, inArguments, inMore, readName, readNumber, readShut, readLet, readLambda, readBracket}
@@ -38,21 +37,21 @@ unfolding put counted
 root-put p n s = omega arith
 
 binder-below : (scope : List ℕ) (x depth c : ℕ) → ((b : ℕ) → b < depth → binderLink scope b ≤ c) → ¬ (binderOf scope x depth ≡ 0)
-    → getD scope (2 * binderOf scope x depth - 1) 0 ≤ c
+    → binderLink scope (binderOf scope x depth - 1) ≤ c
 unfolding binderOf when
 binder-below scope x zero c h d = absurd (d refl)
-binder-below scope x (suc b) c h d = by (eqb x (getD scope (2 * b) 0)) (binder-below scope x b c (λ b i. h b (omega arith))) d
+binder-below scope x (suc b) c h d = by (eqb x (binderName scope b)) (binder-below scope x b c (λ b i. h b (omega arith))) d
   where
-    by : (q : Bool) → (¬ (binderOf scope x b ≡ 0) → getD scope (2 * binderOf scope x b - 1) 0 ≤ c) → ¬ (when q (λ _. suc b) (λ _. binderOf scope x b) ≡ 0)
-        → getD scope (2 * when q (λ _. suc b) (λ _. binderOf scope x b) - 1) 0 ≤ c
-    by true f d = let e : 2 * suc b - 1 ≡ 2 * b + 1 = omega arith in rw e (h b (omega arith))
+    by : (q : Bool) → (¬ (binderOf scope x b ≡ 0) → binderLink scope (binderOf scope x b - 1) ≤ c) → ¬ (when q (λ _. suc b) (λ _. binderOf scope x b) ≡ 0)
+        → binderLink scope (when q (λ _. suc b) (λ _. binderOf scope x b) - 1) ≤ c
+    by true f d = let e : suc b - 1 ≡ b = omega arith in rw e (h b (omega arith))
     by false f d = f d
 
 root-name : (p x depth : ℕ) (s : State) → ((b : ℕ) → b < depth → binderLink (s .scope) b ≤ s .cursor .count) → RootHeld (putName p x depth s)
 unfolding putName putScoped putBound link rooted dataWord
 root-name p x depth s h =
     let b = binderOf (s .scope) x depth in
-    let j = getD (s .scope) (2 * b - 1) 0 in
+    let j = binderLink (s .scope) (b - 1) in
     by-test RootHeld _ _ _ (λ _. root-put p _ s) (λ _.
     by-test RootHeld _ _ _ (λ _. root-put p _ s) (λ e.
     by-test RootHeld _ _ _ (λ _. root-put p _ s) (λ g.

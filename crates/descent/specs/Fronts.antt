@@ -8,7 +8,7 @@ use lib.Dec.{leb, eqb}
 use Rattle.members.specs.Members.{memberOf, isUnknown, takes}
 use Rattle.grammar.specs.Tokens.{Token, kLet, kIn, kEquals, kLambda, kArrow, kDot, kOpen, kShut, kComma, word, number, other, when, Located}
 use Rattle.grammar.specs.Grammar.{Expression, letIn, lambda, name, literal, bracket, done, call, none, first, last, next}
-use Rattle.grammar.specs.Faults.{fine, Around, opened, inLambda, deep, markFault, lambdaFault, letNameFault, lambdaNameFault}
+use Rattle.grammar.specs.Faults.{fine, Around, opened, inLambda, deep, markFault, lambdaFault, binderFault}
 use Rattle.grammar.specs.Faults.{nameFault, literalFault, callFault, Note, note, fault, faultNumber, counted}
 use Rattle.grammar.specs.Reading.{Reading, refused}
 use Rattle.grammar.specs.Machine.{Frame, State, value, brackets, argument, at, Trees, finish, stepOver, stepExpression}
@@ -59,7 +59,7 @@ module _ (end : ℕ) (d : Around) (F : List Frame) (h : Trees (at (letName d) F)
   abbrev pub LetNameFront : List Located → Type 0
   LetNameFront rest =
       readOn end (at (letName d) F) h c rest ≡
-      due wordKind (beyond end c rest (note (letNameFault (headWord rest)) false) (at (letEquals (headWord rest) d) F) (λ q. h ((headWord rest, q .0 .0, q .0 .1), q .1)) c) end rest
+      due wordKind (beyond end c rest (note (binderFault (headWord rest)) false) (at (letEquals (headWord rest) d) F) (λ q. h ((headWord rest, q .0 .0, q .0 .1), q .1)) c) end rest
 
   at-letName : (t : Token) (p : ℕ) (xs : List Located) → LetNameFront (record { token = t; place = p } ∷ xs)
   unfolding readOn unlessAt judgeAt endedAt Rattle.grammar.specs.Machine.step finish headKind headWord headValue headPlace behindHead kindOf wordOf valueOf when fault faultNumber counted
@@ -111,7 +111,7 @@ module _ (end : ℕ) (d : Around) (F : List Frame) (h : Trees (at (lambdaName d)
   abbrev pub LambdaNameFront : List Located → Type 0
   LambdaNameFront rest =
       readOn end (at (lambdaName d) F) h c rest ≡
-      due wordKind (beyond end c rest (note (lambdaNameFault (headWord rest) d) false) (at (lambdaArrow (headWord rest) d) F) (λ q. h ((headWord rest, q .0), q .1)) c) end rest
+      due wordKind (beyond end c rest (note (binderFault (headWord rest)) false) (at (lambdaArrow (headWord rest) d) F) (λ q. h ((headWord rest, q .0), q .1)) c) end rest
 
   at-lambdaName : (t : Token) (p : ℕ) (xs : List Located) → LambdaNameFront (record { token = t; place = p } ∷ xs)
   unfolding readOn unlessAt judgeAt endedAt Rattle.grammar.specs.Machine.step finish headKind headWord headValue headPlace behindHead kindOf wordOf valueOf when fault faultNumber counted
@@ -137,7 +137,7 @@ module _ (end : ℕ) (x : List ℕ) (d : Around) (F : List Frame) (h : Trees (at
   abbrev pub LambdaArrowFront : List Located → Type 0
   LambdaArrowFront rest =
       readOn end (at (lambdaArrow x d) F) h c rest ≡
-      due arrowKind (readOn end (at (expression false (inLambda x d)) F) (λ q. h q) c (behindHead rest)) end rest
+      due arrowKind (readOn end (at (expression false (inLambda d)) F) (λ q. h q) c (behindHead rest)) end rest
 
   at-lambdaArrow : (t : Token) (p : ℕ) (xs : List Located) → LambdaArrowFront (record { token = t; place = p } ∷ xs)
   unfolding readOn unlessAt judgeAt endedAt Rattle.grammar.specs.Machine.step finish headKind headWord headValue headPlace behindHead kindOf wordOf valueOf when fault faultNumber counted

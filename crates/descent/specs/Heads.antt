@@ -20,12 +20,12 @@ use Rattle.meaning.specs.Binding.{member}
 use Rattle.layout.specs.Nodes.{memberKind}
 use Rattle.records.specs.Records.{Named}
 use Rattle.descent.specs.Cursor.{Cursor, equalsKind, arrowKind, wordKind, openKind, headPlace, headWord, behindHead, isAt, lambdasIn}
-use Rattle.descent.specs.Cursor.{atPart, atLet, atLambda, atMark, atLetName, atLambdaName, atMember, atCallOpen}
+use Rattle.descent.specs.Cursor.{atPart, atLet, atLambda, atMark, atBinder, atMember, atCallOpen}
 use Rattle.descent.specs.Cursor.{pass, passPart, passName, passMember, refuse, judge, next, need, letHead, lambdaHead, callHead}
 use Rattle.descent.specs.Continued.{unlessAt, readOn}
 use Rattle.descent.specs.Fronts.{due, front-letName, front-letEquals, front-lambdaName, front-lambdaArrow, front-member, front-callOpen, beyond}
 use Rattle.descent.specs.Moves.{not-refused}
-use Rattle.descent.specs.Scope.{Holds, around, dot-number, let-number, lambda-number, open-number, let-name-number, lambda-name-number, call-number}
+use Rattle.descent.specs.Scope.{Holds, around, dot-number, let-number, lambda-number, open-number, binder-number, call-number}
 
 -- where the cursor is not refused, P holds of it; and where it is, so is what the machine reads
 pub record Fits (c : Cursor) (P : Cursor → Type 0) (r : Reading) : Type 0 where
@@ -99,7 +99,7 @@ module _ (end : ℕ) where
     pub fits-let : (w : Bool) (h : Trees (at (letName (around marks Σ)) F) → Expression) → c .number ≡ 0
         → r ≡ beyond end (c .parts) (c .rest) (note (markFault w (around marks Σ)) true) (at (letName (around marks Σ)) F) h (suc (c .parts))
         → Fits (letHead end w marks c) (LetRead h) r
-    unfolding letHead atLet atLetName passPart passName pass
+    unfolding letHead atLet atBinder passPart passName pass
     fits-let w h z e =
         let d = around marks Σ in
         let p = suc (c .parts) in
@@ -107,8 +107,8 @@ module _ (end : ℕ) where
         let two = behindHead one in
         let x = headWord one in
         fits-pass (atLet w marks (c .parts)) c (λ _. passPart c) _ (LetRead h) r _ z (unless-by _ _ _ r _ (let-number (c .parts) marks Σ w) e) (λ n e.
-        fits-pass (atLetName one) (passPart c) (λ _. passName (passPart c)) _ (LetRead h) r _ z
-        (due-by _ _ wordKind end one r _ (let-name-number p marks Σ x) (e ∙ front-letName end d F h p one)) (λ _ e.
+        fits-pass (atBinder one) (passPart c) (λ _. passName (passPart c)) _ (LetRead h) r _ z
+        (due-by _ _ wordKind end one r _ (binder-number p x) (e ∙ front-letName end d F h p one)) (λ _ e.
         fits-need equalsKind (passName (passPart c)) (LetRead h) r _ (e ∙ front-letEquals end x d F _ p two) (λ e.
         fits-here (pass (passName (passPart c))) (LetRead h) r z
         (record { x = x; name = refl; few = leb-false openMarks marks (not-refused (leb openMarks marks) 11 _ (not-refused w 8 _ n .1) .0); onward = e }))))
@@ -117,12 +117,12 @@ module _ (end : ℕ) where
       pub x : List ℕ
       pub name : c' .name ≡ packed x
       pub few : marks < openMarks
-      pub onward : r ≡ readOn end (at (expression false (inLambda x (around marks Σ))) F) (λ q. h ((x, q .0), q .1)) (c' .parts) (c' .rest)
+      pub onward : r ≡ readOn end (at (expression false (inLambda (around marks Σ))) F) (λ q. h ((x, q .0), q .1)) (c' .parts) (c' .rest)
 
     pub fits-lambda : (w : Bool) (h : Trees (at (lambdaName (around marks Σ)) F) → Expression) → Holds Σ depth scope → c .number ≡ 0
         → r ≡ beyond end (c .parts) (c .rest) (note (lambdaFault w (around marks Σ)) true) (at (lambdaName (around marks Σ)) F) h (suc (c .parts))
         → Fits (lambdaHead end w marks depth scope c) (LambdaRead h) r
-    unfolding lambdaHead atLambda atLambdaName passPart passName pass
+    unfolding lambdaHead atLambda atBinder passPart passName pass
     fits-lambda w h g z e =
         let d = around marks Σ in
         let p = suc (c .parts) in
@@ -130,8 +130,8 @@ module _ (end : ℕ) where
         let two = behindHead one in
         let x = headWord one in
         fits-pass (atLambda w (lambdasIn scope depth) marks (c .parts)) c (λ _. passPart c) _ (LambdaRead h) r _ z (unless-by _ _ _ r _ (lambda-number (c .parts) marks Σ w depth scope g) e) (λ n e.
-        fits-pass (atLambdaName scope depth one) (passPart c) (λ _. passName (passPart c)) _ (LambdaRead h) r _ z
-        (due-by _ _ wordKind end one r _ (lambda-name-number p marks Σ x depth scope g) (e ∙ front-lambdaName end d F h p one)) (λ _ e.
+        fits-pass (atBinder one) (passPart c) (λ _. passName (passPart c)) _ (LambdaRead h) r _ z
+        (due-by _ _ wordKind end one r _ (binder-number p x) (e ∙ front-lambdaName end d F h p one)) (λ _ e.
         fits-need arrowKind (passName (passPart c)) (LambdaRead h) r _ (e ∙ front-lambdaArrow end x d F _ p two) (λ e.
         fits-here (pass (passName (passPart c))) (LambdaRead h) r z
         let l = not-refused (leb openMarks marks) 11 _ (not-refused (leb 2 (lambdasIn scope depth)) 9 _ (not-refused w 8 _ n .1) .1) .0 in

@@ -21,9 +21,9 @@ use Rattle.grammar.specs.Machine.{readText}
 use Rattle.grammar.specs.Theorems.{text-read-plainly}
 use Rattle.grammar.specs.Words.{IsWord, word-bytes, Worded, text-worded}
 use Rattle.meaning.specs.Binding.{member}
-use Rattle.layout.specs.Memory.{Node, node}
+use Rattle.layout.specs.Memory.{Node, nodeWith, node}
 use Rattle.layout.specs.Nodes.{numberKind, readingsKind, functionKind, memberKind}
-use Rattle.records.specs.Records.{Named, numberKey, Recorded, newRecord, recordName, recordScoped, linked, recordE, recordC, recordA, recordM, recordsOf}
+use Rattle.records.specs.Records.{Named, lambdasOf, numberKey, Recorded, newRecord, recordName, recordScoped, linked, recordE, recordC, recordA, recordM, recordsOf}
 
 -- a number's key
 number-key : (z : ℤ) → InRange z → numberKey z < 2 ^ 32
@@ -46,15 +46,15 @@ small-more : (ns : List Node) (n : Node) → SmallKeys ns → n .key < 2 ^ 64 �
 small-more [] n h k = (k, tt)
 small-more (m ∷ ns) n h k = (h .0, small-more ns n (h .1) k)
 
-small-linked : (j : ℕ) (x : List ℕ) (t : List Node) → packed x < 2 ^ 64 → SmallKeys t → SmallKeys (linked j x t .records)
-small-linked zero x t l h = small-more t _ h l
-small-linked (suc j) x t l h = h
+small-linked : (j : ℕ) (x : List ℕ) (k : ℕ) (t : List Node) → packed x < 2 ^ 64 → SmallKeys t → SmallKeys (linked j x k t .records)
+small-linked zero x k t l h = small-more t _ h l
+small-linked (suc j) x k t l h = h
 
 small-scoped : (x : List ℕ) (Σ : List Named) (t : List Node) → packed x < 2 ^ 64 → SmallKeys t → SmallKeys (recordScoped x Σ t .records)
 unfolding recordScoped
 small-scoped x [] t l h = small-more t _ h l
 small-scoped x (e ∷ Σ) t l h =
-    by-cond (λ (R : Recorded). SmallKeys (R .records)) (sameName x (e .0)) _ _ (λ _. small-linked (e .1) x t l h) (λ _. small-scoped x Σ t l h)
+    by-cond (λ (R : Recorded). SmallKeys (R .records)) (sameName x (e .0)) _ _ (λ _. small-linked (e .1) x (lambdasOf Σ) t l h) (λ _. small-scoped x Σ t l h)
 
 small-name : (x : List ℕ) (Σ : List Named) (t : List Node) → packed x < 2 ^ 64 → SmallKeys t → SmallKeys (recordName x Σ t .records)
 unfolding recordName
@@ -73,7 +73,7 @@ mutual
       keys-E b ((x, suc (A .root)) ∷ Σ) (A .records) (opened d) (s .2) (n .2) (w .2) (keys-E a Σ t (opened d) (s .1) (n .1) (w .1) k)
   keys-E (lambda x b) Σ t d s n w k =
       let B = recordE b ((x, 0) ∷ Σ) t in
-      small-more (B .records) (node functionKind (packed x) (suc (B .root)) 0) (keys-E b ((x, 0) ∷ Σ) t (inLambda x d) (s .1) (n .1) (w .1) k)
+      small-more (B .records) (nodeWith functionKind (packed x) (suc (B .root)) 0 (lambdasOf Σ)) (keys-E b ((x, 0) ∷ Σ) t (inLambda d) (s .1) (n .1) (w .1) k)
       (name-key x (s .0) (w .0))
   keys-E (name x r) Σ t d s n w k =
       let N = recordName x Σ t in

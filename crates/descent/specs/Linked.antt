@@ -12,7 +12,7 @@ use Rattle.grammar.specs.Grammar.{Expression, Calls, Arguments, More, letIn, la
 use Rattle.meaning.specs.Binding.{member}
 use Rattle.layout.specs.Memory.{Node, node}
 use Rattle.layout.specs.Nodes.{numberKind, readingsKind, memberKind}
-use Rattle.records.specs.Records.{Named, numberKey, Recorded, newRecord, recordName, recordScoped, linked, recordE, recordC, recordA, recordM, recordsOf}
+use Rattle.records.specs.Records.{Named, lambdasOf, numberKey, Recorded, newRecord, recordName, recordScoped, linked, recordE, recordC, recordA, recordM, recordsOf}
 
 -- record i: its kind, and its links, each 0 for none or one more than an earlier record's number
 pub record EarlierAt (i : ℕ) (n : Node) : Type 0 where
@@ -51,15 +51,15 @@ good-new t n ps h k f s =
       grows = simp length-append (omega arith);
     }
 
-good-linked : (j : ℕ) (x : List ℕ) (t : List Node) → Earlier 0 t → j ≤ length t → Good t (linked j x t)
-good-linked zero x t h l = good-new t _ _ h (lit< tt) (omega arith) (omega arith)
-good-linked (suc j) x t h l = record { earlier = h; root = l; grows = omega arith }
+good-linked : (j : ℕ) (x : List ℕ) (k : ℕ) (t : List Node) → Earlier 0 t → j ≤ length t → Good t (linked j x k t)
+good-linked zero x k t h l = good-new t _ _ h (lit< tt) (omega arith) (omega arith)
+good-linked (suc j) x k t h l = record { earlier = h; root = l; grows = omega arith }
 
 good-scoped : (x : List ℕ) (Σ : List Named) (t : List Node) → Below Σ (length t) → Earlier 0 t → Good t (recordScoped x Σ t)
 unfolding recordScoped
 good-scoped x [] t b h = good-new t _ _ h (lit< tt) (omega arith) (omega arith)
 good-scoped x (e ∷ Σ) t b h =
-    by-cond (Good t) (sameName x (e .0)) (linked (e .1) x t) (recordScoped x Σ t) (λ _. good-linked (e .1) x t h (b .0))
+    by-cond (Good t) (sameName x (e .0)) (linked (e .1) x (lambdasOf Σ) t) (recordScoped x Σ t) (λ _. good-linked (e .1) x (lambdasOf Σ) t h (b .0))
     (λ _. good-scoped x Σ t (b .1) h)
 
 good-name : (x : List ℕ) (Σ : List Named) (t : List Node) → Below Σ (length t) → Earlier 0 t → Good t (recordName x Σ t)

@@ -14,7 +14,7 @@ use Rattle.language.specs.Names.{isLong}
 use Rattle.grammar.specs.Tokens.{Located}
 use Rattle.grammar.specs.TokensLaws.{by-test}
 use Rattle.descent.specs.Cursor.{Cursor, wordKind, openKind, equalsKind, arrowKind, headKind, behindHead, isAt, isOutside}
-use Rattle.descent.specs.Cursor.{lambdasIn, atPart, atLet, atLambda, atName, atNumber, atMark, atLetName, atLambdaName, atMember, atCallOpen}
+use Rattle.descent.specs.Cursor.{lambdasIn, atPart, atLet, atLambda, atName, atNumber, atMark, atBinder, atMember, atCallOpen}
 use Rattle.descent.specs.Cursor.{pass, passPart, passName, passMember, refuse, judge, next, need, letHead, lambdaHead, callHead}
 
 -- what a refusal's number 0 tells
@@ -103,7 +103,7 @@ module _ (end : ℕ) where
   moved-number-part w z c = judged-part (atNumber w z (c .parts)) c (λ e. not-refused w 8 _ (not-refused (isOutside z) 5 _ e .1) .1)
 
   pub moved-let : (w : Bool) (marks : ℕ) (c : Cursor) → length (behindHead (c .rest)) + 1 ≤ length (c .rest) → Moved 3 1 c (letHead end w marks c)
-  unfolding letHead atLet atLetName
+  unfolding letHead atLet atBinder
   moved-let w marks c l =
       moved-next 1 1 2 0 c _ _
       (judged-part (atLet w marks (c .parts)) c (λ e. not-refused (leb 16 marks) 11 _ (not-refused w 8 _ e .1) .1) l)
@@ -113,7 +113,7 @@ module _ (end : ℕ) where
 
   pub moved-lambda : (w : Bool) (marks depth : ℕ) (scope : List ℕ) (c : Cursor) → length (behindHead (c .rest)) + 1 ≤ length (c .rest)
       → Moved 3 1 c (lambdaHead end w marks depth scope c)
-  unfolding lambdaHead atLambda atLambdaName
+  unfolding lambdaHead atLambda atBinder
   moved-lambda w marks depth scope c l =
       moved-next 1 1 2 0 c _ _
       (judged-part (atLambda w (lambdasIn scope depth) marks (c .parts)) c (λ e. not-refused (leb 16 marks) 11 _ (not-refused (leb 2 (lambdasIn scope depth)) 9 _ (not-refused w 8 _ e .1) .1) .1) l)

@@ -11,18 +11,18 @@ use Rattle.grammar.specs.KeptLimits.{partsE, partsC, partsA, partsM}
 use Rattle.meaning.specs.Binding.{member}
 use Rattle.layout.specs.Memory.{Node, node}
 use Rattle.layout.specs.Nodes.{numberKind, readingsKind, memberKind}
-use Rattle.records.specs.Records.{Named, numberKey, Recorded, newRecord, recordName, recordScoped, linked, recordE, recordC, recordA, recordM}
+use Rattle.records.specs.Records.{Named, lambdasOf, numberKey, Recorded, newRecord, recordName, recordScoped, linked, recordE, recordC, recordA, recordM}
 
-linked-place : (j : ℕ) (x : List ℕ) (t : List Node) → length (linked j x t .places) ≡ 1
-linked-place zero x t = refl
-linked-place (suc j) x t = refl
+linked-place : (j : ℕ) (x : List ℕ) (k : ℕ) (t : List Node) → length (linked j x k t .places) ≡ 1
+linked-place zero x k t = refl
+linked-place (suc j) x k t = refl
 
 scoped-place : (x : List ℕ) (Σ : List Named) (t : List Node) → length (recordScoped x Σ t .places) ≡ 1
 unfolding recordScoped
 scoped-place x [] t = refl
 scoped-place x (e ∷ Σ) t =
-    by-cond (λ (R : Recorded). length (R .places) ≡ 1) (sameName x (e .0)) (linked (e .1) x t) (recordScoped x Σ t)
-    (λ _. linked-place (e .1) x t) (λ _. scoped-place x Σ t)
+    by-cond (λ (R : Recorded). length (R .places) ≡ 1) (sameName x (e .0)) (linked (e .1) x (lambdasOf Σ) t) (recordScoped x Σ t)
+    (λ _. linked-place (e .1) x (lambdasOf Σ) t) (λ _. scoped-place x Σ t)
 
 name-place : (x : List ℕ) (Σ : List Named) (t : List Node) → length (recordName x Σ t .places) ≡ 1
 unfolding recordName

@@ -10,9 +10,9 @@ use lib.ListN.{length}
 use borrow.Author.Tests.{eqb-true}
 use Rattle.grammar.specs.Tokens.{when, Located, tokens}
 use Rattle.layout.specs.Nodes.{functionKind}
-use Rattle.layout.specs.Memory.{node}
+use Rattle.layout.specs.Memory.{nodeWith}
 use Rattle.descent.specs.Cursor.{Cursor, headKind, isAt, letKind, inKind, lambdaKind, openKind, shutKind, commaKind, wordKind, digitsKind}
-use Rattle.descent.specs.Cursor.{atBracket, atComma, pass, refuse, judge, need, letHead, lambdaHead}
+use Rattle.descent.specs.Cursor.{lambdasIn, atBracket, atComma, pass, refuse, judge, need, letHead, lambdaHead}
 use Rattle.descent.specs.Descent.{State, moved, then, put, mark, enter, Call, firstGiven, nextGiven, Mode, inExpression, inCalls, inArguments, inMore}
 use Rattle.descent.specs.Descent.{readName, readNumber, readLet, readLambda, readBracket, readExpression, step, run, want, start, ended, readWith, readInto}
 use Rattle.descent.specs.Moves.{Moved, behind-some, moved-judge, moved-pass, moved-need, moved-let, moved-lambda}
@@ -160,7 +160,7 @@ module _ (end : ℕ) where
         lambda-body-refused q a = reads-step (λ f l. let h = less-lambda in is-lambda (run end f) b ∙ then-go _ (ap (moved s) (sym e)) z (then-stop _ (q .same f (omega arith)) a))
 
         pub lambda-read : {r : State} → Reads bound (enter depth (c .name) 0 (moved s c)) r → eqb (r .cursor .number) 0 ≡ true
-            → Reads E s (put (s .cursor .parts) (node functionKind (c .name) (suc (r .cursor .root)) 0) r)
+            → Reads E s (put (s .cursor .parts) (nodeWith functionKind (c .name) (suc (r .cursor .root)) 0 (lambdasIn (s .scope) depth)) r)
         unfolding readLambda enter
         lambda-read q a = reads-step (λ f l. let h = less-lambda in is-lambda (run end f) b ∙ then-go _ (ap (moved s) (sym e)) z (then-go _ (q .same f (omega arith)) a refl))
 

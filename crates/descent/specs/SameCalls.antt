@@ -50,7 +50,7 @@ module _ (end : ℕ) (R : List ℕ) (f : ℕ) (ih : Same end R f) (marks depth :
       (at-moved s H _ r (fits-judge end n c (λ _. pass c) (λ c. r ≡ readOn end (at (calls (around marks Σ)) F) h (c .parts) (c .rest)) r _
       (unless-by _ _ _ r _ (call-number (c .parts) (leb 1 (k .takes))) e) (λ _ e. fits-here end (pass c) _ r (ready .number) e))) (λ z e.
       let G = M .went z in
-      let O = wrote-put R Σ t marks depth one (ready-moved R Σ t marks depth s ready 1 0 H M z) N _ B (k .place) ps (node-as _ _ 0 0 (suc (k .receiver)) _ _ j ek refl refl ej) ep (omega arith) in
+      let O = wrote-put R Σ t marks depth one (ready-moved R Σ t marks depth s ready 1 0 H M z) N _ B (k .place) ps (node-as _ _ 0 0 (suc (k .receiver)) _ _ j 0 0 ek refl refl ej refl) ep (omega arith) in
       at-here (put (k .place) N one) _ r z
       (record {
         ready = record { number = z; count = O .count; records = O .records; holds = ready .holds; room = ready .room; few = ready .few };

@@ -13,11 +13,11 @@ use Rattle.grammar.specs.Grammar.{Expression, Calls, letIn, lambda, name, liter
 use Rattle.grammar.specs.Faults.{opened, inLambda, markFault, lambdaFault, nameFault, literalFault, note}
 use Rattle.grammar.specs.Reading.{Reading}
 use Rattle.grammar.specs.Machine.{Frame, value, brackets, at, Outer, expression, letName, lambdaName, calls}
-use Rattle.layout.specs.Memory.{Node, node}
+use Rattle.layout.specs.Memory.{Node, nodeWith, node}
 use Rattle.layout.specs.Nodes.{numberKind, functionKind}
-use Rattle.records.specs.Records.{Named, newRecord, numberKey, recordName, recordE}
+use Rattle.records.specs.Records.{Named, lambdasOf, newRecord, numberKey, recordName, recordE}
 use Rattle.descent.specs.Cursor.{letKind, inKind, lambdaKind, openKind, shutKind, wordKind, digitsKind}
-use Rattle.descent.specs.Cursor.{headWord, headValue, isAt, atBracket, atName, atNumber}
+use Rattle.descent.specs.Cursor.{headWord, headValue, isAt, lambdasIn, atBracket, atName, atNumber}
 use Rattle.descent.specs.Cursor.{pass, passPart, judge, need, letHead, lambdaHead}
 use Rattle.descent.specs.Descent.{State, moved, then, put, counted, mark, enter, putName, inExpression, inCalls}
 use Rattle.descent.specs.Descent.{readName, readNumber, readLet, readLambda, readBracket, readExpression, run}
@@ -25,7 +25,7 @@ use Rattle.descent.specs.Continued.{readOn}
 use Rattle.descent.specs.Fronts.{front-expression, front-value, front-brackets, beyond}
 use Rattle.descent.specs.Moves.{behind-some, moved-judge, moved-pass, moved-need, moved-let, moved-lambda, moved-name-part, moved-number-part}
 use Rattle.descent.specs.Preserved.{run-keeps}
-use Rattle.descent.specs.Scope.{bindersOf, around, bracket-number, name-number, literal-number}
+use Rattle.descent.specs.Scope.{lambdas-are, around, around-let, bracket-number, name-number, literal-number}
 use Rattle.descent.specs.Heads.{unless-by, fits-judge, fits-here, fits-need, fits-let, fits-lambda}
 use Rattle.descent.specs.Wrote.{Ready, ready-moved, ready-marks, ready-wrote, ready-entered, wrote-put, wrote-name, wrote-let, stays-name, node-as, wrote-at, wrote-moved}
 use Rattle.descent.specs.Fitting.{FitsAt, at-then, at-moved, at-map, at-here, at-choice, at-refused, Read, Same, calls-behind, atom-calls}
@@ -36,7 +36,7 @@ module _ (end : ℕ) (R : List ℕ) (f : ℕ) (ih : Same end R f) (marks depth :
       (λ q. h (letIn (q .0 .0) (q .0 .1) (q .0 .2), q .1)) (suc (s .cursor .parts))
       → 2 * length (s .cursor .rest) < suc f
       → FitsAt (readLet end (run end f) w marks depth s) (Read end R (s .places) (s .cursor .parts) (λ e. recordE e Σ t) F (λ e o. h (e, o)) r) r
-  unfolding readLet recordE opened bindersOf pass enter mark
+  unfolding readLet recordE opened pass enter mark
   same-let w h b e l =
       let c = s .cursor in
       let H = letHead end w marks c in
@@ -66,7 +66,8 @@ module _ (end : ℕ) (R : List ℕ) (f : ℕ) (ih : Same end R f) (marks depth :
       let ready4 = ready-entered R Σ (A .records) (suc marks) depth (moved W N) ready3 x (H .name) (suc (W .cursor .root)) (suc (A .root)) (L .name)
       (ap suc (v .wrote .root)) (omega (arith, ready .few)) (omega (arith, L .few)) in
       let E' = inExpression false (suc marks) (suc depth) in
-      at-then (run end f E' four) _ _ _ r (ih .onExpression false (suc marks) (suc depth) four ((x, suc (A .root)) ∷ Σ) (A .records) F hb r ready4 e (omega arith)) (λ n q.
+      at-then (run end f E' four) _ _ _ r (ih .onExpression false (suc marks) (suc depth) four ((x, suc (A .root)) ∷ Σ) (A .records) F hb r ready4
+      (rw (around-let (suc marks) x (A .root) Σ) e) (omega arith)) (λ n q.
       at-here (mark (s .cursor .parts) (run end f E' four)) _ r n
       (record {
         tree = letIn x (v .tree) (q .tree);
@@ -80,7 +81,7 @@ module _ (end : ℕ) (R : List ℕ) (f : ℕ) (ih : Same end R f) (marks depth :
       (λ q. h (lambda (q .0 .0) (q .0 .1), q .1)) (suc (s .cursor .parts))
       → 2 * length (s .cursor .rest) < suc f
       → FitsAt (readLambda end (run end f) w marks depth s) (Read end R (s .places) (s .cursor .parts) (λ e. recordE e Σ t) F (λ e o. h (e, o)) r) r
-  unfolding readLambda recordE inLambda bindersOf enter put counted
+  unfolding readLambda recordE inLambda lambdasOf enter put counted
   same-lambda w h b e l =
       let c = s .cursor in
       let H = lambdaHead end w marks depth (s .scope) c in
@@ -99,11 +100,12 @@ module _ (end : ℕ) (R : List ℕ) (f : ℕ) (ih : Same end R f) (marks depth :
       let B = recordE (q .tree) Γ t in
       let g : H .parts ≡ suc (c .parts) = omega arith in
       let ready3 = ready-wrote R Γ t (suc marks) (suc depth) two ready2 1 0 0 _ _ B W (run-keeps end f E two) y (q .wrote) in
-      at-here (put (c .parts) (node functionKind (H .name) (suc (W .cursor .root)) 0) W) _ r y
+      at-here (put (c .parts) (nodeWith functionKind (H .name) (suc (W .cursor .root)) 0 (lambdasIn (s .scope) depth)) W) _ r y
       (record {
         tree = lambda x (q .tree);
         wrote = wrote-put R Γ (B .records) (suc marks) (suc depth) W ready3 _ _ (s .places) (c .parts) (B .places)
-            (node-as functionKind functionKind (H .name) (packed x) (suc (W .cursor .root)) (suc (B .root)) 0 0 refl (L .name) (ap suc (q .wrote .root)) refl)
+            (node-as functionKind functionKind (H .name) (packed x) (suc (W .cursor .root)) (suc (B .root)) 0 0 (lambdasIn (s .scope) depth) (lambdasOf Σ) refl (L .name)
+            (ap suc (q .wrote .root)) refl (lambdas-are Σ depth (s .scope) (ready .holds)))
             (q .wrote .places ∙ ap (λ i. sets (s .places) i (B .places)) g) (q .wrote .parts ∙ ap (λ i. i + length (B .places)) g);
         onward = q .onward;
       })))

@@ -1,7 +1,7 @@
--- The scope array with its depth, held against the names of Records and the binders of Faults: what is looked up, counted and refused is
+-- The scope array with its depth, held against the names of Records and the marks of Faults: what is looked up, counted and refused is
 -- the same. Assumes nothing.
 use mathlib.Core.Path.{_≡_, refl, _∙_}
-use mathlib.Core.Bool.{Bool, true, false, cond, _||_}
+use mathlib.Core.Bool.{Bool, true, false, cond}
 use mathlib.Core.List.{List, [], _∷_}
 use Prim.Native.Nat.{ℕ, zero, suc, _+_, _*_, _<_}
 use native.Mathlib.Omega.{arith}
@@ -12,13 +12,12 @@ use lib.Seq.{getD-set-other, getD-set-same}
 use Rattle.language.specs.Limits.{textParts}
 use Rattle.language.specs.Names.{packed, isLong, isData}
 use Rattle.grammar.specs.Tokens.{when}
-use Rattle.grammar.specs.Faults.{fine, badCall, tooMany, manyLambdas, longName, dataBound, reusedName, outOfRange, faultNumber, orMany}
-use Rattle.grammar.specs.Faults.{Around, isAmong, deep, markFault, lambdaFault, letNameFault, lambdaNameFault}
-use Rattle.grammar.specs.Faults.{nameFault, literalFault, callFault, note, fault}
+use Rattle.grammar.specs.Faults.{fine, badCall, tooMany, manyLambdas, longName, dataBound, outOfRange, faultNumber, orMany}
+use Rattle.grammar.specs.Faults.{Around, deep, markFault, lambdaFault, binderFault, nameFault, literalFault, callFault, note, fault}
 use Rattle.layout.specs.Memory.{Node, node}
 use Rattle.layout.specs.Nodes.{unboundKind}
-use Rattle.records.specs.Records.{Named, Recorded, newRecord, linked, recordScoped}
-use Rattle.descent.specs.Cursor.{binderName, binderLink, binderOf, lambdasIn, lambdaIn, isOutside}
+use Rattle.records.specs.Records.{Named, lambdasOf, Recorded, newRecord, linked, recordScoped}
+use Rattle.descent.specs.Cursor.{binderName, binderLink, binderOf, lambdasIn, isOutside}
 use Rattle.descent.specs.Cursor.{atPart, atLet, atLambda, atBracket, atName, atNumber}
 
 -- the cells below the depth hold these names, the innermost first
@@ -47,10 +46,18 @@ holds-entered Σ depth scope x j l h =
           (λ i m. getD-set-other one (2 * depth + 1) i j 0 (λ e. omega arith) ∙ getD-set-other scope (2 * depth) i (packed x) 0 (λ e. omega arith)) h,
     )
 
+-- counted: the lambdas around
+pub lambdas-are : (Σ : List Named) (depth : ℕ) (scope : List ℕ) → Holds Σ depth scope → lambdasIn scope depth ≡ lambdasOf Σ
+unfolding lambdasIn lambdasOf
+lambdas-are [] zero scope h = refl
+lambdas-are [] (suc b) scope h = absurd h
+lambdas-are (e ∷ Σ) zero scope h = absurd h
+lambdas-are (e ∷ Σ) (suc b) scope h = let l = h .1 in rw (l, lambdas-are Σ b scope (h .2)) refl
+
 -- looked up: the record of a name in use
 abbrev pub foundAt : List ℕ → List ℕ → List Node → ℕ → Recorded
 foundAt scope x t zero = newRecord (node unboundKind (packed x) 0 0) t (length t ∷ [])
-foundAt scope x t (suc b) = linked (binderLink scope b) x t
+foundAt scope x t (suc b) = linked (binderLink scope b) x (lambdasIn scope b) t
 
 pub scoped-is : (x : List ℕ) (t : List Node) (Σ : List Named) (depth : ℕ) (scope : List ℕ) → Holds Σ depth scope
     → recordScoped x Σ t ≡ foundAt scope x t (binderOf scope (packed x) depth)
@@ -61,47 +68,20 @@ scoped-is x t (e ∷ Σ) zero scope h = absurd h
 scoped-is x t (e ∷ Σ) (suc b) scope h =
     let n = h .0 in
     let l = h .1 in
-    rw (n, ← l) (by (eqb (packed x) (packed (e .0))) (scoped-is x t Σ b scope (h .2)))
+    rw (n, ← l, ← lambdas-are Σ b scope (h .2)) (by (eqb (packed x) (packed (e .0))) (scoped-is x t Σ b scope (h .2)))
   where
     by : (q : Bool) → recordScoped x Σ t ≡ foundAt scope x t (binderOf scope (packed x) b)
-        → cond q (linked (binderLink scope b) x t) (recordScoped x Σ t) ≡ foundAt scope x t (when q (λ _. suc b) (λ _. binderOf scope (packed x) b))
+        → cond q (linked (binderLink scope b) x (lambdasIn scope b) t) (recordScoped x Σ t) ≡ foundAt scope x t (when q (λ _. suc b) (λ _. binderOf scope (packed x) b))
     by true i = refl
     by false i = i
 
--- the names as Faults has them
-abbrev withBinder : ℕ → List ℕ → List (List ℕ) → List (List ℕ)
-withBinder zero x xs = x ∷ xs
-withBinder (suc j) x xs = xs
-
-unfoldable pub bindersOf : List Named → List (List ℕ)
-bindersOf [] = []
-bindersOf (e ∷ Σ) = withBinder (e .1) (e .0) (bindersOf Σ)
-
+-- the names as Faults counts them; a let's is no lambda's
 abbrev pub around : ℕ → List Named → Around
-around marks Σ = record { marks = marks; lambdas = bindersOf Σ }
+around marks Σ = record { marks = marks; lambdas = lambdasOf Σ }
 
-lambdas-are : (Σ : List Named) (depth : ℕ) (scope : List ℕ) → Holds Σ depth scope → lambdasIn scope depth ≡ length (bindersOf Σ)
-unfolding lambdasIn bindersOf
-lambdas-are [] zero scope h = refl
-lambdas-are [] (suc b) scope h = absurd h
-lambdas-are (e ∷ Σ) zero scope h = absurd h
-lambdas-are (e ∷ Σ) (suc b) scope h = let l = h .1 in rw (l, lambdas-are Σ b scope (h .2)) (by (e .1))
-  where
-    by : (j : ℕ) → cond (eqb j 0) (suc (length (bindersOf Σ))) (length (bindersOf Σ)) ≡ length (withBinder j (e .0) (bindersOf Σ))
-    by zero = refl
-    by (suc j) = rw (eqb·suc-zero j)
-
-lambda-is : (x : List ℕ) (Σ : List Named) (depth : ℕ) (scope : List ℕ) → Holds Σ depth scope → lambdaIn scope (packed x) depth ≡ isAmong x (bindersOf Σ)
-unfolding lambdaIn isAmong bindersOf
-lambda-is x [] zero scope h = refl
-lambda-is x [] (suc b) scope h = absurd h
-lambda-is x (e ∷ Σ) zero scope h = absurd h
-lambda-is x (e ∷ Σ) (suc b) scope h = let n = h .0 in let l = h .1 in rw (l, n, lambda-is x Σ b scope (h .2)) (by (e .1))
-  where
-    by : (j : ℕ)
-        → cond (eqb j 0) (eqb (packed x) (packed (e .0)) || isAmong x (bindersOf Σ)) (isAmong x (bindersOf Σ)) ≡ isAmong x (withBinder j (e .0) (bindersOf Σ))
-    by zero = refl
-    by (suc j) = rw (eqb·suc-zero j)
+pub around-let : (marks : ℕ) (x : List ℕ) (j : ℕ) (Σ : List Named) → around marks ((x, suc j) ∷ Σ) ≡ around marks Σ
+unfolding lambdasOf
+around-let marks x j Σ = rw (eqb·suc-zero j) refl
 
 -- the refusals at a token are the numbers of Faults
 part-number : (c : ℕ) → atPart c ≡ orMany 0 (leb textParts c)
@@ -130,7 +110,7 @@ module _ (c marks : ℕ) (Σ : List Named) where
   pub lambda-number : (w : Bool) (depth : ℕ) (scope : List ℕ) → Holds Σ depth scope
       → atLambda w (lambdasIn scope depth) marks c ≡ fault c (note (lambdaFault w (around marks Σ)) true)
   unfolding atLambda fault lambdaFault faultNumber
-  lambda-number w depth scope h = rw (part-number, lambdas-are Σ depth scope h) (by w (leb 2 (length (bindersOf Σ))) (leb 16 marks))
+  lambda-number w depth scope h = rw (part-number, lambdas-are Σ depth scope h) (by w (leb 2 (lambdasOf Σ)) (leb 16 marks))
     where
       by : (w l a : Bool)
           → cond w 9 (cond l 10 (cond a 12 (orMany 0 (leb textParts c))))
@@ -177,25 +157,14 @@ module _ (c marks : ℕ) (Σ : List Named) where
       by false true = refl
       by false false = refl
 
-  pub let-name-number : (x : List ℕ) → cond (isLong x) 7 (cond (isData x) 8 0) ≡ fault c (note (letNameFault x) false)
-  unfolding fault letNameFault faultNumber
-  let-name-number x = by (isLong x) (isData x)
-    where
-      by : (l a : Bool) → cond l 7 (cond a 8 0) ≡ orMany (faultNumber (cond l longName (cond a dataBound fine))) false
-      by true a = refl
-      by false true = refl
-      by false false = refl
-
-  pub lambda-name-number : (x : List ℕ) (depth : ℕ) (scope : List ℕ) → Holds Σ depth scope
-      → cond (isLong x) 7 (cond (isData x) 8 (cond (lambdaIn scope (packed x) depth) 11 0)) ≡ fault c (note (lambdaNameFault x (around marks Σ)) false)
-  unfolding fault lambdaNameFault faultNumber
-  lambda-name-number x depth scope h = rw (lambda-is x Σ depth scope h) (by (isLong x) (isData x) (isAmong x (bindersOf Σ)))
-    where
-      by : (l a n : Bool) → cond l 7 (cond a 8 (cond n 11 0)) ≡ orMany (faultNumber (cond l longName (cond a dataBound (cond n reusedName fine)))) false
-      by true a n = refl
-      by false true n = refl
-      by false false true = refl
-      by false false false = refl
+pub binder-number : (c : ℕ) (x : List ℕ) → cond (isLong x) 7 (cond (isData x) 8 0) ≡ fault c (note (binderFault x) false)
+unfolding fault binderFault faultNumber
+binder-number c x = by (isLong x) (isData x)
+  where
+    by : (l a : Bool) → cond l 7 (cond a 8 0) ≡ orMany (faultNumber (cond l longName (cond a dataBound fine))) false
+    by true a = refl
+    by false true = refl
+    by false false = refl
 
 pub call-number : (c : ℕ) (b : Bool) → cond b 9 0 ≡ fault c (note (callFault b) false)
 unfolding fault callFault faultNumber

@@ -15,7 +15,7 @@ use Rattle.grammar.specs.Grammar.{Expression}
 use Rattle.grammar.specs.KeptLimits.{partsE}
 use Rattle.grammar.specs.Reading.{Reading, tree, refused}
 use Rattle.grammar.specs.Machine.{at, over, Trees, finish, readText}
-use Rattle.records.specs.Records.{recordsOf}
+use Rattle.records.specs.Records.{lambdasOf, recordsOf}
 use Rattle.descent.specs.Cursor.{Cursor, endKind, kindOf, headKind, headPlace, isAt, atMark, judge}
 use Rattle.descent.specs.Descent.{State, moved, start, inExpression, run, ended, readWith, readInto, scopeCells}
 use Rattle.descent.specs.Cells.{sets-all, words, length-words}
@@ -23,7 +23,6 @@ use Rattle.descent.specs.Continued.{judgeAt, endedAt, readOn, text-on}
 use Rattle.descent.specs.Fronts.{due}
 use Rattle.descent.specs.Moves.{was-due}
 use Rattle.descent.specs.Preserved.{Preserved, run-keeps, ended-keeps}
-use Rattle.descent.specs.Scope.{bindersOf}
 use Rattle.descent.specs.Heads.{fits-judge, fits-here, due-zero}
 use Rattle.descent.specs.Wrote.{Ready, Wrote}
 use Rattle.descent.specs.Fitting.{FitsAt, at-then, at-moved, at-map}
@@ -132,7 +131,7 @@ module _ (text R P S : List ℕ) (f : ℕ) (room : length S ≡ 32) (enough : 2 
   start-ready = record { number = refl; count = refl; records = refl; holds = tt; room = room; few = omega arith }
 
   all-fits : FitsAt after (Ended R P (readText text)) (readText text)
-  unfolding readWith ended bindersOf atMark
+  unfolding readWith ended lambdasOf atMark
   all-fits =
       let r = readText text in
       at-then before _ _ _ r (same end R f .onExpression false 0 0 (start (tokens text) R P S) [] [] [] (λ q. q .0) r start-ready (text-on text) enough) (λ z q.

@@ -3,7 +3,7 @@
 use mathlib.Core.Path.{_≡_, refl, sym, _∙_}
 use mathlib.Core.Bool.{Bool, true, false, cond}
 use mathlib.Core.List.{List, [], _∷_, _++_}
-use Prim.Native.Nat.{ℕ, zero, suc, _+_, _*_, _-_, _≤_, _<_}
+use Prim.Native.Nat.{ℕ, zero, suc, _+_, _-_, _≤_, _<_}
 use native.Mathlib.Omega.{arith}
 use lib.Dec.{eqb, eqb·suc-zero}
 use lib.ListN.{length, length-set, length-append}
@@ -12,10 +12,10 @@ use Rattle.language.specs.Limits.{openMarks}
 use Rattle.language.specs.Names.{packed, isData, dataWord}
 use Rattle.grammar.specs.Tokens.{when}
 use Rattle.grammar.specs.TokensLaws.{by-test}
-use Rattle.layout.specs.Memory.{Node, node}
+use Rattle.layout.specs.Memory.{Node, nodeWith, node}
 use Rattle.layout.specs.Nodes.{readingsKind}
 use Rattle.records.specs.Records.{Named, Recorded, newRecord, linked, recordName, recordScoped, behind}
-use Rattle.descent.specs.Cursor.{Cursor, binderLink, binderOf}
+use Rattle.descent.specs.Cursor.{Cursor, binderLink, binderOf, lambdasIn}
 use Rattle.descent.specs.Descent.{State, moved, counted, rooted, put, link, mark, enter, putBound, putScoped, putName}
 use Rattle.descent.specs.Cells.{sets-append, put-before, words, put-word}
 use Rattle.descent.specs.Moves.{Moved}
@@ -86,15 +86,17 @@ module _ (R : List ℕ) (Σ : List Named) (t : List Node) (marks depth : ℕ) (s
   wrote-new : (n : Node) (p : ℕ) → s .cursor .parts ≡ suc p → Wrote R (s .places) p (newRecord n t (length t ∷ [])) (put p n s)
   wrote-new n p g = wrote-put n n (s .places) p [] refl refl (omega arith)
 
-  wrote-bound : (x : List ℕ) (p j : ℕ) → s .cursor .parts ≡ suc p → Wrote R (s .places) p (linked j x t) (putBound p (packed x) j s)
+  wrote-bound : (x : List ℕ) (p j k : ℕ) → s .cursor .parts ≡ suc p → Wrote R (s .places) p (linked j x k t) (putBound p (packed x) j k s)
   unfolding putBound when
-  wrote-bound x p zero g = wrote-new _ p g
-  wrote-bound x p (suc j) g = let e : suc j - 1 ≡ j = omega arith in rw (eqb·suc-zero j, e) (wrote-link j p g)
+  wrote-bound x p zero k g = wrote-new _ p g
+  wrote-bound x p (suc j) k g = let e : suc j - 1 ≡ j = omega arith in rw (eqb·suc-zero j, e) (wrote-link j p g)
 
   wrote-scoped : (x : List ℕ) (p b : ℕ) → s .cursor .parts ≡ suc p → Wrote R (s .places) p (foundAt (s .scope) x t b) (putScoped p (packed x) b s)
   unfolding putScoped when
   wrote-scoped x p zero g = wrote-new _ p g
-  wrote-scoped x p (suc b) g = let e : 2 * suc b - 1 ≡ 2 * b + 1 = omega arith in rw (eqb·suc-zero b, e) (wrote-bound x p (binderLink (s .scope) b) g)
+  wrote-scoped x p (suc b) g =
+      let e : suc b - 1 ≡ b = omega arith in
+      rw (eqb·suc-zero b, e) (wrote-bound x p (binderLink (s .scope) b) (lambdasIn (s .scope) b) g)
 
   pub wrote-name : (x : List ℕ) (p : ℕ) → s .cursor .parts ≡ suc p → Wrote R (s .places) p (recordName x Σ t) (putName p (packed x) depth s)
   unfolding putName recordName isData dataWord when
@@ -124,8 +126,8 @@ stays-name p x depth s =
     by-test (Stays s) _ _ _ (λ _. stays-put p _ s) (λ _. by-test (Stays s) _ _ _ (λ _. stays-put p _ s) (λ _.
     by-test (Stays s) _ _ _ (λ _. stays-put p _ s) (λ _. record { rest = refl; parts = refl; number = refl; scope = refl })))
 
-pub node-as : (k k' a a' f f' s s' : ℕ) → k ≡ k' → a ≡ a' → f ≡ f' → s ≡ s' → node k a f s ≡ node k' a' f' s'
-node-as k k' a a' f f' s s' e g h i = rw (e, g, h, i) refl
+pub node-as : (k k' a a' f f' s s' l l' : ℕ) → k ≡ k' → a ≡ a' → f ≡ f' → s ≡ s' → l ≡ l' → nodeWith k a f s l ≡ nodeWith k' a' f' s' l'
+node-as k k' a a' f f' s s' l l' e g h i j = rw (e, g, h, i, j) refl
 
 pub wrote-at : (R B : List ℕ) (p q : ℕ) (Z : Recorded) (s : State) → p ≡ q → Wrote R B p Z s → Wrote R B q Z s
 wrote-at R B p q Z s e w = rw (← e) w

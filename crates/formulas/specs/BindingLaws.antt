@@ -9,7 +9,7 @@ use Rattle.language.specs.Cases.{impossible, split, either, by-cond}
 use Rattle.grammar.specs.Grammar.{Expression, Calls, Arguments, More, letIn, lambda, name, literal, bracket, done, call, none, first, last, next}
 use Rattle.meaning.specs.Forms.{Form, number, variable, unbound, readings, ask, function, same, dependency}
 use Rattle.meaning.specs.FormsLaws.{same-eq, same-self}
-use Rattle.meaning.specs.Binding.{Meaning, lookUp, named, asLambda, member, formE, formC, formA, formM, called, placesE}
+use Rattle.meaning.specs.Binding.{Meaning, lookUp, named, asLet, variableOf, asLambda, member, formE, formC, formA, formM, called, placesE}
 use Rattle.meaning.specs.Binding.{placesC, placesA, placesM, orderE, orderC, orderA, orderM, formOf, formsByPlace, formsInOrder}
 use Rattle.model.specs.Lists.{All, member as isIn}
 use Rattle.model.specs.Laws.{Ordered, Among}
@@ -65,7 +65,7 @@ based-named x Γ fs h =
 
 grounded-lambda : (x : List ℕ) (Γ : List Meaning) (fs : List Form) → Grounded Γ fs → Grounded (asLambda x Γ) fs
 unfolding dependency
-grounded-lambda x Γ fs h = (based-leaf (variable (packed x)) fs (λ d. refl), h)
+grounded-lambda x Γ fs h = (based-leaf (variable (variableOf x Γ)) fs (λ d. refl), h)
 
 based-number : (z : ℤ) (fs : List Form) → Based (number z) fs
 unfolding dependency
@@ -99,11 +99,11 @@ mutual
 
   orderedE : (e : Expression) (Γ : List Meaning) (u pre : List Form) → Grounded Γ pre → Then pre (formE e Γ) u → Ordered formulas pre (orderE e Γ u)
   orderedE (letIn x a b) Γ u pre g k =
-      orderedE a Γ (orderE b ((x, formE a Γ) ∷ Γ) u) pre g
-      (λ q s i h. orderedE b ((x, formE a Γ) ∷ Γ) u q (h, grounded-sub Γ pre q s g) (onward pre q _ u s k))
+      orderedE a Γ (orderE b (asLet x (formE a Γ) Γ) u) pre g
+      (λ q s i h. orderedE b (asLet x (formE a Γ) Γ) u q (h, grounded-sub Γ pre q s g) (onward pre q _ u s k))
   orderedE (lambda x b) Γ u pre g k =
-      orderedE b (asLambda x Γ) (function (packed x) (formE b (asLambda x Γ)) ∷ u) pre (grounded-lambda x Γ pre g)
-      (λ q s i h. emit q (function (packed x) (formE b (asLambda x Γ))) u (based-function (packed x) _ q i) (onward pre q _ u s k))
+      orderedE b (asLambda x Γ) (function (variableOf x Γ) (formE b (asLambda x Γ)) ∷ u) pre (grounded-lambda x Γ pre g)
+      (λ q s i h. emit q (function (variableOf x Γ) (formE b (asLambda x Γ))) u (based-function (variableOf x Γ) _ q i) (onward pre q _ u s k))
   orderedE (name x r) Γ u pre g k =
       emit pre (named x Γ) (orderC r (named x Γ) Γ u) (based-named x Γ pre g)
       (λ q s i h. orderedC r (named x Γ) Γ u q (grounded-sub Γ pre q s g) i h (onward pre q _ u s k))
@@ -144,7 +144,7 @@ mutual
   unfolding orderE formE called
 
   restE : (e : Expression) (Γ : List Meaning) (u : List Form) → Sub u (orderE e Γ u)
-  restE (letIn x a b) Γ u f i = restE a Γ (orderE b ((x, formE a Γ) ∷ Γ) u) f (restE b ((x, formE a Γ) ∷ Γ) u f i)
+  restE (letIn x a b) Γ u f i = restE a Γ (orderE b (asLet x (formE a Γ) Γ) u) f (restE b (asLet x (formE a Γ) Γ) u f i)
   restE (lambda x b) Γ u f i = restE b (asLambda x Γ) _ f (in-more _ u f i)
   restE (name x r) Γ u f i = in-more (named x Γ) _ f (restC r (named x Γ) Γ u f i)
   restE (literal z r) Γ u f i = in-more (number z) _ f (restC r (number z) Γ u f i)
@@ -167,7 +167,7 @@ mutual
   unfolding orderE formE called
 
   wholeE : (e : Expression) (Γ : List Meaning) (u : List Form) → In (formE e Γ) (orderE e Γ u)
-  wholeE (letIn x a b) Γ u = restE a Γ _ _ (wholeE b ((x, formE a Γ) ∷ Γ) u)
+  wholeE (letIn x a b) Γ u = restE a Γ _ _ (wholeE b (asLet x (formE a Γ) Γ) u)
   wholeE (lambda x b) Γ u = restE b (asLambda x Γ) _ _ (in-self _ u)
   wholeE (name x r) Γ u = wholeC r (named x Γ) Γ u (named x Γ ∷ orderC r (named x Γ) Γ u) (in-more _ _) (in-self _ _)
   wholeE (literal z r) Γ u = wholeC r (number z) Γ u (number z ∷ orderC r (number z) Γ u) (in-more _ _) (in-self _ _)
@@ -206,8 +206,8 @@ mutual
   placedE : (e : Expression) (Γ : List Meaning) (u v l : List Form) → Sub (orderE e Γ u) l → AllIn l v → AllIn l (placesE e Γ v)
   placedE (letIn x a b) Γ u v l s h = (
     s _ (wholeE (letIn x a b) Γ u),
-    placedE a Γ (orderE b ((x, formE a Γ) ∷ Γ) u) _ l s
-        (placedE b ((x, formE a Γ) ∷ Γ) u v l (λ f i. s f (restE a Γ _ f i)) h),
+    placedE a Γ (orderE b (asLet x (formE a Γ) Γ) u) _ l s
+        (placedE b (asLet x (formE a Γ) Γ) u v l (λ f i. s f (restE a Γ _ f i)) h),
   )
   placedE (lambda x b) Γ u v l s h = (s _ (wholeE (lambda x b) Γ u), placedE b (asLambda x Γ) _ v l s h)
   placedE (name x r) Γ u v l s h = (s _ (in-self _ _), placedC r (named x Γ) Γ u v l (λ f i. s f (in-more _ _ f i)) h)

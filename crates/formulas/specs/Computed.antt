@@ -23,12 +23,12 @@ use Rattle.formulas.specs.Formulas.{formulas, parsed}
 unfoldable pub run : Model.State formulas → Model.Call formulas → Model.Outcome formulas
 unfolding parsed Names.bytes Names.packOnto Names.letWord Names.inWord! Names.dataWord Names.isData Members.spelled Members.arguments Members.sameBytes Members.namedIn
     Members.memberOf Members.takes Tokens.when Tokens.leading Tokens.decimalOnto Tokens.wordToken Tokens.wordAt Tokens.digitsAt Tokens.minusAt
-    Tokens.markToken Tokens.tokenAt Tokens.scan Faults.faultNumber Faults.opened Faults.inLambda Faults.isAmong
-    Faults.markFault Faults.lambdaFault Faults.letNameFault Faults.lambdaNameFault Faults.nameFault Faults.literalFault Faults.callFault Faults.fault
+    Tokens.markToken Tokens.tokenAt Tokens.scan Faults.faultNumber Faults.opened Faults.inLambda
+    Faults.markFault Faults.lambdaFault Faults.binderFault Faults.nameFault Faults.literalFault Faults.callFault Faults.fault
     Faults.counted Reading.placeIn Machine.step Machine.finish Machine.further Machine.ended Machine.judge Machine.readFrom Machine.read
     Machine.readText Values.ranged Numbers.divided Windows.total Windows.foldFrom Windows.extreme Stretches.stretchesFrom Stretches.sums
     Stretches.firstAt Stretches.bestSum Stretches.bestAt Runs.results Runs.countOf Runs.stretch Runs.longest Rules.rule Apply.apply0
-    Apply.apply1 Forms.shapeOf Forms.integerOf Forms.nameOf Forms.memberOf Forms.firstOf Forms.secondOf Forms.same Forms.within Forms.works Binding.lookUp Binding.named
+    Apply.apply1 Forms.shapeOf Forms.integerOf Forms.nameOf Forms.memberOf Forms.firstOf Forms.secondOf Forms.same Forms.within Forms.works Binding.lookUp Binding.named Binding.lambdas
     Binding.member Binding.formE Binding.called Binding.placesE Binding.orderE Evaluation.valueOf Evaluation.runOf Evaluation.lookup
     Evaluation.settled Evaluation.evaluate Evaluation.hasName Evaluation.joined Evaluation.without Evaluation.awaited Evaluation.shows Lists.countIf
     Lists.onFirsts Lists.member Lists.index Model.onOpen Model.hold Model.holdAll Model.bind Model.onEdit Model.pending Model.look Model.onPreview

@@ -21,11 +21,16 @@ wholeOf (notYet k) = 0
 wholeOf (finished k v) = 0
 wholeOf (printed t) = 0
 
-unfoldable pub shownBack : String → Answer formulas
+-- the entry that is printed is taken from the edit's answer
+unfoldable pub shownAt : (Answer formulas → ℕ) → String → Answer formulas
 unfolding run Names.bytes
-shownBack text =
+shownAt entry text =
     let e : Outcome formulas = run (start formulas recording) (editOf (bytes text)) in
-    run (e .state) (lent (Print (wholeOf (e .answer)) (replicate 1024 0))) .answer
+    run (e .state) (lent (Print (entry (e .answer)) (replicate 1024 0))) .answer
+
+unfoldable pub shownBack : String → Answer formulas
+unfolding shownAt
+shownBack text = shownAt wholeOf text
 
 unfoldable pub bytesOf : String → Answer formulas
 unfolding Names.bytes
@@ -42,6 +47,8 @@ shown =
     ∷ ("\\a->-1", "\\a -> -1")
     ∷ ("data.sumBy(\\p->data.countWhere(\\q->(q).gt(p)))", "data.sumBy(\\p -> data.countWhere(\\q -> q.gt(p)))")
     ∷ ("let f = \\a -> a in f.count()", "(\\a -> a).count()")
+    -- an inner lambda of the outer one's name
+    ∷ ("\\a -> let x = 1 in data.sumBy(\\a -> a.add(x))", "\\a -> data.sumBy(\\a -> a.add(1))")
     ∷ []
 
 pub shown-back : map (λ (x : String × String). shownBack (x .0)) shown ≡ map (λ (x : String × String). bytesOf (x .1)) shown
@@ -53,7 +60,17 @@ pub captured : shownBack "let y = b in \\b -> y" ≡ refused 16 0
 unfolding shownBack
 captured = refl
 
--- the reader would decline the text with 11: the inner function has the name of the outer one
-pub reused : shownBack "let f = \\a -> a in \\a -> data.sumBy(f)" ≡ refused 15 0
+-- 02, T-05: the function is written outside any lambda, and would be read as one inside another
+pub moved : shownBack "let f = \\a -> a in \\a -> data.sumBy(f)" ≡ refused 16 0
 unfolding shownBack
-reused = refl
+moved = refl
+
+-- the inner lambda would hide the outer one, whose variable is meant
+pub hidden : shownBack "\\a -> let x = a in \\a -> x" ≡ refused 16 0
+unfolding shownBack
+hidden = refl
+
+-- a function from inside another lambda, printed by itself, would be read as one outside any
+pub alone : shownAt (λ _. 2) "\\b -> data.sumBy(\\a -> a)" ≡ refused 16 0
+unfolding shownAt
+alone = refl

@@ -7,7 +7,7 @@ use Prim.Native.Nat.{ℕ, zero, suc}
 use lib.IntN.{pos}
 use lib.ListN.{replicate}
 use Rattle.language.specs.Names.{bytes}
-use Rattle.meaning.specs.Forms.{number, variable, function}
+use Rattle.meaning.specs.Forms.{withLevel, number, variable, function}
 use Rattle.model.specs.Model.{State, Entry, unmarked, Request, Open, Edit, Preview, Print, Call, refused, edited, start}
 use Rattle.formulas.specs.Formulas.{formulas}
 use Rattle.formulas.specs.Computed.{run}
@@ -31,12 +31,20 @@ begun = start formulas recording
 abbrev places : ℕ → List ℕ
 places n = replicate n 0
 
--- a number; a lambda variable; and a function whose body is a function of the same name
+-- the variable a of that level; a number; a lambda variable; three functions in one another, and the second of two
+abbrev a : ℕ → ℕ
+a level = withLevel 97 level
+
 abbrev heldState : State formulas
 heldState =
     record {
       recording = recording;
-      entries = unmarked formulas (number (pos 12345)) ∷ unmarked formulas (variable 97) ∷ unmarked formulas (function 97 (function 97 (variable 97))) ∷ [];
+      entries =
+          unmarked formulas (number (pos 12345))
+          ∷ unmarked formulas (variable (a 0))
+          ∷ unmarked formulas (function (a 0) (function (a 1) (function (a 2) (variable (a 2)))))
+          ∷ unmarked formulas (function (a 1) (variable (a 1)))
+          ∷ [];
     }
 
 abbrev declined : List (State formulas × Call formulas × ℕ)
@@ -55,12 +63,13 @@ declined =
     ∷ (fullState, lent (Preview 512 1), 14)
     ∷ (begun, short (Print 0 []), 3)
     ∷ (begun, lent (Print 0 []), 14)
-    -- one byte too few; a lambda with the name of one around it, which the reader declines with 11; both before 16
+    -- one byte too few; a third open \, which the reader declines with 10; both before 16
     ∷ (heldState, lent (Print 0 (places 4)), 15)
     ∷ (heldState, lent (Print 2 (places 1024)), 15)
     ∷ (heldState, lent (Print 1 []), 15)
-    -- a delayed part would be read as an unbound name
+    -- a delayed part would be read as an unbound name, and a function from inside another lambda as one outside any
     ∷ (heldState, lent (Print 1 (places 1024)), 16)
+    ∷ (heldState, lent (Print 3 (places 1024)), 16)
     ∷ []
 
 abbrev Declining : Type 0

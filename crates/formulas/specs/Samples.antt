@@ -1,5 +1,5 @@
 -- 01, "Sample previews": the starred samples, as sessions of the reference model, and one computed check over the list; and likewise samples
--- of hiding, and of 02, T-01.
+-- of hiding, and of 02, T-01, T-02 and T-05.
 -- Assumes nothing.
 use mathlib.Core.Path.{_≡_, refl}
 use mathlib.Core.Bool.{true}
@@ -9,7 +9,7 @@ use lib.IntN.{ℤ, pos, negsuc}
 use lib.ListN.{replicate}
 use Rattle.language.specs.Limits.{textParts}
 use Rattle.language.specs.Names.{bytes}
-use Rattle.meaning.specs.Evaluation.{Shown, aNumber, aWindow, aFunction, aReason}
+use Rattle.meaning.specs.Evaluation.{Shown, aNumber, aWindow, aFunction, aDelay, aReason}
 use Rattle.model.specs.Model.{State, Request, Edit, Preview, Call, Answer, edited, finished, Outcome, start}
 use Rattle.formulas.specs.Formulas.{formulas}
 use Rattle.formulas.specs.Computed.{run}
@@ -97,6 +97,41 @@ divisions =
 pub divisions-hold : map (heard (start formulas recording)) divisions ≡ map expected divisions
 unfolding heard expected run
 divisions-hold = refl
+
+-- 02, T-05: a lambda has its level, by the place where it is written. A function written inside another lambda is not the entry of its twin outside
+-- any; a let's value is, wherever its name is used; an inner lambda hides an outer one of its name, and a let between them keeps the outer variable.
+abbrev pub levels : List (List Sample)
+levels =
+    (record { text = bytes "data.sumBy(\\a -> a)"; whole = 3; parts = 4; new = 4; places = 0 ∷ 3 ∷ 2 ∷ 1 ∷ []; worked = 2; shown = aNumber (pos 755) }
+    ∷ record { text = bytes "\\b -> data.sumBy(\\a -> a)"; whole = 7; parts = 5; new = 4; places = 7 ∷ 0 ∷ 6 ∷ 5 ∷ 4 ∷ []; worked = 3; shown = aFunction 98 } ∷ [])
+    ∷ (record { text = bytes "let f = \\a -> a in \\b -> data.sumBy(f)"; whole = 4; parts = 7; new = 5; places = 4 ∷ 1 ∷ 0 ∷ 4 ∷ 2 ∷ 3 ∷ 1 ∷ []; worked = 3; shown = aFunction 98 }
+    ∷ record { text = bytes "data.sumBy(\\a -> a)"; whole = 3; parts = 4; new = 0; places = 2 ∷ 3 ∷ 1 ∷ 0 ∷ []; worked = 0; shown = aNumber (pos 755) } ∷ [])
+    ∷ (record { text = bytes "\\a -> \\a -> a"; whole = 2; parts = 3; new = 3; places = 2 ∷ 1 ∷ 0 ∷ []; worked = 2; shown = aFunction 97 } ∷ [])
+    ∷ (record {
+      text = bytes "data.sumBy(\\a -> let x = a in data.countWhere(\\a -> a.gt(x)))";
+      whole = 7;
+      parts = 11;
+      new = 8;
+      places = 0 ∷ 7 ∷ 6 ∷ 5 ∷ 1 ∷ 0 ∷ 5 ∷ 4 ∷ 2 ∷ 3 ∷ 1 ∷ [];
+      worked = 5;
+      shown = aNumber (pos 10);
+    } ∷ [])
+    ∷ []
+
+pub levels-hold : map (heard (start formulas recording)) levels ≡ map expected levels
+unfolding heard expected run
+levels-hold = refl
+
+-- a part that waits for two variables of one spelling names it twice
+unfoldable pub between : List (Answer formulas)
+unfolding run
+between =
+    let e : Outcome formulas = run (start formulas recording) (editOf (bytes "\\a -> let x = a in \\a -> x.add(a)")) in
+    e .answer ∷ run (e .state) (lent (Preview 2 512)) .answer ∷ []
+
+pub named-twice : between ≡ edited 4 7 5 (4 ∷ 3 ∷ 0 ∷ 3 ∷ 0 ∷ 2 ∷ 1 ∷ []) ∷ finished 1 (aDelay (97 ∷ 97 ∷ [])) ∷ []
+unfolding between
+named-twice = refl
 
 -- 02, T-01: the best stretch of a window, its sum and where it begins
 abbrev pub stretches : List (List Sample)

@@ -13,10 +13,10 @@ use lib.IntN.{ℤ}
 use lib.ListN.{length, getD}
 use lib.Signed.{ltZ, _≤ℤ_, ltZ-yes, ltZ-no, clashℤ}
 use Rattle.language.specs.Limits.{textParts, openMarks, openLambdas, nameBytes, leastNumber, mostNumber}
-use Rattle.language.specs.Names.{packed, sameName, isLong, isData, dataWord}
-use Rattle.grammar.specs.Faults.{Fault, fine, outOfRange, longName, dataBound, badCall, manyLambdas, reusedName, tooMany, faultNumber, Around}
-use Rattle.grammar.specs.Faults.{isAmong, deep, markFault, lambdaFault, letNameFault, lambdaNameFault, nameFault, literalFault, callFault, note, orMany, fault}
-use Rattle.grammar.specs.KeptLimits.{NotAmong, NotData, InRange}
+use Rattle.language.specs.Names.{packed, isLong, isData, dataWord}
+use Rattle.grammar.specs.Faults.{Fault, fine, outOfRange, longName, dataBound, badCall, manyLambdas, tooMany, faultNumber, Around}
+use Rattle.grammar.specs.Faults.{deep, markFault, lambdaFault, binderFault, nameFault, literalFault, callFault, note, orMany, fault}
+use Rattle.grammar.specs.KeptLimits.{NotData, InRange}
 
 -- tests, as what they test
 pub is-false : (b : Bool) → (b ≡ false) ↔ (¬ (b ≡ true))
@@ -44,12 +44,6 @@ is-data x = eqb-iff (packed x) (packed dataWord)
 not-data : (x : List ℕ) → (isData x ≡ false) ↔ NotData x
 not-data x = Iff·trans (is-false (isData x)) (Iff·not (is-data x))
 
-new-name : (x : List ℕ) (bs : List (List ℕ)) → (isAmong x bs ≡ false) ↔ NotAmong x bs
-unfolding isAmong
-new-name x [] = (λ h. tt, λ h. refl)
-new-name x (y ∷ bs) =
-    Iff·trans (neither (sameName x y) (isAmong x bs)) (Iff·and (Iff·trans (is-false (sameName x y)) (Iff·not (eqb-iff (packed x) (packed y)))) (new-name x bs))
-
 not-less : (a b : ℤ) → (ltZ a b ≡ false) ↔ (b ≤ℤ a)
 not-less a b = (λ h. ltZ-no (rw h tt), λ h. is-false (ltZ a b) .1 (λ e. clashℤ (ltZ-yes (rw e tt)) h))
 
@@ -62,9 +56,9 @@ in-range z = Iff·trans (neither (ltZ z leastNumber) (ltZ mostNumber z)) (Iff·a
 true-not : (b : Bool) (A : Type 0) → (b ≡ false) ↔ A → (b ≡ true) ↔ (¬ A)
 true-not b A h = Iff·trans (Iff·symm (eq-true-eq-not-eq-false b)) (Iff·not h)
 
--- a fault is known by its number
+-- a fault is known by its number; 11 is no fault's
 faultOf : ℕ → Fault
-faultOf n = getD (fine ∷ outOfRange ∷ longName ∷ dataBound ∷ badCall ∷ manyLambdas ∷ reusedName ∷ tooMany ∷ []) (n - 5) fine
+faultOf n = getD (fine ∷ outOfRange ∷ longName ∷ dataBound ∷ badCall ∷ manyLambdas ∷ fine ∷ tooMany ∷ []) (n - 5) fine
 
 fault-of-number : (f : Fault) → faultOf (faultNumber f) ≡ f
 unfolding faultOf faultNumber
@@ -74,13 +68,12 @@ fault-of-number longName = refl
 fault-of-number dataBound = refl
 fault-of-number badCall = refl
 fault-of-number manyLambdas = refl
-fault-of-number reusedName = refl
 fault-of-number tooMany = refl
 
 pub same-fault : (f g : Fault) → faultNumber f ≡ faultNumber g → f ≡ g
 same-fault f g h = sym (fault-of-number f) ∙ ap faultOf h ∙ fault-of-number g
 
--- the fault behind a refused number: from 6 to 11 the token's own; at 12 the token's own, or it is a 129th part
+-- the fault behind a refused number: from 6 to 10 the token's own; at 12 the token's own, or it is a 129th part
 number-cases : (f : Fault) (b : Bool) → (orMany (faultNumber f) b ≡ faultNumber f) ⊎ ((orMany (faultNumber f) b ≡ faultNumber tooMany) × (f ≡ fine) × (b ≡ true))
 unfolding faultNumber
 number-cases fine true = inr (refl, refl, refl)
@@ -90,7 +83,6 @@ number-cases longName b = inl refl
 number-cases dataBound b = inl refl
 number-cases badCall b = inl refl
 number-cases manyLambdas b = inl refl
-number-cases reusedName b = inl refl
 number-cases tooMany b = inl refl
 
 pub number-means : (c : ℕ) (f : Fault) (p : Bool) (g : Fault) → fault c (note f p) ≡ faultNumber g
@@ -143,22 +135,15 @@ module _ (d : Around) where
   unfolding faultNumber markFault
   mark-fine w = Iff·trans (past w badCall (deep d) fine tt) (Iff·and Iff·rfl deep-fine)
 
-  pub lambda-fine : (w : Bool) → (lambdaFault w d ≡ fine) ↔ ((w ≡ false) × ((length (d .lambdas) < openLambdas) × (d .marks < openMarks)))
+  pub lambda-fine : (w : Bool) → (lambdaFault w d ≡ fine) ↔ ((w ≡ false) × ((d .lambdas < openLambdas) × (d .marks < openMarks)))
   unfolding faultNumber lambdaFault
   lambda-fine w =
       Iff·trans (past w badCall _ fine tt) (Iff·and Iff·rfl
-      (Iff·trans (past (leb openLambdas (length (d .lambdas))) manyLambdas (deep d) fine tt) (Iff·and (not-leb-iff openLambdas (length (d .lambdas))) deep-fine)))
+      (Iff·trans (past (leb openLambdas (d .lambdas)) manyLambdas (deep d) fine tt) (Iff·and (not-leb-iff openLambdas (d .lambdas)) deep-fine)))
 
-  pub lambda-name-fine : (x : List ℕ) → (lambdaNameFault x d ≡ fine) ↔ ((length x ≤ nameBytes) × (NotData x × NotAmong x (d .lambdas)))
-  unfolding faultNumber lambdaNameFault
-  lambda-name-fine x =
-      Iff·trans (past (isLong x) longName _ fine tt) (Iff·and (short x)
-      (Iff·trans (past (isData x) dataBound _ fine tt) (Iff·and (not-data x)
-      (Iff·trans (clear (isAmong x (d .lambdas)) reusedName tt) (new-name x (d .lambdas))))))
-
-pub let-name-fine : (x : List ℕ) → (letNameFault x ≡ fine) ↔ ((length x ≤ nameBytes) × NotData x)
-unfolding faultNumber letNameFault
-let-name-fine x =
+pub binder-fine : (x : List ℕ) → (binderFault x ≡ fine) ↔ ((length x ≤ nameBytes) × NotData x)
+unfolding faultNumber binderFault
+binder-fine x =
     Iff·trans (past (isLong x) longName _ fine tt) (Iff·and (short x) (Iff·trans (clear (isData x) dataBound tt) (not-data x)))
 
 pub name-fine : (w : Bool) (x : List ℕ) → (nameFault w x ≡ fine) ↔ ((length x ≤ nameBytes) × (w ≡ false))
@@ -185,26 +170,14 @@ pub seven-name : (w : Bool) (x : List ℕ) → (nameFault w x ≡ longName) ↔ 
 unfolding faultNumber nameFault
 seven-name w x = Iff·trans (hit (isLong x) longName _ (misses w badCall longName tt tt)) (long x)
 
-pub seven-let : (x : List ℕ) → (letNameFault x ≡ longName) ↔ (nameBytes < length x)
-unfolding faultNumber letNameFault
-seven-let x = Iff·trans (hit (isLong x) longName _ (misses (isData x) dataBound longName tt tt)) (long x)
-
-pub seven-lambda : (x : List ℕ) (d : Around) → (lambdaNameFault x d ≡ longName) ↔ (nameBytes < length x)
-unfolding faultNumber lambdaNameFault
-seven-lambda x d =
-    Iff·trans (hit (isLong x) longName _ (lacks (isData x) dataBound _ longName tt
-    (misses (isAmong x (d .lambdas)) reusedName longName tt tt))) (long x)
+pub seven-binder : (x : List ℕ) → (binderFault x ≡ longName) ↔ (nameBytes < length x)
+unfolding faultNumber binderFault
+seven-binder x = Iff·trans (hit (isLong x) longName _ (misses (isData x) dataBound longName tt tt)) (long x)
 
 -- 8: data bound
-pub eight-let : (x : List ℕ) → (letNameFault x ≡ dataBound) ↔ ((length x ≤ nameBytes) × (packed x ≡ packed dataWord))
-unfolding faultNumber letNameFault
-eight-let x = Iff·trans (past (isLong x) longName _ dataBound tt) (Iff·and (short x) (Iff·trans (only (isData x) dataBound tt) (is-data x)))
-
-pub eight-lambda : (x : List ℕ) (d : Around) → (lambdaNameFault x d ≡ dataBound) ↔ ((length x ≤ nameBytes) × (packed x ≡ packed dataWord))
-unfolding faultNumber lambdaNameFault
-eight-lambda x d =
-    Iff·trans (past (isLong x) longName _ dataBound tt) (Iff·and (short x)
-    (Iff·trans (hit (isData x) dataBound _ (misses (isAmong x (d .lambdas)) reusedName dataBound tt tt)) (is-data x)))
+pub eight-binder : (x : List ℕ) → (binderFault x ≡ dataBound) ↔ ((length x ≤ nameBytes) × (packed x ≡ packed dataWord))
+unfolding faultNumber binderFault
+eight-binder x = Iff·trans (past (isLong x) longName _ dataBound tt) (Iff·and (short x) (Iff·trans (only (isData x) dataBound tt) (is-data x)))
 
 -- 9: a member, ) or comma that is wrong, or an expression where a member takes no argument
 pub nine-call : (b : Bool) → (callFault b ≡ badCall) ↔ (b ≡ true)
@@ -218,7 +191,7 @@ nine-mark w d = hit w badCall (deep d) (misses (leb openMarks (d .marks)) tooMan
 pub nine-lambda : (w : Bool) (d : Around) → (lambdaFault w d ≡ badCall) ↔ (w ≡ true)
 unfolding faultNumber lambdaFault
 nine-lambda w d =
-    hit w badCall _ (lacks (leb openLambdas (length (d .lambdas))) manyLambdas (deep d) badCall tt
+    hit w badCall _ (lacks (leb openLambdas (d .lambdas)) manyLambdas (deep d) badCall tt
     (misses (leb openMarks (d .marks)) tooMany badCall tt tt))
 
 pub nine-name : (w : Bool) (x : List ℕ) → (nameFault w x ≡ badCall) ↔ ((length x ≤ nameBytes) × (w ≡ true))
@@ -230,20 +203,12 @@ unfolding faultNumber literalFault
 nine-number w z = Iff·trans (past (outside z) outOfRange _ badCall tt) (Iff·and (in-range z) (only w badCall tt))
 
 -- 10: a third open \
-pub ten : (w : Bool) (d : Around) → (lambdaFault w d ≡ manyLambdas) ↔ ((w ≡ false) × (openLambdas ≤ length (d .lambdas)))
+pub ten : (w : Bool) (d : Around) → (lambdaFault w d ≡ manyLambdas) ↔ ((w ≡ false) × (openLambdas ≤ d .lambdas))
 unfolding faultNumber lambdaFault
 ten w d =
     Iff·trans (past w badCall _ manyLambdas tt) (Iff·and Iff·rfl
-    (Iff·trans (hit (leb openLambdas (length (d .lambdas))) manyLambdas (deep d) (misses (leb openMarks (d .marks)) tooMany manyLambdas tt tt))
-    (leb-iff openLambdas (length (d .lambdas)))))
-
--- 11: the name of a lambda around
-pub eleven : (x : List ℕ) (d : Around) → (lambdaNameFault x d ≡ reusedName) ↔ ((length x ≤ nameBytes) × (NotData x × (¬ NotAmong x (d .lambdas))))
-unfolding faultNumber lambdaNameFault
-eleven x d =
-    Iff·trans (past (isLong x) longName _ reusedName tt) (Iff·and (short x)
-    (Iff·trans (past (isData x) dataBound _ reusedName tt) (Iff·and (not-data x)
-    (Iff·trans (only (isAmong x (d .lambdas)) reusedName tt) (true-not (isAmong x (d .lambdas)) _ (new-name x (d .lambdas)))))))
+    (Iff·trans (hit (leb openLambdas (d .lambdas)) manyLambdas (deep d) (misses (leb openMarks (d .marks)) tooMany manyLambdas tt tt))
+    (leb-iff openLambdas (d .lambdas))))
 
 -- 12: a 17th open mark; a 129th part is in number-means
 pub twelve : (d : Around) → (deep d ≡ tooMany) ↔ (openMarks ≤ d .marks)
@@ -254,8 +219,8 @@ pub twelve-mark : (w : Bool) (d : Around) → (markFault w d ≡ tooMany) ↔ ((
 unfolding faultNumber markFault
 twelve-mark w d = Iff·trans (past w badCall (deep d) tooMany tt) (Iff·and Iff·rfl (twelve d))
 
-pub twelve-lambda : (w : Bool) (d : Around) → (lambdaFault w d ≡ tooMany) ↔ ((w ≡ false) × ((length (d .lambdas) < openLambdas) × (openMarks ≤ d .marks)))
+pub twelve-lambda : (w : Bool) (d : Around) → (lambdaFault w d ≡ tooMany) ↔ ((w ≡ false) × ((d .lambdas < openLambdas) × (openMarks ≤ d .marks)))
 unfolding faultNumber lambdaFault
 twelve-lambda w d =
     Iff·trans (past w badCall _ tooMany tt) (Iff·and Iff·rfl
-    (Iff·trans (past (leb openLambdas (length (d .lambdas))) manyLambdas (deep d) tooMany tt) (Iff·and (not-leb-iff openLambdas (length (d .lambdas))) (twelve d))))
+    (Iff·trans (past (leb openLambdas (d .lambdas)) manyLambdas (deep d) tooMany tt) (Iff·and (not-leb-iff openLambdas (d .lambdas)) (twelve d))))

@@ -7,18 +7,17 @@ use mathlib.Core.List.{List, [], _∷_}
 use Prim.Native.Nat.{ℕ, zero, suc, _-_}
 use lib.Dec.{leb, eqb}
 use lib.IntN.{ℤ}
-use lib.ListN.{length}
 use lib.Signed.{ltZ}
 use Rattle.language.specs.Limits.{textParts, openMarks, openLambdas, leastNumber, mostNumber}
-use Rattle.language.specs.Names.{sameName, isLong, isData}
+use Rattle.language.specs.Names.{isLong, isData}
 use Rattle.members.specs.Members.{memberOf, isUnknown, takes}
 use Rattle.grammar.specs.Grammar.{Expression, Calls, Arguments, More, letIn, lambda, name, literal, bracket, done, call, none, first, last, next}
 
 -- the refusals that a token can meet, apart from 5, which is the grammar's
 pub data Fault : Type 0 where
-  fine outOfRange longName dataBound badCall manyLambdas reusedName tooMany : Fault
+  fine outOfRange longName dataBound badCall manyLambdas tooMany : Fault
 
--- 01, "When a call is declined": their numbers, 0 for no fault
+-- 01, "When a call is declined": their numbers, 0 for no fault. None has number 11: an inner lambda hides an outer one of its name (02, T-05)
 unfoldable pub faultNumber : Fault → ℕ
 faultNumber fine = 0
 faultNumber outOfRange = 6
@@ -26,27 +25,21 @@ faultNumber longName = 7
 faultNumber dataBound = 8
 faultNumber badCall = 9
 faultNumber manyLambdas = 10
-faultNumber reusedName = 11
 faultNumber tooMany = 12
 
--- where an expression stands: how many of let, \ and ( are open, and the names of the lambdas around it, also where a let hides them
+-- where an expression stands: how many of let, \ and ( are open, and how many of \
 pub record Around : Type 0 where
   pub marks : ℕ
-  pub lambdas : List (List ℕ)
+  pub lambdas : ℕ
 
 abbrev pub outermost : Around
-outermost = record { marks = 0; lambdas = [] }
+outermost = record { marks = 0; lambdas = 0 }
 
 unfoldable pub opened : Around → Around
 opened d = record { marks = suc (d .marks); lambdas = d .lambdas }
 
-unfoldable pub inLambda : List ℕ → Around → Around
-inLambda x d = record { marks = suc (d .marks); lambdas = x ∷ d .lambdas }
-
--- one of the names is x
-unfoldable pub isAmong : List ℕ → List (List ℕ) → Bool
-isAmong x [] = false
-isAmong x (y ∷ ys) = sameName x y || isAmong x ys
+unfoldable pub inLambda : Around → Around
+inLambda d = record { marks = suc (d .marks); lambdas = suc (d .lambdas) }
 
 -- the faults of single tokens; refused: an expression begins where a member takes no argument
 abbrev pub deep : Around → Fault
@@ -56,13 +49,11 @@ unfoldable pub markFault : Bool → Around → Fault
 markFault refused d = cond refused badCall (deep d)
 
 unfoldable pub lambdaFault : Bool → Around → Fault
-lambdaFault refused d = cond refused badCall (cond (leb openLambdas (length (d .lambdas))) manyLambdas (deep d))
+lambdaFault refused d = cond refused badCall (cond (leb openLambdas (d .lambdas)) manyLambdas (deep d))
 
-unfoldable pub letNameFault : List ℕ → Fault
-letNameFault x = cond (isLong x) longName (cond (isData x) dataBound fine)
-
-unfoldable pub lambdaNameFault : List ℕ → Around → Fault
-lambdaNameFault x d = cond (isLong x) longName (cond (isData x) dataBound (cond (isAmong x (d .lambdas)) reusedName fine))
+-- the name that a let or a lambda binds
+unfoldable pub binderFault : List ℕ → Fault
+binderFault x = cond (isLong x) longName (cond (isData x) dataBound fine)
 
 unfoldable pub nameFault : Bool → List ℕ → Fault
 nameFault refused x = cond (isLong x) longName (cond refused badCall fine)
@@ -83,8 +74,8 @@ plain = note fine false
 -- the notes of a tree's tokens, at d, and then u
 unfoldable mutual
   pub notesE : Expression → Bool → Around → List Note → List Note
-  notesE (letIn x a b) w d u = note (markFault w d) true ∷ note (letNameFault x) false ∷ plain ∷ notesE a false (opened d) (plain ∷ notesE b false (opened d) u)
-  notesE (lambda x b) w d u = note (lambdaFault w d) true ∷ note (lambdaNameFault x d) false ∷ plain ∷ notesE b false (inLambda x d) u
+  notesE (letIn x a b) w d u = note (markFault w d) true ∷ note (binderFault x) false ∷ plain ∷ notesE a false (opened d) (plain ∷ notesE b false (opened d) u)
+  notesE (lambda x b) w d u = note (lambdaFault w d) true ∷ note (binderFault x) false ∷ plain ∷ notesE b false (inLambda d) u
   notesE (name x r) w d u = note (nameFault w x) true ∷ notesC r d u
   notesE (literal z r) w d u = note (literalFault w z) true ∷ notesC r d u
   notesE (bracket e r) w d u = note (markFault w d) false ∷ notesE e false (opened d) (plain ∷ notesC r d u)

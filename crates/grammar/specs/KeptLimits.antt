@@ -3,7 +3,7 @@
 -- Assumes nothing: these are definitions.
 use mathlib.Core.Path.{_≡_}
 use mathlib.Core.Bool.{false}
-use mathlib.Core.List.{List, [], _∷_}
+use mathlib.Core.List.{List}
 use Prim.Native.Nat.{ℕ, suc, _+_, _<_, _≤_}
 use lib.IntN.{ℤ}
 use lib.ListN.{length}
@@ -59,7 +59,7 @@ module _ (P : Site → Around → Type 0) where
   abbrev mutual
     pub EverywhereE : Expression → Around → Type 0
     EverywhereE (letIn x a b) d = P (aLet x) d × EverywhereE a (opened d) × EverywhereE b (opened d)
-    EverywhereE (lambda x b) d = P (aLambda x) d × EverywhereE b (inLambda x d)
+    EverywhereE (lambda x b) d = P (aLambda x) d × EverywhereE b (inLambda d)
     EverywhereE (name x r) d = P (aName x) d × EverywhereC r d
     EverywhereE (literal z r) d = P (aNumber z) d × EverywhereC r d
     EverywhereE (bracket e r) d = P aBracket d × EverywhereE e (opened d) × EverywhereC r d
@@ -76,11 +76,6 @@ module _ (P : Site → Around → Type 0) where
     EverywhereM (last r) d = EverywhereC r d
     EverywhereM (next e x) d = EverywhereE e (opened d) × EverywhereM x d
 
--- none of the names is x
-abbrev pub NotAmong : List ℕ → List (List ℕ) → Type 0
-NotAmong x [] = Unit {0}
-NotAmong x (y ∷ ys) = (¬ (packed x ≡ packed y)) × NotAmong x ys
-
 -- data is not bound
 abbrev pub NotData : List ℕ → Type 0
 NotData x = ¬ (packed x ≡ packed dataWord)
@@ -90,12 +85,10 @@ abbrev pub InRange : ℤ → Type 0
 InRange z = (leastNumber ≤ℤ z) × (z ≤ℤ mostNumber)
 
 -- The table of limits. At most 16 of let, \ and ( are open at a point, and at most 2 of \: where one opens, fewer are. Names have at most 8
--- bytes. No lambda has the name of one around it, also where a let hides that one. Each member is known, and is given as many arguments as it
--- takes.
+-- bytes. Each member is known, and is given as many arguments as it takes.
 abbrev pub Limited : Site → Around → Type 0
 Limited (aLet x) d = (d .marks < openMarks) × ((length x ≤ nameBytes) × NotData x)
-Limited (aLambda x) d =
-    ((length (d .lambdas) < openLambdas) × (d .marks < openMarks)) × ((length x ≤ nameBytes) × (NotData x × NotAmong x (d .lambdas)))
+Limited (aLambda x) d = ((d .lambdas < openLambdas) × (d .marks < openMarks)) × ((length x ≤ nameBytes) × NotData x)
 Limited aBracket d = d .marks < openMarks
 Limited (aName x) d = length x ≤ nameBytes
 Limited (aNumber z) d = InRange z

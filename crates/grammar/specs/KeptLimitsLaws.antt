@@ -15,8 +15,8 @@ use Rattle.grammar.specs.Faults.{Fault, fine, faultNumber, Around, outer
 use Rattle.grammar.specs.Faults.{callFault, Note, note, plain, notesE, notesC, notesA, notesM, orMany, fault, counted, faults, faultsOf, Clean}
 use Rattle.grammar.specs.KeptLimits.{partsE, partsC, partsA, partsM, givenM, givenA, Site, aLet, aLambda, aBracket, aName, aNumber, aCall, EverywhereE, EverywhereC, EverywhereA, EverywhereM}
 use Rattle.grammar.specs.KeptLimits.{Limited, KeepsLimits}
-use Rattle.grammar.specs.SingleLimits.{FewLambdas, NewLambdas, ShortNames, DataUnbound, SmallNumbers, RightCalls, KeepsEach}
-use Rattle.grammar.specs.FaultLaws.{not-leb-iff, eqb-iff, is-false, same-fault, deep-fine, mark-fine, lambda-fine, lambda-name-fine, let-name-fine, name-fine, literal-fine, call-fine}
+use Rattle.grammar.specs.SingleLimits.{FewLambdas, ShortNames, DataUnbound, SmallNumbers, RightCalls, KeepsEach}
+use Rattle.grammar.specs.FaultLaws.{not-leb-iff, eqb-iff, is-false, same-fault, deep-fine, mark-fine, lambda-fine, binder-fine, name-fine, literal-fine, call-fine}
 
 abbrev AllFine : List Note → Type 0
 AllFine [] = Unit {0}
@@ -61,7 +61,7 @@ mutual
   parts-E (letIn x a b) w d u =
       let h = parts-E a false (opened d) (plain ∷ notesE b false (opened d) u) in
       let k = parts-E b false (opened d) u in omega arith
-  parts-E (lambda x b) w d u = let h = parts-E b false (inLambda x d) u in omega arith
+  parts-E (lambda x b) w d u = let h = parts-E b false (inLambda d) u in omega arith
   parts-E (name x r) w d u = let h = parts-C r d u in omega arith
   parts-E (literal z r) w d u = let h = parts-C r d u in omega arith
   parts-E (bracket e r) w d u = let h = parts-E e false (opened d) (plain ∷ notesC r d u) in let k = parts-C r d u in omega arith
@@ -96,16 +96,16 @@ mutual
             let m = mark-fine d w .0 (h .0) in
             let p = A .0 (h .1 .1 .1) in
             let q = B .0 (p .2 .1) in
-            (m .0, ((m .1, let-name-fine x .0 (h .1 .0)), p .1, q .1), q .2),
-        λ h. (mark-fine d w .1 (h .0, h .1 .0 .0), (let-name-fine x .1 (h .1 .0 .1), (refl, A .1 (refl, h .1 .1, (refl, B .1 (refl, h .1 .2, h .2)))))),
+            (m .0, ((m .1, binder-fine x .0 (h .1 .0)), p .1, q .1), q .2),
+        λ h. (mark-fine d w .1 (h .0, h .1 .0 .0), (binder-fine x .1 (h .1 .0 .1), (refl, A .1 (refl, h .1 .1, (refl, B .1 (refl, h .1 .2, h .2)))))),
       )
   fine-E (lambda x b) w d u =
-      let B = fine-E b false (inLambda x d) u in (
+      let B = fine-E b false (inLambda d) u in (
         λ h.
             let m = lambda-fine d w .0 (h .0) in
             let q = B .0 (h .1 .1 .1) in
-            (m .0, ((m .1, lambda-name-fine d x .0 (h .1 .0)), q .1), q .2),
-        λ h. (lambda-fine d w .1 (h .0, h .1 .0 .0), (lambda-name-fine d x .1 (h .1 .0 .1), (refl, B .1 (refl, h .1 .1, h .2)))),
+            (m .0, ((m .1, binder-fine x .0 (h .1 .0)), q .1), q .2),
+        λ h. (lambda-fine d w .1 (h .0, h .1 .0 .0), (binder-fine x .1 (h .1 .0 .1), (refl, B .1 (refl, h .1 .1, h .2)))),
       )
   fine-E (name x r) w d u = (
     λ h. let m = name-fine w x .0 (h .0) in let q = fine-C r d u .0 (h .1) in (m .1, (m .0, q .0), q .1),
@@ -174,7 +174,7 @@ module _ (P Q R : Site → Around → Type 0) (f : (s : Site) (d : Around) → P
   mutual
     pub weave-E : (e : Expression) (d : Around) → EverywhereE P e d → EverywhereE Q e d → EverywhereE R e d
     weave-E (letIn x a b) d p q = (f (aLet x) d (p .0) (q .0), weave-E a (opened d) (p .1) (q .1), weave-E b (opened d) (p .2) (q .2))
-    weave-E (lambda x b) d p q = (f (aLambda x) d (p .0) (q .0), weave-E b (inLambda x d) (p .1) (q .1))
+    weave-E (lambda x b) d p q = (f (aLambda x) d (p .0) (q .0), weave-E b (inLambda d) (p .1) (q .1))
     weave-E (name x r) d p q = (f (aName x) d (p .0) (q .0), weave-C r d (p .1) (q .1))
     weave-E (literal z r) d p q = (f (aNumber z) d (p .0) (q .0), weave-C r d (p .1) (q .1))
     weave-E (bracket e r) d p q = (f aBracket d (p .0) (q .0), weave-E e (opened d) (p .1) (q .1), weave-C r d (p .2) (q .2))
@@ -206,7 +206,6 @@ module _ (e : Expression) where
   keeps-each h =
       record {
         lambdas = onward Limited FewLambdas lambdas (h .sites);
-        lambdaNames = onward Limited NewLambdas lambdaNames (h .sites);
         names = onward Limited ShortNames names (h .sites);
         dataFree = onward Limited DataUnbound dataFree (h .sites);
         numbers = onward Limited SmallNumbers numbers (h .sites);
@@ -221,14 +220,6 @@ module _ (e : Expression) where
       lambdas (aNumber z) d h = tt
       lambdas (aCall m n) d h = tt
 
-      lambdaNames : (s : Site) (d : Around) → Limited s d → NewLambdas s d
-      lambdaNames (aLet x) d h = tt
-      lambdaNames (aLambda x) d h = h .1 .1 .1
-      lambdaNames aBracket d h = tt
-      lambdaNames (aName x) d h = tt
-      lambdaNames (aNumber z) d h = tt
-      lambdaNames (aCall m n) d h = tt
-
       names : (s : Site) (d : Around) → Limited s d → ShortNames s d
       names (aLet x) d h = h .1 .0
       names (aLambda x) d h = h .1 .0
@@ -239,7 +230,7 @@ module _ (e : Expression) where
 
       dataFree : (s : Site) (d : Around) → Limited s d → DataUnbound s d
       dataFree (aLet x) d h = h .1 .1
-      dataFree (aLambda x) d h = h .1 .1 .0
+      dataFree (aLambda x) d h = h .1 .1
       dataFree aBracket d h = tt
       dataFree (aName x) d h = tt
       dataFree (aNumber z) d h = tt

@@ -10,7 +10,7 @@ use Rattle.members.specs.Members.{memberOf, isUnknown, takes}
 use Rattle.grammar.specs.Tokens.{Token, kLet, kIn, kEquals, kLambda, kArrow, kDot, kOpen, kShut, kComma, word, number, other}
 use Rattle.grammar.specs.Grammar.{Expression, Calls, Arguments, More, letIn, lambda, name, literal, bracket, done, call, none, first, last, next}
 use Rattle.grammar.specs.Grammar.{spellE, spellC, spellA, spellM}
-use Rattle.grammar.specs.Faults.{fine, Around, outermost, opened, inLambda, deep, markFault, lambdaFault, letNameFault, lambdaNameFault}
+use Rattle.grammar.specs.Faults.{fine, Around, outermost, opened, inLambda, deep, markFault, lambdaFault, binderFault}
 use Rattle.grammar.specs.Faults.{nameFault, literalFault, callFault, Note, note, plain, notesE, notesC, notesA, notesM, fault, counted}
 use Rattle.grammar.specs.Reading.{Reading, tree, refused, placeOf, tokensOf}
 
@@ -88,10 +88,10 @@ spell (at p F) q = spellOwn p (q .0) (spellOuter F (q .1))
 -- and their notes
 unfoldable pub notesOwn : (p : Phase) → Own p → List Note → List Note
 notesOwn (expression w d) q u = notesE q w d u
-notesOwn (letName d) q u = note (letNameFault (q .0)) false ∷ plain ∷ notesE (q .1) false (opened d) (plain ∷ notesE (q .2) false (opened d) u)
+notesOwn (letName d) q u = note (binderFault (q .0)) false ∷ plain ∷ notesE (q .1) false (opened d) (plain ∷ notesE (q .2) false (opened d) u)
 notesOwn (letEquals x d) q u = plain ∷ notesE (q .0) false (opened d) (plain ∷ notesE (q .1) false (opened d) u)
-notesOwn (lambdaName d) q u = note (lambdaNameFault (q .0) d) false ∷ plain ∷ notesE (q .1) false (inLambda (q .0) d) u
-notesOwn (lambdaArrow x d) q u = plain ∷ notesE q false (inLambda x d) u
+notesOwn (lambdaName d) q u = note (binderFault (q .0)) false ∷ plain ∷ notesE (q .1) false (inLambda d) u
+notesOwn (lambdaArrow x d) q u = plain ∷ notesE q false (inLambda d) u
 notesOwn (calls d) q u = notesC q d u
 notesOwn (member d) q u = note (callFault (isUnknown (memberOf (q .0)))) false ∷ note (deep d) false ∷ notesA (q .1) (takes (memberOf (q .0))) d u
 notesOwn (callOpen k d) q u = note (deep d) false ∷ notesA q k d u
@@ -145,7 +145,7 @@ stepExpression w d F (other b) = stop
 
 unfoldable pub stepLetName : (d : Around) (F : List Frame) (t : Token) → Step (at (letName d) F) t
 unfolding spell notes onWord
-stepLetName d F t = onWord (λ x. go (note (letNameFault x) false) (at (letEquals x d) F) (λ q. ((x, q .0 .0, q .0 .1), q .1)) (λ q. refl) (λ q. refl)) t
+stepLetName d F t = onWord (λ x. go (note (binderFault x) false) (at (letEquals x d) F) (λ q. ((x, q .0 .0, q .0 .1), q .1)) (λ q. refl) (λ q. refl)) t
 
 unfoldable pub stepLetEquals : (x : List ℕ) (d : Around) (F : List Frame) (t : Token) → Step (at (letEquals x d) F) t
 unfolding spell notes
@@ -164,7 +164,7 @@ stepLetEquals x d F (other b) = stop
 
 unfoldable pub stepLambdaName : (d : Around) (F : List Frame) (t : Token) → Step (at (lambdaName d) F) t
 unfolding spell notes onWord
-stepLambdaName d F t = onWord (λ x. go (note (lambdaNameFault x d) false) (at (lambdaArrow x d) F) (λ q. ((x, q .0), q .1)) (λ q. refl) (λ q. refl)) t
+stepLambdaName d F t = onWord (λ x. go (note (binderFault x) false) (at (lambdaArrow x d) F) (λ q. ((x, q .0), q .1)) (λ q. refl) (λ q. refl)) t
 
 unfoldable pub stepLambdaArrow : (x : List ℕ) (d : Around) (F : List Frame) (t : Token) → Step (at (lambdaArrow x d) F) t
 unfolding spell notes
@@ -172,7 +172,7 @@ stepLambdaArrow x d F kLet = stop
 stepLambdaArrow x d F kIn = stop
 stepLambdaArrow x d F kEquals = stop
 stepLambdaArrow x d F kLambda = stop
-stepLambdaArrow x d F kArrow = go plain (at (expression false (inLambda x d)) F) (λ q. q) (λ q. refl) (λ q. refl)
+stepLambdaArrow x d F kArrow = go plain (at (expression false (inLambda d)) F) (λ q. q) (λ q. refl) (λ q. refl)
 stepLambdaArrow x d F kDot = stop
 stepLambdaArrow x d F kOpen = stop
 stepLambdaArrow x d F kShut = stop

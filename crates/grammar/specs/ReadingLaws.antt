@@ -9,7 +9,7 @@ use native.Mathlib.Decide.{ℕ-discrete}
 use lib.ListN.{take, getD}
 use Rattle.grammar.specs.Tokens.{Token}
 use Rattle.grammar.specs.Grammar.{Expression, spellE}
-use Rattle.grammar.specs.Faults.{Fault, fine, outOfRange, longName, dataBound, badCall, manyLambdas, reusedName, tooMany, faultNumber}
+use Rattle.grammar.specs.Faults.{Fault, fine, outOfRange, longName, dataBound, badCall, manyLambdas, tooMany, faultNumber}
 use Rattle.grammar.specs.Faults.{Note, note, notesE, outermost, orMany, fault, counted, faults, faultsOf, Clean}
 use Rattle.grammar.specs.Reading.{ReadsAs, RefusedBy}
 use Rattle.grammar.specs.MachineLaws.{no-cons}
@@ -24,7 +24,6 @@ fault-range longName b h = omega arith
 fault-range dataBound b h = omega arith
 fault-range badCall b h = omega arith
 fault-range manyLambdas b h = omega arith
-fault-range reusedName b h = omega arith
 fault-range tooMany b h = omega arith
 
 faults-range : (c : ℕ) (l : List Note) (j : ℕ) → ¬ (getD (faults c l) j 0 ≡ 0) → (6 ≤ getD (faults c l) j 0) × (getD (faults c l) j 0 ≤ 12)
@@ -43,6 +42,27 @@ refusal-range ts n j r = by (ℕ-discrete n 5)
     by : Dec (n ≡ 5) → (5 ≤ n) × (n ≤ 12)
     by (yes p) = omega arith
     by (no p) = let y = r .beyond p in let z = tree-range (y .0) j n (r .fault (y .0) (y .1)) (r .refusal) in omega arith
+
+-- 02, T-05: and never 11
+fault-number : (f : Fault) (b : Bool) → ¬ (orMany (faultNumber f) b ≡ 11)
+unfolding faultNumber
+fault-number fine true e = omega arith
+fault-number fine false e = omega arith
+fault-number outOfRange b e = omega arith
+fault-number longName b e = omega arith
+fault-number dataBound b e = omega arith
+fault-number badCall b e = omega arith
+fault-number manyLambdas b e = omega arith
+fault-number tooMany b e = omega arith
+
+faults-number : (c : ℕ) (l : List Note) (j : ℕ) → ¬ (getD (faults c l) j 0 ≡ 11)
+unfolding faults fault
+faults-number c [] j e = omega arith
+faults-number c (note f p ∷ l) zero e = fault-number f _ e
+faults-number c (note f p ∷ l) (suc j) e = faults-number (counted c (note f p)) l j e
+
+pub never-eleven : (ts : List Token) (n j : ℕ) → RefusedBy ts n j → ¬ (n ≡ 11)
+never-eleven ts n j r e = let y = r .beyond (λ (o : n ≡ 5). omega arith) in faults-number 0 (notesE (y .0) false outermost []) j (r .fault (y .0) (y .1) ∙ e)
 
 -- of a clean list no place is at fault
 clean-at : (l : List ℕ) (j : ℕ) → Clean l → getD l j 0 ≡ 0

@@ -8,25 +8,16 @@ use Rattle.language.specs.Limits.{openLambdas, nameBytes}
 use Rattle.members.specs.Members.{memberOf, isUnknown, takes}
 use Rattle.grammar.specs.Grammar.{Expression}
 use Rattle.grammar.specs.Faults.{Around, outermost}
-use Rattle.grammar.specs.KeptLimits.{Site, aLet, aLambda, aBracket, aName, aNumber, aCall, EverywhereE, NotAmong, NotData, InRange}
+use Rattle.grammar.specs.KeptLimits.{Site, aLet, aLambda, aBracket, aName, aNumber, aCall, EverywhereE, NotData, InRange}
 
 -- at most 2 of \ are open
 abbrev pub FewLambdas : Site → Around → Type 0
 FewLambdas (aLet x) d = Unit {0}
-FewLambdas (aLambda x) d = length (d .lambdas) < openLambdas
+FewLambdas (aLambda x) d = d .lambdas < openLambdas
 FewLambdas aBracket d = Unit {0}
 FewLambdas (aName x) d = Unit {0}
 FewLambdas (aNumber z) d = Unit {0}
 FewLambdas (aCall m n) d = Unit {0}
-
--- no lambda has the name of one around it, also where a let hides that one
-abbrev pub NewLambdas : Site → Around → Type 0
-NewLambdas (aLet x) d = Unit {0}
-NewLambdas (aLambda x) d = NotAmong x (d .lambdas)
-NewLambdas aBracket d = Unit {0}
-NewLambdas (aName x) d = Unit {0}
-NewLambdas (aNumber z) d = Unit {0}
-NewLambdas (aCall m n) d = Unit {0}
 
 -- names have at most 8 bytes
 abbrev pub ShortNames : Site → Around → Type 0
@@ -66,7 +57,6 @@ RightCalls (aCall m n) d = (isUnknown (memberOf m) ≡ false) × (n ≡ takes (m
 
 pub record KeepsEach (e : Expression) : Type 0 where
   pub lambdas : EverywhereE FewLambdas e outermost
-  pub lambdaNames : EverywhereE NewLambdas e outermost
   pub names : EverywhereE ShortNames e outermost
   pub dataFree : EverywhereE DataUnbound e outermost
   pub numbers : EverywhereE SmallNumbers e outermost

@@ -13,7 +13,7 @@ use Rattle.grammar.specs.KeptLimits.{KeepsLimits}
 use Rattle.grammar.specs.KeptLimitsLaws.{limits-kept}
 use Rattle.grammar.specs.Machine.{Trees, spell, notes, Answer, whole, stopped, readFrom, begin, alone, read, placed, readText}
 use Rattle.grammar.specs.ReadLaws.{no-whole, sound, complete, Refuses, refuses, same-trees}
-use Rattle.grammar.specs.ReadingLaws.{tree-range, not-both, one-refusal}
+use Rattle.grammar.specs.ReadingLaws.{tree-range, never-eleven, not-both, one-refusal}
 
 -- the grammar is not ambiguous
 pub one-tree : (ts : List Token) (e e' : Expression) → Spells e ts → Spells e' ts → e ≡ e'
@@ -92,3 +92,7 @@ text-refused text n p = (λ h. by (read (tokensOf text)) refl h, λ z. let r = r
     by : (x : Answer Expression) → read (tokensOf text) ≡ x → placed text x ≡ refused n p → (j : ℕ) × RefusedBy (tokensOf text) n j × (p ≡ placeOf text j)
     by (whole e) g h = let z : _≡_ {A = ℕ} 0 1 = cc in absurd (omega arith)
     by (stopped m j) g h = let a : m ≡ n = cc in (j, rw a at (read-refused (tokensOf text) m j g), cc)
+
+-- 02, T-05: no text is refused with 11, at any place
+pub text-never-eleven : (text : List ℕ) (n p : ℕ) → readText text ≡ refused n p → ¬ (n ≡ 11)
+text-never-eleven text n p h = let r = text-refused text n p .0 h in never-eleven (tokensOf text) n (r .0) (r .1)

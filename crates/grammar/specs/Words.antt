@@ -113,7 +113,7 @@ mutual
       let A = worded-E a (opened d) (kIn ∷ spellE b u) (h .1 .1 .1) in
       let B = worded-E b (opened d) u (A .1 .1) in
       ((tt, A .0, B .0), B .1)
-  worded-E (lambda x b) d u h = let B = worded-E b (inLambda x d) u (h .1 .1 .1) in ((h .1 .0, B .0), B .1)
+  worded-E (lambda x b) d u h = let B = worded-E b (inLambda d) u (h .1 .1 .1) in ((h .1 .0, B .0), B .1)
   worded-E (name x r) d u h = let C = worded-C r d u (h .1) in ((h .0, C .0), C .1)
   worded-E (literal z r) d u h = let C = worded-C r d u (h .1) in ((tt, C .0), C .1)
   worded-E (bracket e r) d u h =

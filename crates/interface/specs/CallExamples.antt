@@ -35,6 +35,7 @@ use Rattle.table.specs.Waits
 use Rattle.evaluator.specs.Frames
 use Rattle.evaluator.specs.Applying
 use Rattle.schedule.specs.Works
+use Rattle.schedule.specs.Examples.{entry}
 use Rattle.schedule.specs.declared.View.{View}
 use Rattle.interface.specs.declared.answers.Previewed.{Previewed}
 use Rattle.interface.specs.declared.answers.Previewed.the-variants.{NotYet, Finished, Refused}
@@ -49,12 +50,12 @@ cache =
     record {
       readings = pos 140 ∷ pos 152 ∷ pos 160 ∷ pos 148 ∷ pos 155 ∷ replicate 1019 (pos 9);
       heads = 6 ∷ 5 ∷ [];
-      links = links ++ drop (length links) (replicate 1536 0);
+      links = links ++ drop (length links) (replicate 2048 0);
       cells = cells ++ drop (length cells) (replicate 2048 0);
     }
   where
     links : List ℕ
-    links = 3 ∷ 0 ∷ 0 ∷ 0 ∷ 0 ∷ 0 ∷ 0 ∷ 0 ∷ 0 ∷ 11 ∷ 1 ∷ 2 ∷ 12 ∷ 4 ∷ 3 ∷ 14 ∷ 1 ∷ 0 ∷ []
+    links = entry 3 0 0 0 ++ entry 0 0 0 0 ++ entry 0 0 0 0 ++ entry 11 1 2 0 ++ entry 12 4 3 0 ++ entry 14 1 0 0
 
     cells : List ℕ
     cells = 0 ∷ 0 ∷ 0 ∷ 0 ∷ 2147483649 ∷ 0 ∷ 0 ∷ 0 ∷ 2147483650 ∷ []
@@ -80,7 +81,7 @@ pub record Outcome : Type 0 where
 unfoldable pub outcome : Memory → ℕ → ℕ → Outcome
 unfolding Calls.openMemory Calls.previewed Calls.previewMemory Calls.partOf Memory.fits Memory.nodeAt Memory.keptAt Memory.entriesFrom
     Nodes.memberOfKind Members.memberAt Members.spelled Members.arguments Names.bytes Nodes.arity Nodes.kids Nodes.sameNode Nodes.wordNumber Nodes.isName
-    WellFormed.wellFormed WellFormed.every WellFormed.keyRight WellFormed.arityRight WellFormed.hasNode WellFormed.distinct
+    WellFormed.wellFormed WellFormed.every WellFormed.keyRight WellFormed.levelRight WellFormed.arityRight WellFormed.hasNode WellFormed.distinct
     Decoding.decodeFrom Nodes.build Evaluation.awaited WellFormed.doneAt WellFormed.allDone WellFormed.namesRight WellFormed.keptRight
     Packing.isPacked Evaluation.hasName Evaluation.joined Evaluation.without Works.worked Works.workFrom Works.chosen Works.needOf
     Works.needFrom Works.raised Works.nameFor Works.otherFor Works.showOf Waits.waitsFrom Waits.waitsAt Waits.joinedSlots
@@ -116,21 +117,21 @@ outcomes-hold = refl
 unfoldable pub printOf : Memory → ℕ → List ℕ → Reply × List ℕ
 unfolding Calls.printAnswer Model.printing Model.filled Formulas.parsed Printed.digitsOnto Printed.decimals Printed.unpackOnto Printed.textOf
     Memory.fits Memory.nodeAt Memory.keptAt Memory.entriesFrom Nodes.memberOfKind Members.memberAt Nodes.arity Nodes.kids Nodes.sameNode
-    Nodes.wordNumber Nodes.isName WellFormed.wellFormed WellFormed.every WellFormed.keyRight WellFormed.arityRight WellFormed.hasNode WellFormed.distinct
+    Nodes.wordNumber Nodes.isName WellFormed.wellFormed WellFormed.every WellFormed.keyRight WellFormed.levelRight WellFormed.arityRight WellFormed.hasNode WellFormed.distinct
     Decoding.decodeFrom Nodes.build Evaluation.awaited WellFormed.doneAt WellFormed.allDone WellFormed.namesRight WellFormed.keptRight
     Packing.isPacked Evaluation.hasName Evaluation.joined Evaluation.without
     Names.bytes Names.packOnto Names.letWord Names.inWord! Names.dataWord Names.isData Members.spelled Members.arguments Members.sameBytes
     Members.namedIn Members.memberOf Members.takes Tokens.when Tokens.leading Tokens.decimalOnto Tokens.wordToken Tokens.wordAt Tokens.digitsAt
-    Tokens.minusAt Tokens.markToken Tokens.tokenAt Tokens.scan Faults.faultNumber Faults.opened Faults.inLambda Faults.isAmong Faults.markFault
-    Faults.lambdaFault Faults.letNameFault Faults.lambdaNameFault Faults.nameFault Faults.literalFault Faults.callFault Faults.fault Faults.counted
+    Tokens.minusAt Tokens.markToken Tokens.tokenAt Tokens.scan Faults.faultNumber Faults.opened Faults.inLambda Faults.markFault
+    Faults.lambdaFault Faults.binderFault Faults.nameFault Faults.literalFault Faults.callFault Faults.fault Faults.counted
     Reading.placeIn Machine.step Machine.finish Machine.further Machine.ended Machine.judge Machine.readFrom Machine.read Machine.readText
-    Forms.shapeOf Forms.integerOf Forms.nameOf Forms.memberOf Forms.firstOf Forms.secondOf Forms.same Binding.lookUp Binding.named Binding.member
+    Forms.shapeOf Forms.integerOf Forms.nameOf Forms.memberOf Forms.firstOf Forms.secondOf Forms.same Binding.lookUp Binding.named Binding.lambdas Binding.member
     Binding.formE Binding.called Binding.placesE Binding.orderE
 printOf m n bytes = (printAnswer m n bytes, printBytes m n bytes)
 
 -- a cache of one lambda variable
 abbrev variable : Memory
-variable = record { readings = replicate 1024 (pos 0); heads = 1 ∷ 5 ∷ []; links = 1 ∷ replicate 1535 0; cells = 97 ∷ replicate 2047 0 }
+variable = record { readings = replicate 1024 (pos 0); heads = 1 ∷ 5 ∷ []; links = 1 ∷ replicate 2047 0; cells = 97 ∷ replicate 2047 0 }
 
 abbrev lentBytes : ℕ → List ℕ
 lentBytes n = replicate n 7

@@ -1,22 +1,22 @@
--- The nodes of the entries held, and of those that wait in a call's frame to be appended: two words each, a word of the kind and the
--- links and one of the key. Assumes nothing: these are definitions.
+-- The nodes of the entries held, and of those that wait in a call's frame to be appended: two words each, a word of the kind, the
+-- links and the level and one of the key. Assumes nothing: these are definitions.
 use mathlib.Core.Bool.{cond}
 use mathlib.Core.List.{List}
 use Prim.Native.Nat.{ℕ, _+_, _-_, _*_, _/_, _%_}
 use lib.Dec.{ltb}
 use lib.ListN.{getD, set}
 use Rattle.language.specs.Limits.{textParts}
-use Rattle.layout.specs.Memory.{Node, nodeAt, node}
+use Rattle.layout.specs.Memory.{Node, nodeWith, nodeAt}
 use Rattle.layout.specs.declared.nodes.Shape.{Shape}
 
 abbrev pub shaped : Shape → Node
-shaped s = node (s .kind) (s .key) (s .first) (s .second)
+shaped s = nodeWith (s .kind) (s .key) (s .first) (s .second) (s .level)
 
 -- the words of the nodes that a text can have, two each
 abbrev pub textWords : ℕ
 textWords = 2 * textParts
 
--- in a word a kind is below the first of these, a link to an entry and one to a record below the others
+-- in a word a kind is below the first of these, a link to an entry and one to a record below the others; a level is what is left
 abbrev pub kindBase : ℕ
 kindBase = 32
 
@@ -26,18 +26,19 @@ entryBase = 1024
 abbrev pub recordBase : ℕ
 recordBase = 256
 
--- the word of a kind and links to entries
-abbrev pub wordOf : ℕ → ℕ → ℕ → ℕ
-wordOf kind first second = kind + (kindBase * first + kindBase * entryBase * second)
+-- the word of a kind, links to entries and a level
+abbrev pub wordOf : (kind first second level : ℕ) → ℕ
+wordOf kind first second level =
+    kind + (kindBase * first + (kindBase * entryBase * second + kindBase * entryBase * entryBase * level))
 
 unfoldable pub freshAt : List ℕ → ℕ → Node
 freshAt fresh i =
-    node (getD fresh (2 * i) 0 % kindBase) (getD fresh (2 * i + 1) 0) (getD fresh (2 * i) 0 / kindBase % entryBase)
-    (getD fresh (2 * i) 0 / (kindBase * entryBase) % entryBase)
+    nodeWith (getD fresh (2 * i) 0 % kindBase) (getD fresh (2 * i + 1) 0) (getD fresh (2 * i) 0 / kindBase % entryBase)
+    (getD fresh (2 * i) 0 / (kindBase * entryBase) % entryBase) (getD fresh (2 * i) 0 / (kindBase * entryBase * entryBase) % entryBase)
 
 unfoldable pub heldAt : List ℕ → List ℕ → ℕ → List ℕ → ℕ → Node
 heldAt links cells count fresh i = cond (ltb i count) (nodeAt links cells i) (freshAt fresh (i - count))
 
 -- a node put at place i
 unfoldable pub withFresh : List ℕ → ℕ → Node → List ℕ
-withFresh fresh i n = set (set fresh (2 * i) (wordOf (n .kind) (n .first) (n .second))) (2 * i + 1) (n .key)
+withFresh fresh i n = set (set fresh (2 * i) (wordOf (n .kind) (n .first) (n .second) (n .level))) (2 * i + 1) (n .key)

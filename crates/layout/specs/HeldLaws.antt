@@ -4,19 +4,20 @@ use mathlib.Core.List.{List}
 use Prim.Native.Nat.{ℕ, _+_, _-_, _*_, _/_, _%_, _≤_, _<_}
 use borrow.Author.Tests.{lt-ltb, le-ltb}
 use lib.ListN.{getD}
-use Rattle.layout.specs.Links.{kindAt, firstAt, secondAt, keyAt}
-use Rattle.layout.specs.Memory.{Node, nodeAt, node}
+use Rattle.layout.specs.Links.{kindAt, firstAt, secondAt, levelAt, keyAt}
+use Rattle.layout.specs.Memory.{Node, nodeWith, nodeAt}
 use Rattle.layout.specs.Held.{freshAt, heldAt, kindBase, entryBase}
 
-pub node-is : (links cells : List ℕ) (i kind key first second : ℕ) → kind ≡ kindAt links i → key ≡ keyAt cells i → first ≡ firstAt links i
-    → second ≡ secondAt links i → node kind key first second ≡ nodeAt links cells i
+pub node-is : (links cells : List ℕ) (i kind key first second level : ℕ) → kind ≡ kindAt links i → key ≡ keyAt cells i → first ≡ firstAt links i
+    → second ≡ secondAt links i → level ≡ levelAt links i → nodeWith kind key first second level ≡ nodeAt links cells i
 unfolding nodeAt
-node-is links cells i kind key first second k y f s = rw (k, y, f, s)
+node-is links cells i kind key first second level k y f s l = rw (k, y, f, s, l)
 
-pub fresh-is : (fresh : List ℕ) (i word kind key first second : ℕ) → kind ≡ word % kindBase → key ≡ getD fresh (2 * i + 1) 0 → first ≡ word / kindBase % entryBase
-    → second ≡ word / (kindBase * entryBase) % entryBase → word ≡ getD fresh (2 * i) 0 → node kind key first second ≡ freshAt fresh i
+pub fresh-is : (fresh : List ℕ) (i word kind key first second level : ℕ) → kind ≡ word % kindBase → key ≡ getD fresh (2 * i + 1) 0 → first ≡ word / kindBase % entryBase
+    → second ≡ word / (kindBase * entryBase) % entryBase → level ≡ word / (kindBase * entryBase * entryBase) % entryBase → word ≡ getD fresh (2 * i) 0
+    → nodeWith kind key first second level ≡ freshAt fresh i
 unfolding freshAt
-fresh-is fresh i word kind key first second k y f s w = rw (k, y, f, s, w)
+fresh-is fresh i word kind key first second level k y f s l w = rw (k, y, f, s, l, w)
 
 module _ (links cells : List ℕ) (count : ℕ) (fresh : List ℕ) (i : ℕ) (m : Node) where
   pub held-old : m ≡ nodeAt links cells i → i < count → m ≡ heldAt links cells count fresh i

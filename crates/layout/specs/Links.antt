@@ -1,5 +1,5 @@
--- The cells of an entry in the lent slices (docs/MEMORY.md): its kind and its two dependencies stand in the links, its key, its kept value
--- and the two names that this shows in the cells. Every other page reads and writes them by these names. Assumes nothing: these are definitions.
+-- The cells of an entry in the lent slices (docs/MEMORY.md): its kind, its two dependencies and its level stand in the links, its key, its kept
+-- value and the two names that this shows in the cells. Every other page reads and writes them by these names. Assumes nothing: these are definitions.
 use mathlib.Core.Bool.{Bool, _&&_}
 use mathlib.Core.List.{List}
 use Prim.Native.Nat.{ℕ, _+_, _*_}
@@ -9,7 +9,7 @@ use Rattle.language.specs.Limits.{tableEntries}
 
 -- how many links and how many cells an entry has, and a table
 abbrev pub linkCells : ℕ
-linkCells = 3
+linkCells = 4
 
 abbrev pub entryCells : ℕ
 entryCells = 4
@@ -20,7 +20,7 @@ tableLinks = linkCells * tableEntries
 abbrev pub tableCells : ℕ
 tableCells = entryCells * tableEntries
 
--- where entry i has its kind, its first and its second dependency, in the links
+-- where entry i has its kind, its first and its second dependency and its level, in the links
 abbrev pub kindIndex : ℕ → ℕ
 kindIndex i = linkCells * i
 
@@ -29,6 +29,9 @@ firstIndex i = linkCells * i + 1
 
 abbrev pub secondIndex : ℕ → ℕ
 secondIndex i = linkCells * i + 2
+
+abbrev pub levelIndex : ℕ → ℕ
+levelIndex i = linkCells * i + 3
 
 -- where it has its key, its kept value and the names that this shows, in the cells
 abbrev pub keyIndex : ℕ → ℕ
@@ -53,6 +56,9 @@ firstAt links i = getD links (firstIndex i) 0
 abbrev pub secondAt : List ℕ → ℕ → ℕ
 secondAt links i = getD links (secondIndex i) 0
 
+abbrev pub levelAt : List ℕ → ℕ → ℕ
+levelAt links i = getD links (levelIndex i) 0
+
 abbrev pub keyAt : List ℕ → ℕ → ℕ
 keyAt cells i = getD cells (keyIndex i) 0
 
@@ -66,8 +72,9 @@ abbrev pub otherAt : List ℕ → ℕ → ℕ
 otherAt cells i = getD cells (otherIndex i) 0
 
 -- the links of entry i written; what is kept of it written; its cells written, with nothing kept
-unfoldable pub linksWith : List ℕ → ℕ → ℕ → ℕ → ℕ → List ℕ
-linksWith links i kind first second = set (set (set links (kindIndex i) kind) (firstIndex i) first) (secondIndex i) second
+unfoldable pub linksWith : List ℕ → ℕ → ℕ → ℕ → ℕ → ℕ → List ℕ
+linksWith links i kind first second level =
+    set (set (set (set links (kindIndex i) kind) (firstIndex i) first) (secondIndex i) second) (levelIndex i) level
 
 unfoldable pub keptWith : List ℕ → ℕ → ℕ → ℕ → ℕ → List ℕ
 keptWith cells i value name other = set (set (set cells (valueIndex i) value) (nameIndex i) name) (otherIndex i) other

@@ -5,8 +5,8 @@ use Prim.Native.Nat.{ℕ, _<_}
 use native.Mathlib.Omega.{arith}
 use lib.ListN.{length, getD, set, length-set}
 use lib.Seq.{getD-set-same, getD-set-other}
-use Rattle.layout.specs.Links.{kindIndex, firstIndex, secondIndex, keyIndex, valueIndex, nameIndex, otherIndex, keyAt, linksWith, keptWith, cellsWith}
-use Rattle.layout.specs.Memory.{nothingKept, nodeAt, keptAt, node}
+use Rattle.layout.specs.Links.{kindIndex, firstIndex, secondIndex, levelIndex, keyIndex, valueIndex, nameIndex, otherIndex, keyAt, linksWith, keptWith, cellsWith}
+use Rattle.layout.specs.Memory.{nothingKept, nodeAt, keptAt, nodeWith}
 
 module _ (l : List ℕ) (a b c x y z : ℕ) where
   -- three cells written
@@ -34,28 +34,48 @@ module _ (l : List ℕ) (a b c x y z : ℕ) where
         getD-set-same (set (set l a x) b y) c z 0 (omega arith)
 
 -- the links of entry k
-module _ (links : List ℕ) (k kind first second : ℕ) where
-  pub links-length : length (linksWith links k kind first second) ≡ length links
+module _ (links : List ℕ) (k kind first second level : ℕ) where
+  pub links-length : length (linksWith links k kind first second level) ≡ length links
   unfolding linksWith
   links-length = simp length-set
 
-  pub links-apart : (cells : List ℕ) (i : ℕ) → (i ≡ k → ⊥) → nodeAt (linksWith links k kind first second) cells i ≡ nodeAt links cells i
-  unfolding linksWith nodeAt
+  -- the kind and the dependencies, and then the level
+  abbrev before : List ℕ
+  before = set (set (set links (kindIndex k) kind) (firstIndex k) first) (secondIndex k) second
+
+  before-length : length before ≡ length links
+  before-length = simp length-set
+
+  links-else : (j : ℕ) → (j ≡ kindIndex k → ⊥) → (j ≡ firstIndex k → ⊥) → (j ≡ secondIndex k → ⊥) → (j ≡ levelIndex k → ⊥)
+      → getD (linksWith links k kind first second level) j 0 ≡ getD links j 0
+  unfolding linksWith
+  links-else j p q r s =
+      getD-set-other before (levelIndex k) j level 0 s ∙ three-else links (kindIndex k) (firstIndex k) (secondIndex k) kind first second j p q r
+
+  pub links-apart : (cells : List ℕ) (i : ℕ) → (i ≡ k → ⊥) → nodeAt (linksWith links k kind first second level) cells i ≡ nodeAt links cells i
+  unfolding nodeAt
   links-apart cells i h =
-      let stays = three-else links (kindIndex k) (firstIndex k) (secondIndex k) kind first second in
       rw (
-        stays (kindIndex i) (λ e. h (omega arith)) (λ e. omega arith) (λ e. omega arith),
-        stays (firstIndex i) (λ e. omega arith) (λ e. h (omega arith)) (λ e. omega arith),
-        stays (secondIndex i) (λ e. omega arith) (λ e. omega arith) (λ e. h (omega arith)),
+        links-else (kindIndex i) (λ e. h (omega arith)) (λ e. omega arith) (λ e. omega arith) (λ e. omega arith),
+        links-else (firstIndex i) (λ e. omega arith) (λ e. h (omega arith)) (λ e. omega arith) (λ e. omega arith),
+        links-else (secondIndex i) (λ e. omega arith) (λ e. omega arith) (λ e. h (omega arith)) (λ e. omega arith),
+        links-else (levelIndex i) (λ e. omega arith) (λ e. omega arith) (λ e. omega arith) (λ e. h (omega arith)),
       )
 
-  pub links-here : (cells : List ℕ) → secondIndex k < length links → nodeAt (linksWith links k kind first second) cells k ≡ node kind (keyAt cells k) first second
+  pub links-here : (cells : List ℕ) → levelIndex k < length links
+      → nodeAt (linksWith links k kind first second level) cells k ≡ nodeWith kind (keyAt cells k) first second level
   unfolding linksWith nodeAt
   links-here cells h =
+      let n = before-length in
+      let l : secondIndex k < length links = omega arith in
       rw (
-        three-first links (kindIndex k) (firstIndex k) (secondIndex k) kind first second (omega arith) (omega arith) h,
-        three-second links (kindIndex k) (firstIndex k) (secondIndex k) kind first second (omega arith) (omega arith) h,
-        three-third links (kindIndex k) (firstIndex k) (secondIndex k) kind first second (omega arith) (omega arith) h,
+        getD-set-other before (levelIndex k) (kindIndex k) level 0 (λ e. omega arith),
+        getD-set-other before (levelIndex k) (firstIndex k) level 0 (λ e. omega arith),
+        getD-set-other before (levelIndex k) (secondIndex k) level 0 (λ e. omega arith),
+        getD-set-same before (levelIndex k) level 0 (omega arith),
+        three-first links (kindIndex k) (firstIndex k) (secondIndex k) kind first second (omega arith) (omega arith) l,
+        three-second links (kindIndex k) (firstIndex k) (secondIndex k) kind first second (omega arith) (omega arith) l,
+        three-third links (kindIndex k) (firstIndex k) (secondIndex k) kind first second (omega arith) (omega arith) l,
       )
 
 -- what is kept of entry k

@@ -6,7 +6,7 @@ use lib.Dec.{leb}
 use lib.IntN.{ℤ}
 use lib.ListN.{length, take, getD}
 use Rattle.language.specs.Limits.{tableReadings}
-use Rattle.layout.specs.Links.{tableLinks, tableCells, kindAt, firstAt, secondAt, keyAt, valueAt, nameAt, otherAt}
+use Rattle.layout.specs.Links.{tableLinks, tableCells, kindAt, firstAt, secondAt, levelAt, keyAt, valueAt, nameAt, otherAt}
 
 -- four slices: the readings; the counts of entries and of readings; each entry's links; each entry's cells
 pub record Memory : Type 0 where
@@ -35,15 +35,21 @@ readingCount m = getD (m .heads) 1 0
 abbrev pub recordingOf : Memory → List ℤ
 recordingOf m = take (readingCount m) (m .readings)
 
--- what an entry is: its kind; its number or name; its dependencies, each 0 for none or one more than the dependency's number
+-- what an entry is: its kind; its number or name; its dependencies, each 0 for none or one more than the dependency's number; and its level, which
+-- is a variable's or a function's and otherwise 0
 pub record Node : Type 0 where
   pub kind : ℕ
   pub key : ℕ
   pub first : ℕ
   pub second : ℕ
+  pub level : ℕ
 
-abbrev pub node : ℕ → ℕ → ℕ → ℕ → Node
-node kind key first second = record { kind = kind; key = key; first = first; second = second }
+abbrev pub nodeWith : (kind key first second level : ℕ) → Node
+nodeWith kind key first second level = record { kind = kind; key = key; first = first; second = second; level = level }
+
+-- without a level
+abbrev pub node : (kind key first second : ℕ) → Node
+node kind key first second = nodeWith kind key first second 0
 
 -- what it was worked out to: a packed value, 0 for not worked out, and the names that are shown
 pub record Kept : Type 0 where
@@ -62,7 +68,7 @@ nothingKept = record { value = 0; name = 0; other = 0 }
 
 -- entry i
 unfoldable pub nodeAt : List ℕ → List ℕ → ℕ → Node
-nodeAt links cells i = record { kind = kindAt links i; key = keyAt cells i; first = firstAt links i; second = secondAt links i }
+nodeAt links cells i = nodeWith (kindAt links i) (keyAt cells i) (firstAt links i) (secondAt links i) (levelAt links i)
 
 unfoldable pub keptAt : List ℕ → ℕ → Kept
 keptAt cells i = record { value = valueAt cells i; name = nameAt cells i; other = otherAt cells i }

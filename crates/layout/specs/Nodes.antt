@@ -11,7 +11,7 @@ use Rattle.members.specs.Members.{arguments, ifMember, members, memberAt, membe
 use Rattle.members.specs.declared.Member.{Member}
 use Rattle.members.specs.declared.Found.{Found}
 use Rattle.members.specs.declared.Found.the-variants.{Unknown}
-use Rattle.meaning.specs.Forms.{Form, number, variable, unbound, readings, ask, call, function}
+use Rattle.meaning.specs.Forms.{Form, withLevel, number, variable, unbound, readings, ask, call, function}
 use Rattle.layout.specs.Memory.{Node}
 
 -- kinds: 0 number, 1 lambda variable, 2 unbound name, 3 the recording, 4 function, and from 5 on the members by their numbers
@@ -68,7 +68,9 @@ kids n = listed (arity (n .kind)) n
 
 -- one entry is another: all pieces are equal
 unfoldable pub sameNode : Node → Node → Bool
-sameNode a b = eqb (a .kind) (b .kind) && (eqb (a .key) (b .key) && (eqb (a .first) (b .first) && eqb (a .second) (b .second)))
+sameNode a b =
+    eqb (a .kind) (b .kind)
+    && (eqb (a .key) (b .key) && (eqb (a .first) (b .first) && (eqb (a .second) (b .second) && eqb (a .level) (b .level))))
 
 -- a number is kept as itself plus 2^31
 abbrev pub numberOfKey : ℕ → ℤ
@@ -78,14 +80,18 @@ numberOfKey key = pos key -ℤ pos 2147483648
 abbrev pub memberForm : Found → Form → Form → Form
 memberForm found f a = ifMember readings found (λ m. cond (eqb (arguments m) 0) (ask m f) (call m f a))
 
+-- 02, T-05: the variable of a lambda variable's or a function's entry, its name with its level
+abbrev pub variableIn : Node → ℕ
+variableIn n = withLevel (n .key) (n .level)
+
 -- the form of an entry, from the forms of its dependencies by number
 unfoldable pub build : Node → (ℕ → Form) → Form
 build n φ =
     cond (eqb (n .kind) numberKind) (number (numberOfKey (n .key)))
-    (cond (eqb (n .kind) variableKind) (variable (n .key))
+    (cond (eqb (n .kind) variableKind) (variable (variableIn n))
     (cond (eqb (n .kind) unboundKind) (unbound (n .key))
     (cond (eqb (n .kind) readingsKind) readings
-    (cond (eqb (n .kind) functionKind) (function (n .key) (φ (n .first - 1)))
+    (cond (eqb (n .kind) functionKind) (function (variableIn n) (φ (n .first - 1)))
     (memberForm (memberOfKind (n .kind)) (φ (n .first - 1)) (φ (n .second - 1)))))))
 
 -- a number that is a packed name: a letter, then letters and digits, at most so many bytes in all

@@ -4,10 +4,10 @@ use language::limits::Table;
 ghost use mathlib.Core.Path.{_≡_};
 ghost use Prim.Native.Nat.{_<_};
 ghost use lib.ListN.{length, getD};
-ghost use Rattle.layout.specs.Links.{secondIndex, otherIndex, kindAt, firstAt, secondAt, keyAt, valueAt, nameAt, otherAt, linksWith, keptWith, cellsWith, isBelow};
+ghost use Rattle.layout.specs.Links.{levelIndex, otherIndex, kindAt, firstAt, secondAt, levelAt, keyAt, valueAt, nameAt, otherAt, linksWith, keptWith, cellsWith, isBelow};
 
 // How many links and how many cells an entry has, and a table.
-pub const LINK_CELLS: usize = 3;
+pub const LINK_CELLS: usize = 4;
 
 pub const ENTRY_CELLS: usize = 4;
 
@@ -33,7 +33,7 @@ pub fn at64(s: &[u64], i: usize) -> u64
     if i < s.len() { s[i] } else { 0 }
 }
 
-// The cells of entry i by name: its kind and its dependencies; its key, its kept value and the names that this shows. An entry's number fits
+// The cells of entry i by name: its kind, its dependencies and its level; its key, its kept value and the names that this shows. An entry's number fits
 // 32 bits.
 pub fn kind_of(links: &[u16], i: usize) -> u16
     requires { ⌜ i < 4294967296 ⌝ }
@@ -54,6 +54,13 @@ pub fn second_of(links: &[u16], i: usize) -> u16
     ensures { λ r. ⌜ r ≡ secondAt (now (links .entry)) i ⌝ }
 {
     at16(links, LINK_CELLS * i + 2)
+}
+
+pub fn level_of(links: &[u16], i: usize) -> u16
+    requires { ⌜ i < 4294967296 ⌝ }
+    ensures { λ r. ⌜ r ≡ levelAt (now (links .entry)) i ⌝ }
+{
+    at16(links, LINK_CELLS * i + 3)
 }
 
 pub fn key_of(cells: &[u64], i: usize) -> u64
@@ -85,14 +92,15 @@ pub fn other_of(cells: &[u64], i: usize) -> u64
 }
 
 // The links of entry i.
-pub fn put_links(links: &mut [u16], i: usize, kind: u16, first: u16, second: u16)
-    requires { ⌜ secondIndex i < length (now links) ⌝ }
-    ensures { λ _. ⌜ now (links .exit) ≡ linksWith (now (links .entry)) i kind first second ⌝ }
+pub fn put_links(links: &mut [u16], i: usize, kind: u16, first: u16, second: u16, level: u16)
+    requires { ⌜ levelIndex i < length (now links) ⌝ }
+    ensures { λ _. ⌜ now (links .exit) ≡ linksWith (now (links .entry)) i kind first second level ⌝ }
 {
     let at = LINK_CELLS * i;
     links[at] = kind;
     links[at + 1] = first;
     links[at + 2] = second;
+    links[at + 3] = level;
 }
 
 // What is kept of entry i: a value, and the names that it shows.

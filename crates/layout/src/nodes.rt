@@ -4,6 +4,7 @@ use crate::cells::at64;
 use crate::cells::first_of;
 use crate::cells::key_of;
 use crate::cells::kind_of;
+use crate::cells::level_of;
 use crate::cells::second_of;
 use language::limits::Text;
 use members::MEMBERS;
@@ -18,23 +19,29 @@ ghost use Rattle.layout.specs.Held.{shaped, freshAt, heldAt, withFresh, 
 // The words of the nodes that a text can have, two each.
 pub const TEXT_WORDS: usize = 2 * Text::PARTS;
 
-// A node's kind and links make one word: a kind is below the first of these, a link to an entry and one to a record below the others.
+// A node's kind, links and level make one word: a kind is below the first of these, a link to an entry and one to a record below the others, and
+// a level is what is left.
 pub const KIND_BASE: u64 = 32;
 
 pub const ENTRY_BASE: u64 = 1024;
 
 pub const RECORD_BASE: u64 = 256;
 
-// The weight of the second link in such a word, to an entry and to a record.
+// The weights of the second link, to an entry and to a record, and of the level in such a word.
 pub const ENTRY_WEIGHT: u64 = KIND_BASE * ENTRY_BASE;
 
 pub const RECORD_WEIGHT: u64 = KIND_BASE * RECORD_BASE;
+
+pub const ENTRY_LEVEL: u64 = ENTRY_WEIGHT * ENTRY_BASE;
+
+pub const RECORD_LEVEL: u64 = RECORD_WEIGHT * RECORD_BASE;
 
 pub struct Shape {
     pub kind: u16,
     pub key: u64,
     pub first: u16,
     pub second: u16,
+    pub level: u16,
 }
 
 // The kinds. The members follow, by their numbers, up to the first number that is no kind.
@@ -58,7 +65,9 @@ impl Shape {
 pub fn same(a: Shape, b: Shape) -> bool
     ensures { λ r. ⌜ r ≡ sameNode (shaped a) (shaped b) ⌝ }
 {
-    (a.kind == b.kind) & ((a.key == b.key) & ((a.first == b.first) & (a.second == b.second)))
+    (a.kind == b.kind)
+        & ((a.key == b.key)
+            & ((a.first == b.first) & ((a.second == b.second) & (a.level == b.level))))
 }
 
 // The node of entry i.
@@ -71,6 +80,7 @@ pub fn node_at(links: &[u16], cells: &[u64], i: u16) -> Shape
         key: key_of(cells, at),
         first: first_of(links, at),
         second: second_of(links, at),
+        level: level_of(links, at),
     }
 }
 
@@ -110,6 +120,7 @@ pub fn fresh_at(fresh: &[u64], i: u16) -> Shape
         key: at64(fresh, 2 * at + 1),
         first: narrow(word / KIND_BASE % ENTRY_BASE),
         second: narrow(word / ENTRY_WEIGHT % ENTRY_BASE),
+        level: narrow(word / ENTRY_LEVEL % ENTRY_BASE),
     }
 }
 
@@ -119,6 +130,8 @@ pub fn add_fresh(fresh: &mut [u64; TEXT_WORDS], i: u16, x: Shape)
     ensures { λ _. ⌜ now (fresh .exit) ≡ withFresh (now (fresh .entry)) i (shaped x) ⌝ }
 {
     let at = i as usize;
-    fresh[2 * at] = x.kind as u64 + (KIND_BASE * x.first as u64 + ENTRY_WEIGHT * x.second as u64);
+    fresh[2 * at] = x.kind as u64
+        + (KIND_BASE * x.first as u64
+            + (ENTRY_WEIGHT * x.second as u64 + ENTRY_LEVEL * x.level as u64));
     fresh[2 * at + 1] = x.key;
 }

@@ -1,20 +1,20 @@
--- 01, "Binding" and "The text": let elimination, the form of each part by place, and the order in which new entries are numbered.
+-- 01, "Binding" and "The text", with 02, T-05: let elimination, the form of each part by place, and the order in which new entries are numbered.
 -- A name means the innermost let or lambda around it that binds it; one that nothing binds is marked unbound. A let's name stands for
--- the form of its value. That this is capture-avoiding substitution, where no lambda takes the name of one around it (refusal 11), is
--- `lets-substituted` in SubstitutionLaws. Assumes nothing: these are definitions.
-use mathlib.Core.Bool.{cond}
+-- the form of its value, with the levels of the place where that is written. That this is capture-avoiding substitution is `lets-substituted`
+-- in SubstitutionLaws. Assumes nothing: these are definitions.
+use mathlib.Core.Bool.{Bool, true, false, cond}
 use mathlib.Core.List.{List, [], _∷_}
-use Prim.Native.Nat.{ℕ}
+use Prim.Native.Nat.{ℕ, suc}
 use Rattle.language.specs.Names.{packed, sameName, isData}
 use Rattle.members.specs.Members.{ifMember, memberOf}
 use Rattle.members.specs.declared.Member.{Member}
 use Rattle.members.specs.declared.Member.the-variants.{Count}
 use Rattle.grammar.specs.Grammar.{Expression, Calls, Arguments, More, letIn, lambda, name, literal, bracket, done, call, none, first, last, next}
-use Rattle.meaning.specs.Forms.{Form, number, variable, unbound, readings, ask, function}
+use Rattle.meaning.specs.Forms.{Form, withLevel, number, variable, unbound, readings, ask, function}
 
--- a name and the form that it stands for
+-- a name, the form that it stands for, and whether it is a lambda's
 abbrev pub Meaning : Type 0
-Meaning = List ℕ × Form
+Meaning = List ℕ × Form × Bool
 
 -- an inner let or lambda hides an outer one; a name that none of them binds is unbound
 unfoldable pub lookUp : List ℕ → List Meaning → Form
@@ -25,9 +25,22 @@ lookUp x (e ∷ Γ) = cond (sameName x (e .0)) (e .1) (lookUp x Γ)
 unfoldable pub named : List ℕ → List Meaning → Form
 named x Γ = cond (isData x) readings (lookUp x Γ)
 
--- in a lambda's body its name is a variable
+-- how many lambdas are written around
+unfoldable pub lambdas : List Meaning → ℕ
+lambdas [] = 0
+lambdas (e ∷ Γ) = cond (e .2) (suc (lambdas Γ)) (lambdas Γ)
+
+-- in a let's body its name stands for the form of its value
+abbrev pub asLet : List ℕ → Form → List Meaning → List Meaning
+asLet x f Γ = (x, f, false) ∷ Γ
+
+-- the variable of a lambda: its name, and as its level the lambdas around it
+abbrev pub variableOf : List ℕ → List Meaning → ℕ
+variableOf x Γ = withLevel (packed x) (lambdas Γ)
+
+-- in a lambda's body its name is that variable
 abbrev pub asLambda : List ℕ → List Meaning → List Meaning
-asLambda x Γ = (x, variable (packed x)) ∷ Γ
+asLambda x Γ = (x, variable (variableOf x Γ), true) ∷ Γ
 
 -- an unknown member is refused (9), so that what stands here for it does not matter
 unfoldable pub member : List ℕ → Member
@@ -36,8 +49,8 @@ member m = ifMember Count (memberOf m) (λ k. k)
 -- the form of an expression; of a receiver f with the calls behind it; of the call of m on f with these arguments, and what follows
 unfoldable mutual
   pub formE : Expression → List Meaning → Form
-  formE (letIn x a b) Γ = formE b ((x, formE a Γ) ∷ Γ)
-  formE (lambda x b) Γ = function (packed x) (formE b (asLambda x Γ))
+  formE (letIn x a b) Γ = formE b (asLet x (formE a Γ) Γ)
+  formE (lambda x b) Γ = function (variableOf x Γ) (formE b (asLambda x Γ))
   formE (name x r) Γ = formC r (named x Γ) Γ
   formE (literal z r) Γ = formC r (number z) Γ
   formE (bracket e r) Γ = formC r (formE e Γ) Γ
@@ -63,7 +76,7 @@ called (first e x) m f Γ = Form.call (member m) f (formE e Γ)
 -- the forms of the parts, in the order of their marks, and then u
 unfoldable mutual
   pub placesE : Expression → List Meaning → List Form → List Form
-  placesE (letIn x a b) Γ u = formE (letIn x a b) Γ ∷ placesE a Γ (placesE b ((x, formE a Γ) ∷ Γ) u)
+  placesE (letIn x a b) Γ u = formE (letIn x a b) Γ ∷ placesE a Γ (placesE b (asLet x (formE a Γ) Γ) u)
   placesE (lambda x b) Γ u = formE (lambda x b) Γ ∷ placesE b (asLambda x Γ) u
   placesE (name x r) Γ u = named x Γ ∷ placesC r (named x Γ) Γ u
   placesE (literal z r) Γ u = number z ∷ placesC r (number z) Γ u
@@ -85,7 +98,7 @@ unfoldable mutual
 -- the same forms in the order of binding: a let's value before its body, a receiver before arguments, dependencies before what uses them
 unfoldable mutual
   pub orderE : Expression → List Meaning → List Form → List Form
-  orderE (letIn x a b) Γ u = orderE a Γ (orderE b ((x, formE a Γ) ∷ Γ) u)
+  orderE (letIn x a b) Γ u = orderE a Γ (orderE b (asLet x (formE a Γ) Γ) u)
   orderE (lambda x b) Γ u = orderE b (asLambda x Γ) (formE (lambda x b) Γ ∷ u)
   orderE (name x r) Γ u = named x Γ ∷ orderC r (named x Γ) Γ u
   orderE (literal z r) Γ u = number z ∷ orderC r (number z) Γ u

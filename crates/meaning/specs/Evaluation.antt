@@ -2,7 +2,7 @@
 -- A variable stands for a number while its function runs; otherwise it is delayed. That a run puts the number for the variable in the
 -- body is in EvaluationLaws. Assumes nothing: these are definitions.
 use mathlib.Core.Bool.{Bool, true, false, cond, not, _&&_, _||_}
-use mathlib.Core.List.{List, [], _∷_, _++_}
+use mathlib.Core.List.{List, [], _∷_, _++_, map}
 use Prim.Native.Nat.{ℕ}
 use lib.Dec.{eqb}
 use lib.IntN.{ℤ, pos}
@@ -11,7 +11,7 @@ use Rattle.rules.specs.declared.Value.{Value}
 use Rattle.rules.specs.declared.Value.the-variants.{Number, Window, Function, Delayed, Missing}
 use Rattle.rules.specs.Values.{unboundName}
 use Rattle.rules.specs.Apply.{apply0, apply1, isMissing, isDelayed}
-use Rattle.meaning.specs.Forms.{Form, number, variable, unbound, readings, ask, call, function, nameOf}
+use Rattle.meaning.specs.Forms.{Form, number, variable, unbound, readings, ask, call, function, nameIn, nameOf}
 
 -- what a form comes to: a value that holds no function; or a function, with what its body comes to for a reading
 pub data Result : Type 0 where
@@ -73,22 +73,22 @@ putFor x z (ask m f) = ask m (putFor x z f)
 putFor x z (call m f a) = call m (putFor x z f) (putFor x z a)
 putFor x z (function y b) = cond (eqb x y) (function y b) (function y (putFor x z b))
 
--- the names awaited: the free variables by first occurrence
+-- a variable is one of these
 unfoldable pub hasName : ℕ → List ℕ → Bool
 hasName x [] = false
 hasName x (y ∷ ys) = eqb x y || hasName x ys
 
--- the names of ys behind those of xs, each once
+-- those of ys behind those of xs, each once
 unfoldable pub joined : List ℕ → List ℕ → List ℕ
 joined xs [] = xs
 joined xs (y ∷ ys) = joined (cond (hasName y xs) xs (xs ++ (y ∷ []))) ys
 
--- the names but x
+-- all but x
 unfoldable pub without : ℕ → List ℕ → List ℕ
 without x [] = []
 without x (y ∷ ys) = cond (eqb x y) (without x ys) (y ∷ without x ys)
 
--- 01: delayed shows the awaited names by first occurrence in the let-free form
+-- the variables awaited: those that are free, by first occurrence in the let-free form
 unfoldable pub awaited : Form → List ℕ
 awaited (number z) = []
 awaited (variable x) = x ∷ []
@@ -114,6 +114,7 @@ shownAs name names Function = aFunction name
 shownAs name names Delayed = aDelay names
 shownAs name names (Missing r) = aReason r
 
--- what a form shows, from the form and the recording alone
+-- 01: what a form shows, from the form and the recording alone: a function its name, a delayed one the awaited names by first occurrence, a name for
+-- each variable (02, T-05), so that two variables of one spelling name it twice
 unfoldable pub shows : List ℤ → Form → Shown
-shows xs f = shownAs (nameOf f) (awaited f) (valueOf (evaluate xs nowhere f))
+shows xs f = shownAs (nameIn (nameOf f)) (map nameIn (awaited f)) (valueOf (evaluate xs nowhere f))

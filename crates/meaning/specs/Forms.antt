@@ -1,7 +1,7 @@
--- 01, "Binding": let-free forms, when two are equal, and what lies below one. Names are packed numbers.
+-- 01, "Binding", with 02, T-05: let-free forms, when two are equal, and what lies below one. Names are packed numbers.
 -- Assumes nothing: these are definitions. That the test is equality is in FormsLaws.
 use mathlib.Core.Bool.{Bool, true, false, _&&_, _||_}
-use Prim.Native.Nat.{ℕ}
+use Prim.Native.Nat.{ℕ, _+_, _*_, _/_, _%_}
 use lib.Dec.{eqb}
 use lib.IntN.{ℤ, pos}
 use Rattle.members.specs.Members.{memberNumber}
@@ -9,11 +9,25 @@ use Rattle.members.specs.declared.Member.{Member}
 use Rattle.members.specs.declared.Member.the-variants.{Add}
 use Rattle.rules.specs.Values.{sameℤ}
 
--- 01: a number; a lambda variable by name; an unbound name; data; a member with its dependencies, receiver first; or a function with its name
--- and its body, its one dependency
+-- 02, T-05: a lambda variable is its name and its level, the count of lambdas written around its own lambda. The two make one number, the packed
+-- name times 256 plus the level, so that equal variables are equal numbers.
+abbrev pub levelBase : ℕ
+levelBase = 256
+
+abbrev pub withLevel : (name level : ℕ) → ℕ
+withLevel x k = x * levelBase + k
+
+abbrev pub nameIn : ℕ → ℕ
+nameIn v = v / levelBase
+
+abbrev pub levelIn : ℕ → ℕ
+levelIn v = v % levelBase
+
+-- 01: a number; a lambda variable; an unbound name; data; a member with its dependencies, receiver first; or a function with its variable and its
+-- body, its one dependency
 pub data Form : Type 0 where
   number : ℤ → Form
-  -- a lambda variable, by name
+  -- a lambda variable, by name and level
   variable : ℕ → Form
   unbound : ℕ → Form
   -- the recording
@@ -21,7 +35,7 @@ pub data Form : Type 0 where
   -- a member with no argument, and one with an argument
   ask : Member → Form → Form
   call : Member → Form → Form → Form
-  -- a function with its name and its body
+  -- a function with its variable, and so its name and its level, and its body
   function : ℕ → Form → Form
 
 -- the dependencies of a form: a member's receiver and its argument, a function's body
@@ -40,7 +54,8 @@ pub data AtOrBelow : Form → Form → Type 0 where
 abbrev pub sameMember : Member → Member → Bool
 sameMember m n = eqb (memberNumber m) (memberNumber n)
 
--- the pieces of a form: which of the seven it is, its number, its name, its member, and its dependencies, the receiver or body first
+-- the pieces of a form: which of the seven it is, its number, its variable or unbound name, its member, and its dependencies, the receiver or body
+-- first
 unfoldable pub shapeOf : Form → ℕ
 shapeOf (number z) = 0
 shapeOf (variable x) = 1

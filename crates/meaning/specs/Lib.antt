@@ -2,6 +2,7 @@ pub mod Forms
 pub mod FormsLaws
 pub mod Binding
 pub mod Evaluation
+pub mod Examples
 pub mod EvaluationLaws
 pub mod Substitution
 pub mod SubstitutionLaws

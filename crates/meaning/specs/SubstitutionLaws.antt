@@ -1,11 +1,12 @@
--- Let elimination, which Binding defines by an environment, is capture-avoiding substitution: of every let of a tree that keeps the limits,
--- as refusal 11 demands, and in which no name in use packs to 0, so that the hole is none of its unbound names. No word packs to 0.
--- Assumes nothing.
+-- Let elimination, which Binding defines by an environment, is capture-avoiding substitution: of every let of a tree that keeps the limits, also
+-- where a lambda hides another, and in which no name in use packs to 0, so that the hole is none of its unbound names. No word packs to 0.
+-- Nothing is captured since a variable that is free in a let's value has a level below the number of lambdas around the let, and each lambda in
+-- the let's body has at least that many around it. Assumes nothing.
 use mathlib.Core.Path.{_≡_, refl, sym, ap, _∙_}
 use mathlib.Core.Bool.{Bool, true, false, cond}
 use mathlib.Mathlib.Data.Bool.Basic.{or-eq-false-eq-eq-false-and-eq-false as neither}
 use mathlib.Core.List.{List, [], _∷_, _++_}
-use Prim.Native.Nat.{ℕ}
+use Prim.Native.Nat.{ℕ, suc, _≤_, _<_}
 use native.Mathlib.Omega.{arith}
 use borrow.Author.Tests.{eqb-false, ne-eqb}
 use lib.Dec.{eqb}
@@ -14,15 +15,15 @@ use Rattle.language.specs.NamesLaws.{Each, NameByte, packed-injective}
 use Rattle.language.specs.Cases.{split, by-cond}
 use Rattle.grammar.specs.Grammar.{Expression, Calls, Arguments, More, letIn, lambda, name, literal, bracket, done, call, none, first, last, next}
 use Rattle.grammar.specs.Faults.{Around, outermost, opened, inLambda}
-use Rattle.grammar.specs.KeptLimits.{EverywhereE, EverywhereC, EverywhereA, EverywhereM, NotAmong, KeepsLimits}
-use Rattle.grammar.specs.SingleLimits.{NewLambdas}
+use Rattle.grammar.specs.KeptLimits.{EverywhereE, EverywhereC, EverywhereA, EverywhereM, KeepsLimits}
+use Rattle.grammar.specs.SingleLimits.{FewLambdas}
 use Rattle.grammar.specs.KeptLimitsLaws.{keeps-each}
-use Rattle.meaning.specs.Forms.{Form, number, variable, unbound, readings, ask, function}
-use Rattle.meaning.specs.Binding.{Meaning, lookUp, named, asLambda, member, formE, formC, formA, formM}
+use Rattle.meaning.specs.Forms.{Form, levelIn, number, variable, unbound, readings, ask, function}
+use Rattle.meaning.specs.Binding.{Meaning, lambdas, lookUp, named, asLet, variableOf, asLambda, member, formE, formC, formA, formM}
 use Rattle.meaning.specs.Evaluation.{hasName, joined, without, awaited}
 use Rattle.meaning.specs.Substitution.{hole, fill, NoneFree, Avoids, Substituted, AtLetsE, AtLetsC, AtLetsA, AtLetsM, NonzeroNames}
 
--- the name is not free in the form
+-- the variable is not free in the form
 abbrev pub NotFree : ℕ → Form → Type 0
 NotFree y f = hasName y (awaited f) ≡ false
 
@@ -52,7 +53,12 @@ of-name P x Γ r u h = by-cond P (isData x) readings (lookUp x Γ) (λ _. r) (λ
 module _ (f : Form) where
   unfoldable pub fillAll : List Meaning → List Meaning
   fillAll [] = []
-  fillAll (e ∷ Γ) = (e .0, fill f (e .1)) ∷ fillAll Γ
+  fillAll (e ∷ Γ) = (e .0, fill f (e .1), e .2) ∷ fillAll Γ
+
+  pub fill-lambdas : (Γ : List Meaning) → lambdas (fillAll Γ) ≡ lambdas Γ
+  unfolding lambdas fillAll
+  fill-lambdas [] = refl
+  fill-lambdas (e ∷ Γ) = rw (fill-lambdas Γ)
 
   fill-pick : (t : Bool) (g h : Form) → fill f (cond t g h) ≡ cond t (fill f g) (fill f h)
   fill-pick true g h = refl
@@ -71,8 +77,8 @@ module _ (f : Form) where
     unfolding fill fillAll formE
 
     pub fill-E : (e : Expression) (Γ : List Meaning) (d : Around) → EverywhereE NonzeroNames e d → fill f (formE e Γ) ≡ formE e (fillAll Γ)
-    fill-E (letIn x a b) Γ d n = fill-E b ((x, formE a Γ) ∷ Γ) (opened d) (n .2) ∙ rw (fill-E a Γ (opened d) (n .1))
-    fill-E (lambda x b) Γ d n = ap (function (packed x)) (fill-E b (asLambda x Γ) (inLambda x d) (n .1))
+    fill-E (letIn x a b) Γ d n = fill-E b (asLet x (formE a Γ) Γ) (opened d) (n .2) ∙ rw (fill-E a Γ (opened d) (n .1))
+    fill-E (lambda x b) Γ d n = rw (fill-E b (asLambda x Γ) (inLambda d) (n .1), fill-lambdas Γ)
     fill-E (name x r) Γ d n = fill-C r (named x Γ) Γ d (n .1) ∙ rw (fill-named x Γ (n .0))
     fill-E (literal z r) Γ d n = fill-C r (number z) Γ d (n .1)
     fill-E (bracket e r) Γ d n = fill-C r (formE e Γ) Γ d (n .2) ∙ rw (fill-E e Γ (opened d) (n .1))
@@ -108,11 +114,11 @@ module _ (Γ : List Meaning) (w : Forms Whole Γ) where
   whole-E e d n f = fill-E f e Γ d n ∙ ap (formE e) (fill-whole f Γ w)
 
   let-filled : (x : List ℕ) (a b : Expression) (d : Around) → EverywhereE NonzeroNames b d
-      → formE (letIn x a b) Γ ≡ fill (formE a Γ) (formE b ((x, hole) ∷ Γ))
+      → formE (letIn x a b) Γ ≡ fill (formE a Γ) (formE b (asLet x hole Γ))
   unfolding fill fillAll formE
   let-filled x a b d n =
       let f = formE a Γ in
-      sym (fill-E f b ((x, hole) ∷ Γ) d n ∙ ap (λ (Δ : List Meaning). formE b ((x, f) ∷ Δ)) (fill-whole f Γ w))
+      sym (fill-E f b (asLet x hole Γ) d n ∙ ap (λ (Δ : List Meaning). formE b (asLet x f Δ)) (fill-whole f Γ w))
 
 -- ---- a name that is free in the form of a tree is free in a form of its environment
 
@@ -149,8 +155,8 @@ module _ (y : ℕ) where
     unfolding formE awaited hasName
 
     pub not-free-E : (e : Expression) (Γ : List Meaning) → Forms (NotFree y) Γ → NotFree y (formE e Γ)
-    not-free-E (letIn x a b) Γ h = not-free-E b ((x, formE a Γ) ∷ Γ) (not-free-E a Γ h, h)
-    not-free-E (lambda x b) Γ h = not-without y (packed x) _ (λ n. not-free-E b (asLambda x Γ) (not-variable y (packed x) n, h))
+    not-free-E (letIn x a b) Γ h = not-free-E b (asLet x (formE a Γ) Γ) (not-free-E a Γ h, h)
+    not-free-E (lambda x b) Γ h = not-without y (variableOf x Γ) _ (λ n. not-free-E b (asLambda x Γ) (not-variable y (variableOf x Γ) n, h))
     not-free-E (name x r) Γ h = not-free-C r (named x Γ) Γ h (of-name (NotFree y) x Γ refl refl h)
     not-free-E (literal z r) Γ h = not-free-C r (number z) Γ h refl
     not-free-E (bracket e r) Γ h = not-free-C r (formE e Γ) Γ h (not-free-E e Γ h)
@@ -169,9 +175,24 @@ module _ (y : ℕ) where
 
 -- ---- nothing is captured
 
--- what is free in a form of the environment is the name of a lambda around
+-- the environment has the lambdas around
+abbrev pub Counts : List Meaning → Around → Type 0
+Counts Γ d = d .lambdas ≡ lambdas Γ
+
+-- a variable that is free in a form of the environment has a level below the number of lambdas around
 abbrev pub Scoped : List Meaning → Around → Type 0
-Scoped Γ d = (y : List ℕ) → NotAmong y (d .lambdas) → Forms (NotFree (packed y)) Γ
+Scoped Γ d = (y : ℕ) → d .lambdas ≤ levelIn y → Forms (NotFree y) Γ
+
+-- a lambda's level is the number of lambdas around it
+pub level-is : (x : List ℕ) (Γ : List Meaning) (d : Around) → Counts Γ d → d .lambdas < 2 → levelIn (variableOf x Γ) ≡ d .lambdas
+level-is x Γ d q l = omega (arith, q)
+
+-- its body is scoped with its own variable
+pub scoped-lambda : (x : List ℕ) (Γ : List Meaning) (d : Around) → Counts Γ d → d .lambdas < 2 → Scoped Γ d → Scoped (asLambda x Γ) (inLambda d)
+unfolding inLambda
+scoped-lambda x Γ d q l s y o =
+    let k = level-is x Γ d q l in
+    (not-variable y (variableOf x Γ) (λ (e : y ≡ variableOf x Γ). let j : levelIn y ≡ levelIn (variableOf x Γ) = ap levelIn e in omega arith), s y (omega arith))
 
 module _ (f : Form) where
   -- a form without holes captures nothing
@@ -185,7 +206,7 @@ module _ (f : Form) where
   whole-avoids (Form.call m g a) w ys = (whole-avoids g (λ k. cc (w k)) ys, whole-avoids a (λ k. cc (w k)) ys)
   whole-avoids (function y b) w ys = whole-avoids b (λ k. cc (w k)) (y ∷ ys)
 
-  -- nothing is captured below functions whose names are not free in f
+  -- nothing is captured below functions whose variables are not free in f
   abbrev pub Clear : Form → Type 0
   Clear g = (ys : List ℕ) → NoneFree ys f → Avoids f ys g
 
@@ -193,68 +214,77 @@ module _ (f : Form) where
   whole-clear [] w = tt
   whole-clear (e ∷ Γ) w = (λ ys h. whole-avoids (e .1) (w .0) ys, whole-clear Γ (w .1))
 
-  -- what is free in f is the name of a lambda around
+  -- a variable that is free in f has a level below the number of lambdas around
   abbrev pub Within : Around → Type 0
-  Within d = (y : List ℕ) → NotAmong y (d .lambdas) → NotFree (packed y) f
+  Within d = (y : ℕ) → d .lambdas ≤ levelIn y → NotFree y f
+
+  pub within-lambda : (d : Around) → Within d → Within (inLambda d)
+  unfolding inLambda
+  within-lambda d i y o = i y (omega arith)
+
+  -- so that the variable of a lambda there is not free in f
+  pub lambda-new : (x : List ℕ) (Γ : List Meaning) (d : Around) → Within d → Counts Γ d → d .lambdas < 2 → NotFree (variableOf x Γ) f
+  lambda-new x Γ d i q l = let k = level-is x Γ d q l in i (variableOf x Γ) (omega arith)
 
   mutual
-    unfolding formE opened inLambda
+    unfolding formE lambdas opened inLambda
 
-    pub clear-E : (e : Expression) (Γ : List Meaning) (d : Around) → Within d → EverywhereE NewLambdas e d → Forms Clear Γ → Clear (formE e Γ)
-    clear-E (letIn x a b) Γ d i n h = clear-E b ((x, formE a Γ) ∷ Γ) (opened d) i (n .2) (clear-E a Γ (opened d) i (n .1) h, h)
-    clear-E (lambda x b) Γ d i n h = λ ys k.
-        clear-E b (asLambda x Γ) (inLambda x d) (λ y o. i y (o .1)) (n .1) (λ zs l. tt, h) (packed x ∷ ys) (i x (n .0), k)
-    clear-E (name x r) Γ d i n h = clear-C r (named x Γ) Γ d i (n .1) h (of-name Clear x Γ (λ ys k. tt) (λ ys k e. k) h)
-    clear-E (literal z r) Γ d i n h = clear-C r (number z) Γ d i (n .1) h (λ ys k. tt)
-    clear-E (bracket e r) Γ d i n h = clear-C r (formE e Γ) Γ d i (n .2) h (clear-E e Γ (opened d) i (n .1) h)
+    pub clear-E : (e : Expression) (Γ : List Meaning) (d : Around) → Within d → Counts Γ d → EverywhereE FewLambdas e d → Forms Clear Γ → Clear (formE e Γ)
+    clear-E (letIn x a b) Γ d i q n h = clear-E b (asLet x (formE a Γ) Γ) (opened d) i q (n .2) (clear-E a Γ (opened d) i q (n .1) h, h)
+    clear-E (lambda x b) Γ d i q n h = λ ys k.
+        clear-E b (asLambda x Γ) (inLambda d) (within-lambda d i) (ap suc q) (n .1) (λ zs l. tt, h) (variableOf x Γ ∷ ys) (lambda-new x Γ d i q (n .0), k)
+    clear-E (name x r) Γ d i q n h = clear-C r (named x Γ) Γ d i q (n .1) h (of-name Clear x Γ (λ ys k. tt) (λ ys k e. k) h)
+    clear-E (literal z r) Γ d i q n h = clear-C r (number z) Γ d i q (n .1) h (λ ys k. tt)
+    clear-E (bracket e r) Γ d i q n h = clear-C r (formE e Γ) Γ d i q (n .2) h (clear-E e Γ (opened d) i q (n .1) h)
 
-    clear-C : (r : Calls) (g : Form) (Γ : List Meaning) (d : Around) → Within d → EverywhereC NewLambdas r d → Forms Clear Γ → Clear g → Clear (formC r g Γ)
-    clear-C done g Γ d i n h c = c
-    clear-C (call m a) g Γ d i n h c = clear-A a m g Γ d i (n .1) h c
+    clear-C : (r : Calls) (g : Form) (Γ : List Meaning) (d : Around) → Within d → Counts Γ d → EverywhereC FewLambdas r d → Forms Clear Γ → Clear g → Clear (formC r g Γ)
+    clear-C done g Γ d i q n h c = c
+    clear-C (call m a) g Γ d i q n h c = clear-A a m g Γ d i q (n .1) h c
 
-    clear-A : (a : Arguments) (m : List ℕ) (g : Form) (Γ : List Meaning) (d : Around) → Within d → EverywhereA NewLambdas a d → Forms Clear Γ → Clear g → Clear (formA a m g Γ)
-    clear-A (none r) m g Γ d i n h c = clear-C r (ask (member m) g) Γ d i n h c
-    clear-A (first e x) m g Γ d i n h c =
-        clear-M x (Form.call (member m) g (formE e Γ)) Γ d i (n .1) h (λ ys k. (c ys k, clear-E e Γ (opened d) i (n .0) h ys k))
+    clear-A : (a : Arguments) (m : List ℕ) (g : Form) (Γ : List Meaning) (d : Around) → Within d → Counts Γ d → EverywhereA FewLambdas a d → Forms Clear Γ → Clear g → Clear (formA a m g Γ)
+    clear-A (none r) m g Γ d i q n h c = clear-C r (ask (member m) g) Γ d i q n h c
+    clear-A (first e x) m g Γ d i q n h c =
+        clear-M x (Form.call (member m) g (formE e Γ)) Γ d i q (n .1) h (λ ys k. (c ys k, clear-E e Γ (opened d) i q (n .0) h ys k))
 
-    clear-M : (x : More) (g : Form) (Γ : List Meaning) (d : Around) → Within d → EverywhereM NewLambdas x d → Forms Clear Γ → Clear g → Clear (formM x g Γ)
-    clear-M (last r) g Γ d i n h c = clear-C r g Γ d i n h c
-    clear-M (next e x) g Γ d i n h c = clear-M x g Γ d i (n .1) h c
+    clear-M : (x : More) (g : Form) (Γ : List Meaning) (d : Around) → Within d → Counts Γ d → EverywhereM FewLambdas x d → Forms Clear Γ → Clear g → Clear (formM x g Γ)
+    clear-M (last r) g Γ d i q n h c = clear-C r g Γ d i q n h c
+    clear-M (next e x) g Γ d i q n h c = clear-M x g Γ d i q (n .1) h c
 
 -- ---- every let
 
 mutual
-  unfolding opened inLambda
+  unfolding lambdas opened inLambda
 
-  every-E : (e : Expression) (Γ : List Meaning) (d : Around) → Forms Whole Γ → Scoped Γ d → EverywhereE NewLambdas e d → EverywhereE NonzeroNames e d → AtLetsE Substituted e Γ
-  every-E (letIn x a b) Γ d w s l n =
+  every-E : (e : Expression) (Γ : List Meaning) (d : Around) → Forms Whole Γ → Scoped Γ d → Counts Γ d → EverywhereE FewLambdas e d → EverywhereE NonzeroNames e d → AtLetsE Substituted e Γ
+  every-E (letIn x a b) Γ d w s q l n =
       let f = formE a Γ in
-      let i : Within f d = λ y o. not-free-E (packed y) a Γ (s y o) in (
+      let i : Within f d = λ y o. not-free-E y a Γ (s y o) in (
         record {
           filled = let-filled Γ w x a b (opened d) (n .2);
-          avoids = clear-E f b ((x, hole) ∷ Γ) (opened d) i (l .2) (λ ys k e. k, whole-clear f Γ w) [] tt;
+          avoids = clear-E f b (asLet x hole Γ) (opened d) i q (l .2) (λ ys k e. k, whole-clear f Γ w) [] tt;
         },
-        every-E a Γ (opened d) w s (l .1) (n .1),
-        every-E b ((x, f) ∷ Γ) (opened d) (whole-E Γ w a (opened d) (n .1), w) (λ y o. (i y o, s y o)) (l .2) (n .2),
+        every-E a Γ (opened d) w s q (l .1) (n .1),
+        every-E b (asLet x f Γ) (opened d) (whole-E Γ w a (opened d) (n .1), w) (λ y o. (i y o, s y o)) q (l .2) (n .2),
       )
-  every-E (lambda x b) Γ d w s l n =
-      every-E b (asLambda x Γ) (inLambda x d) (whole-variable (packed x), w) (λ y o. (not-variable (packed y) (packed x) (o .0), s y (o .1))) (l .1) (n .1)
-  every-E (name x r) Γ d w s l n = every-C r Γ d w s (l .1) (n .1)
-  every-E (literal z r) Γ d w s l n = every-C r Γ d w s (l .1) (n .1)
-  every-E (bracket e r) Γ d w s l n = (every-E e Γ (opened d) w s (l .1) (n .1), every-C r Γ d w s (l .2) (n .2))
+  every-E (lambda x b) Γ d w s q l n =
+      every-E b (asLambda x Γ) (inLambda d) (whole-variable (variableOf x Γ), w) (scoped-lambda x Γ d q (l .0) s) (ap suc q) (l .1) (n .1)
+  every-E (name x r) Γ d w s q l n = every-C r Γ d w s q (l .1) (n .1)
+  every-E (literal z r) Γ d w s q l n = every-C r Γ d w s q (l .1) (n .1)
+  every-E (bracket e r) Γ d w s q l n = (every-E e Γ (opened d) w s q (l .1) (n .1), every-C r Γ d w s q (l .2) (n .2))
 
-  every-C : (r : Calls) (Γ : List Meaning) (d : Around) → Forms Whole Γ → Scoped Γ d → EverywhereC NewLambdas r d → EverywhereC NonzeroNames r d → AtLetsC Substituted r Γ
-  every-C done Γ d w s l n = tt
-  every-C (call m a) Γ d w s l n = every-A a Γ d w s (l .1) (n .1)
+  every-C : (r : Calls) (Γ : List Meaning) (d : Around) → Forms Whole Γ → Scoped Γ d → Counts Γ d → EverywhereC FewLambdas r d → EverywhereC NonzeroNames r d → AtLetsC Substituted r Γ
+  every-C done Γ d w s q l n = tt
+  every-C (call m a) Γ d w s q l n = every-A a Γ d w s q (l .1) (n .1)
 
-  every-A : (a : Arguments) (Γ : List Meaning) (d : Around) → Forms Whole Γ → Scoped Γ d → EverywhereA NewLambdas a d → EverywhereA NonzeroNames a d → AtLetsA Substituted a Γ
-  every-A (none r) Γ d w s l n = every-C r Γ d w s l n
-  every-A (first e x) Γ d w s l n = (every-E e Γ (opened d) w s (l .0) (n .0), every-M x Γ d w s (l .1) (n .1))
+  every-A : (a : Arguments) (Γ : List Meaning) (d : Around) → Forms Whole Γ → Scoped Γ d → Counts Γ d → EverywhereA FewLambdas a d → EverywhereA NonzeroNames a d → AtLetsA Substituted a Γ
+  every-A (none r) Γ d w s q l n = every-C r Γ d w s q l n
+  every-A (first e x) Γ d w s q l n = (every-E e Γ (opened d) w s q (l .0) (n .0), every-M x Γ d w s q (l .1) (n .1))
 
-  every-M : (x : More) (Γ : List Meaning) (d : Around) → Forms Whole Γ → Scoped Γ d → EverywhereM NewLambdas x d → EverywhereM NonzeroNames x d → AtLetsM Substituted x Γ
-  every-M (last r) Γ d w s l n = every-C r Γ d w s l n
-  every-M (next e x) Γ d w s l n = (every-E e Γ (opened d) w s (l .0) (n .0), every-M x Γ d w s (l .1) (n .1))
+  every-M : (x : More) (Γ : List Meaning) (d : Around) → Forms Whole Γ → Scoped Γ d → Counts Γ d → EverywhereM FewLambdas x d → EverywhereM NonzeroNames x d → AtLetsM Substituted x Γ
+  every-M (last r) Γ d w s q l n = every-C r Γ d w s q l n
+  every-M (next e x) Γ d w s q l n = (every-E e Γ (opened d) w s q (l .0) (n .0), every-M x Γ d w s q (l .1) (n .1))
 
 -- every let of a text that keeps the limits is replaced by capture-avoiding substitution
 pub lets-substituted : (e : Expression) → KeepsLimits e → EverywhereE NonzeroNames e outermost → AtLetsE Substituted e []
-lets-substituted e k n = every-E e [] outermost tt (λ y o. tt) (keeps-each e k .lambdaNames) n
+unfolding lambdas
+lets-substituted e k n = every-E e [] outermost tt (λ y o. tt) refl (keeps-each e k .lambdas) n

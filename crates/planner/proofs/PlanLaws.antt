@@ -2,7 +2,7 @@
 use mathlib.Core.Path.{_≡_, refl, sym, ap, _∙_}
 use mathlib.Core.Bool.{true, false}
 use mathlib.Core.List.{List, [], _∷_, map}
-use Prim.Native.Nat.{ℕ, suc, _+_, _-_, _*_, _/_, _%_, _<_, _≤_}
+use Prim.Native.Nat.{ℕ, suc, _-_, _*_, _/_, _%_, _<_}
 use native.Mathlib.Omega.{arith}
 use borrow.Author.Tests.{ltb-true, ltb-false, eqb-true, eqb-false}
 use lib.Dec.{eqb, ltb}
@@ -26,10 +26,9 @@ use Rattle.table.specs.CheckedLaws.{nodes-are}
 use Rattle.binder.specs.Records.{recordAt, bound, BoundAll, isFull}
 use Rattle.binder.specs.RecordsLaws.{bound-waits, bound-numbers, bound-total}
 use Rattle.records.specs.Records.{Recorded, recordsOf}
-use Rattle.bridge.specs.Recorded.{unfolds}
+use Rattle.bridge.specs.Recorded.{unfolds, levels-low}
 use Rattle.descent.specs.Descent.{State, readInto}
 use Rattle.descent.specs.Decoding as D
-use Rattle.descent.specs.Linked.{Earlier}
 use Rattle.descent.specs.Theorems.{Held, Result, into}
 use Rattle.reader.specs.Results.{ReadsInto, answerOf, noBinders}
 use Rattle.reader.specs.declared.answer.Read.{Read}
@@ -39,27 +38,30 @@ use Rattle.planner.specs.declared.plan.Plan.{Plan}
 use Rattle.planner.specs.Plans.{ReadTo, BindsTo, Binds, Accepted, Planned}
 
 -- The records that the reader wrote are those that binding reads.
-record-same : (cells : List ℕ) (r : ℕ) → D.recordAt cells r .second < recordBase → recordAt cells r ≡ D.recordAt cells r
+record-same : (cells : List ℕ) (r : ℕ) → D.recordAt cells r .level < recordBase → recordAt cells r ≡ D.recordAt cells r
 unfolding recordAt D.recordAt
-record-same cells r h = let z : getD cells (2 * r) 0 / (kindBase * recordBase) % recordBase ≡ getD cells (2 * r) 0 / (kindBase * recordBase) = omega arith in rw z
+record-same cells r h =
+    let z : getD cells (2 * r) 0 / (kindBase * recordBase * recordBase) % recordBase ≡ getD cells (2 * r) 0 / (kindBase * recordBase * recordBase) = omega arith in
+    rw z
 
-records-same : (cells : List ℕ) (r : ℕ) (ns : List Node) → Earlier r ns → r + length ns ≤ textParts → D.recordsFrom cells r (length ns) ≡ ns
+records-same : (cells : List ℕ) (r : ℕ) (ns : List Node) → All (λ (n : Node). n .level < 2) ns → D.recordsFrom cells r (length ns) ≡ ns
     → numbered (recordAt cells) r (length ns) ≡ ns
 unfolding numbered D.recordsFrom
-records-same cells r [] h l e = refl
-records-same cells r (n ∷ ns) h l e =
+records-same cells r [] h e = refl
+records-same cells r (n ∷ ns) h e =
     let q : D.recordAt cells r ≡ n = cc in
     let u : D.recordsFrom cells (suc r) (length ns) ≡ ns = cc in
-    let s = h .0 .second in
-    let v : D.recordAt cells r .second < recordBase = rw q (omega arith) in
-    rw (record-same cells r v, q, records-same cells (suc r) ns (h .1) (omega arith) u)
+    let s = h .0 in
+    let v : D.recordAt cells r .level < recordBase = rw q (omega arith) in
+    rw (record-same cells r v, q, records-same cells (suc r) ns (h .1) u)
 
 -- What the reader answers, by the text.
 held-read : (text R P : List ℕ) (x : Expression) (s : State) (n size root : ℕ) (R′ P′ : List ℕ) → readText text ≡ tree x → Held R P x s
     → length P ≡ textParts
     → s .cursor .parts ≡ n → s .cursor .count ≡ size → s .cursor .root ≡ root → R′ ≡ s .records → P′ ≡ s .places → ReadTo text n size root R′ P′
 held-read text R P x s n size root R′ P′ q h lp qn qs qr qR qP =
-    let u = unfolds x (text-read-plainly text x .0 q .1) in
+    let limits = text-read-plainly text x .0 q .1 in
+    let u = unfolds x limits in
     let parts : n ≡ length (recordsOf x .places) = sym qn ∙ h .parts in
     let count : size ≡ length (recordsOf x .records) = sym qs ∙ h .count in
     let whole : root ≡ recordsOf x .root = sym qr ∙ h .root in
@@ -67,7 +69,7 @@ held-read text R P x s n size root R′ P′ q h lp qn qs qr qR qP =
     record {
       expression = x;
       reads = q;
-      records = rw (qR, count) (records-same (s .records) 0 (recordsOf x .records) (h .linked .earlier) (omega (arith, h .fewParts, h .fewRecords)) decoded);
+      records = rw (qR, count) (records-same (s .records) 0 (recordsOf x .records) (levels-low x limits) decoded);
       places = rw (qP, h .places) (take-at (recordsOf x .places) (drop (s .cursor .parts) P) n (sym parts));
       parts = parts;
       whole = whole;

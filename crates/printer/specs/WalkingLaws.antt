@@ -1,7 +1,7 @@
 -- Laws of the walk over a form: each step of the code is the step of `walked` on the entry's form. Assumes nothing.
 use mathlib.Core.Path.{_≡_, refl, sym, ap, _∙_}
 use mathlib.Core.Bool.{Bool, true, false, not, _&&_, _||_, cond, and-eq-true-iff}
-use mathlib.Core.List.{List, _∷_}
+use mathlib.Core.List.{List, [], _∷_, map}
 use Prim.Native.Nat.{ℕ, suc, _+_, _-_, _≤_, _<_, _%_}
 use native.Mathlib.Omega.{arith}
 use borrow.Author.Tests.{eqb-true, eqb-false, ne-eqb, eq-eqb, ltb-true}
@@ -10,22 +10,23 @@ use lib.ListN.{length}
 use Rattle.language.specs.Cases.{split}
 use Rattle.language.specs.Limits.{openMarks, openLambdas}
 use Rattle.members.specs.declared.Member.{Member}
-use Rattle.meaning.specs.Forms.{Form, ask, call, function}
+use Rattle.meaning.specs.Forms.{Form, withLevel, nameIn, levelIn, ask, call, function}
 use Rattle.meaning.specs.Evaluation.{hasName}
 use Rattle.layout.specs.Memory.{Node, nodeAt}
-use Rattle.layout.specs.Nodes.{numberKind, variableKind, unboundKind, functionKind, build, isName}
+use Rattle.layout.specs.Nodes.{numberKind, variableKind, unboundKind, functionKind, variableIn, build, isName}
 use Rattle.table.specs.WellFormed.{keyRight}
 use Rattle.table.specs.Right.{nodeRight}
 use Rattle.table.specs.NodeKinds.{Fine, aNumber, aVariable, anUnbound, theReadings, aFunction, anAsk, aCall, right-fine}
-use Rattle.table.specs.RightLaws.{right-key, first-low, second-low}
+use Rattle.table.specs.RightLaws.{right-key, level-low, first-low, second-low}
 use Rattle.printing.specs.Printed.{isFunction}
+use Rattle.printing.specs.Bound.{isInnermost}
 use Rattle.printing.specs.Judging.{declined, counted, looked, opening, admits, admitsFunction, atReceiver, walked, refusalOf, verdict}
-use Rattle.printing.specs.JudgingLaws.{opening-few, walked-few, walked-declined}
+use Rattle.printing.specs.JudgingLaws.{looked-few, opening-few, walked-few, walked-declined}
 use Rattle.demand.specs.Cells.{name-some}
 use Rattle.writer.specs.NodeTexts.{function-node, ask-node, call-node}
 use Rattle.writer.specs.Writing.{formIn, Tabled}
 use Rattle.printer.specs.declared.judge.Scope.{Scope}
-use Rattle.printer.specs.Walking.{names, leafWalked, Walks}
+use Rattle.printer.specs.Walking.{variables, Low, leafWalked, Walks}
 
 -- ---- what is open
 
@@ -33,41 +34,115 @@ or-none : (b : Bool) → (b || false) ≡ b
 or-none true = refl
 or-none false = refl
 
-pub bound-names : (x : ℕ) (s : Scope) → isName x ≡ true → (eqb x (s .inner) || eqb x (s .outer)) ≡ hasName x (names s)
-unfolding names hasName
-bound-names x s h =
+name-back : (x k : ℕ) → k < openLambdas → nameIn (withLevel x k) ≡ x
+name-back x k h = omega arith
+
+pub bound-names : (x : ℕ) (s : Scope) → isName x ≡ true → Low s → (eqb x (s .inner) || eqb x (s .outer)) ≡ hasName x (map nameIn (variables s))
+unfolding variables hasName
+bound-names x s h l =
     let n = name-some x h in
+    let a = name-back (s .inner) (s .near) (l .0) in
+    let b = name-back (s .outer) (s .far) (l .1) in
     split (eqb (s .outer) 0)
     (λ e. let z = eqb-true (s .outer) 0 e in
     rw (e, z, n)
-    (split (eqb (s .inner) 0) (λ o. let y = eqb-true (s .inner) 0 o in rw (o, y, n)) (λ o. rw o)))
-    (λ e. rw (e, or-none (eqb x (s .outer))))
+    (split (eqb (s .inner) 0) (λ o. let y = eqb-true (s .inner) 0 o in rw (o, y, n)) (λ o. rw (o, a))))
+    (λ e. rw (e, a, b, or-none (eqb x (s .outer))))
 
--- two functions are around exactly where there is an outer one
-pub names-few : (s : Scope) → eqb (s .outer) 0 ≡ ltb (length (names s)) openLambdas
-unfolding names
-names-few s = split (eqb (s .outer) 0) (λ e. rw e (split (eqb (s .inner) 0) (λ o. rw o) (λ o. rw o))) (λ e. rw e)
+-- of one name, variables are equal just where their levels are
+same-level : (x y k l : ℕ) → k < openLambdas → l < openLambdas → x ≡ y → eqb k l ≡ eqb (withLevel x k) (withLevel y l)
+same-level x y k l p q e =
+    split (eqb k l)
+    (λ o. let z = eqb-true k l o in rw o (sym (eq-eqb (withLevel x k) (withLevel y l) (omega arith))))
+    (λ o. rw o (sym (ne-eqb (withLevel x k) (withLevel y l) (λ z. eqb-false k l o (omega arith)))))
+
+-- a variable is the innermost of its name, by the code's tests
+module _ (x level : ℕ) (s : Scope) (named : isName x ≡ true) (low : level < openLambdas) (l : Low s) where
+  abbrev v : ℕ
+  v = withLevel x level
+
+  -- the first function has its name, or another
+  first-own : (y k : ℕ) → k < openLambdas → x ≡ y → (ys : List ℕ) → eqb level k ≡ isInnermost v (withLevel y k ∷ ys)
+  unfolding isInnermost
+  first-own y k h e ys = rw (name-back x level low, name-back y k h, eq-eqb x y e) (same-level x y level k low h e)
+
+  first-other : (y k : ℕ) → k < openLambdas → (x ≡ y → ⊥) → (ys : List ℕ) → isInnermost v (withLevel y k ∷ ys) ≡ isInnermost v ys
+  unfolding isInnermost
+  first-other y k h u ys = rw (name-back x level low, name-back y k h, ne-eqb x y u)
+
+  -- one function
+  only : (y k : ℕ) → k < openLambdas → (eqb x y && eqb level k) ≡ isInnermost v (withLevel y k ∷ [])
+  unfolding isInnermost
+  only y k h =
+      split (eqb x y) (λ e. rw e (first-own y k h (eqb-true x y e) [])) (λ e. rw e (sym (first-other y k h (eqb-false x y e) [])))
+
+  pub own-inner : x ≡ s .inner → eqb level (s .near) ≡ isInnermost v (variables s)
+  unfolding variables
+  own-inner e =
+      let n = name-some x named in
+      let z : eqb (s .inner) 0 ≡ false = rw e at n in
+      split (eqb (s .outer) 0) (λ o. rw (o, z) (first-own (s .inner) (s .near) (l .0) e []))
+      (λ o. rw o (first-own (s .inner) (s .near) (l .0) e (withLevel (s .outer) (s .far) ∷ [])))
+
+  pub own-outer : (x ≡ s .inner → ⊥) → (eqb x (s .outer) && eqb level (s .far)) ≡ isInnermost v (variables s)
+  unfolding variables isInnermost
+  own-outer u =
+      let n = name-some x named in
+      split (eqb (s .outer) 0)
+      (λ o.
+      let z = eqb-true (s .outer) 0 o in
+      let t : eqb x (s .outer) ≡ false = rw z n in
+      rw (o, t) (split (eqb (s .inner) 0) (λ i. rw i) (λ i. rw i (sym (first-other (s .inner) (s .near) (l .0) u [])))))
+      (λ o. rw o (only (s .outer) (s .far) (l .1) ∙ sym (first-other (s .inner) (s .near) (l .0) u (withLevel (s .outer) (s .far) ∷ []))))
+
+-- how many functions are around; two exactly where there is an outer one
+module _ (s : Scope) where
+  pub depth-two : (s .outer ≡ 0 → ⊥) → 2 ≡ length (variables s)
+  unfolding variables
+  depth-two u = rw (ne-eqb (s .outer) 0 u)
+
+  pub depth-one : s .outer ≡ 0 → (s .inner ≡ 0 → ⊥) → 1 ≡ length (variables s)
+  unfolding variables
+  depth-one e u = rw (eq-eqb (s .outer) 0 e, ne-eqb (s .inner) 0 u)
+
+  pub depth-none : s .outer ≡ 0 → s .inner ≡ 0 → 0 ≡ length (variables s)
+  unfolding variables
+  depth-none e i = rw (eq-eqb (s .outer) 0 e, eq-eqb (s .inner) 0 i)
+
+  pub depth-few : eqb (s .outer) 0 ≡ ltb (length (variables s)) openLambdas
+  unfolding variables
+  depth-few = split (eqb (s .outer) 0) (λ e. rw e (split (eqb (s .inner) 0) (λ o. rw o) (λ o. rw o))) (λ e. rw e)
+
+-- a broken limit stays one
+looked-declined : (b : Bool) → looked b declined ≡ declined
+unfolding looked
+looked-declined true = refl
+looked-declined false = refl
 
 -- a function can open, by the code's tests
-module _ (s : Scope) (marks x : ℕ) (taken : Bool) (bound : taken ≡ hasName x (names s)) (n : ℕ) where
+module _ (s : Scope) (level marks n : ℕ) where
   abbrev tests : Bool
-  tests = ltb marks openMarks && (eqb (s .outer) 0 && not taken)
+  tests = ltb marks openMarks && eqb (s .outer) 0
 
-  same-tests : tests ≡ admitsFunction marks (names s) x
-  same-tests = rw (names-few s, bound)
+  abbrev opened : ℕ
+  opened = looked (eqb level (length (variables s))) (opening (admitsFunction marks (variables s)) (counted n))
 
-  pub function-opens : tests ≡ true → (r : ℕ) → r ≡ counted n → r ≡ opening (admitsFunction marks (names s) x) (counted n)
+  same-tests : tests ≡ admitsFunction marks (variables s)
+  same-tests = rw (depth-few s)
+
+  pub function-opens : tests ≡ true → (d m r : ℕ) → d ≡ length (variables s) → m ≡ counted n → r ≡ looked (eqb level d) m → r ≡ opened
   unfolding opening
-  function-opens e r q = rw (sym same-tests ∙ e) q
+  function-opens e d m r p q o = rw (sym same-tests ∙ e, ← p, ← q) o
 
-  pub function-not : tests ≡ false → declined ≡ opening (admitsFunction marks (names s) x) (counted n)
+  pub function-not : tests ≡ false → declined ≡ opened
   unfolding opening
-  function-not e = rw (sym same-tests ∙ e)
+  function-not e = rw (sym same-tests ∙ e) (sym (looked-declined (eqb level (length (variables s)))))
 
 -- one more
-pub names-more : (s : Scope) (marks x : ℕ) → isName x ≡ true → s .outer ≡ 0 → names (record { marks = marks; inner = x; outer = s .inner }) ≡ x ∷ names s
-unfolding names
-names-more s marks x h z =
+pub variables-more : (s : Scope) (marks x k : ℕ) → isName x ≡ true → s .outer ≡ 0
+    → variables (record { marks = marks; inner = x; near = k; outer = s .inner; far = s .near }) ≡ withLevel x k ∷ variables s
+unfolding variables
+variables-more s marks x k h z =
     let n = name-some x h in
     split (eqb (s .inner) 0) (λ e. rw (z, e, n)) (λ e. rw (z, e))
 
@@ -81,20 +156,20 @@ opening-within false n u = absurd (u refl)
 leaf-walked : {q : Node} → Fine q → q .kind < functionKind → (φ : ℕ → Form) (k : ℕ) (xs : List ℕ) (n : ℕ) → walked k xs (build q φ) n ≡ leafWalked q xs n
 unfolding build walked leafWalked
 leaf-walked (aNumber key) l φ k xs n = refl
-leaf-walked (aVariable x) l φ k xs n = refl
+leaf-walked (aVariable x _ _) l φ k xs n = refl
 leaf-walked (anUnbound x) l φ k xs n = refl
 leaf-walked theReadings l φ k xs n = refl
-leaf-walked (aFunction x b) l φ k xs n = absurd (omega arith)
+leaf-walked (aFunction x b _ _) l φ k xs n = absurd (omega arith)
 leaf-walked (anAsk m f h) l φ k xs n = absurd (omega arith)
 leaf-walked (aCall m f a h) l φ k xs n = absurd (omega arith)
 
 -- a member has a receiver
 member-first : {q : Node} → Fine q → functionKind < q .kind → 1 ≤ q .first
 member-first (aNumber key) l = absurd (omega arith)
-member-first (aVariable x) l = absurd (omega arith)
+member-first (aVariable x _ _) l = absurd (omega arith)
 member-first (anUnbound x) l = absurd (omega arith)
 member-first theReadings l = absurd (omega arith)
-member-first (aFunction x b) l = absurd (omega arith)
+member-first (aFunction x b _ _) l = absurd (omega arith)
 member-first (anAsk m f h) l = omega arith
 member-first (aCall m f a h) l = omega arith
 
@@ -105,11 +180,11 @@ unfolding keyRight
 key-name q k e r a b = rw (e, a, b) at r
 
 module _ (q : Node) (xs : List ℕ) (n met : ℕ) (part : met ≡ counted n) where
-  pub leaf-variable : q .kind ≡ variableKind → (b : Bool) → b ≡ hasName (q .key) xs → (r : ℕ) → r ≡ looked b met → r ≡ leafWalked q xs n
+  pub leaf-variable : q .kind ≡ variableKind → (b : Bool) → b ≡ isInnermost (variableIn q) xs → (r : ℕ) → r ≡ looked b met → r ≡ leafWalked q xs n
   unfolding leafWalked
   leaf-variable e b be r re = rw (e, ← be, ← part) re
 
-  pub leaf-unbound : q .kind ≡ unboundKind → (b : Bool) → b ≡ hasName (q .key) xs → (r : ℕ) → r ≡ looked (not b) met → r ≡ leafWalked q xs n
+  pub leaf-unbound : q .kind ≡ unboundKind → (b : Bool) → b ≡ hasName (q .key) (map nameIn xs) → (r : ℕ) → r ≡ looked (not b) met → r ≡ leafWalked q xs n
   unfolding leafWalked
   leaf-unbound e b be r re = rw (e, ← be, ← part) re
 
@@ -127,7 +202,7 @@ module _ (links cells : List ℕ) (count entry : ℕ) (s : Scope) (found : ℕ) 
   k = s .marks
 
   abbrev xs : List ℕ
-  xs = names s
+  xs = variables s
 
   -- what the walk over the entry finds
   abbrev all : ℕ
@@ -154,6 +229,9 @@ module _ (links cells : List ℕ) (count entry : ℕ) (s : Scope) (found : ℕ) 
     pub walks-key : keyRight q ≡ true
     walks-key = right-key at q right
 
+    pub walks-level : q .level < openLambdas
+    walks-level = level-low at q right
+
     -- what is left of the walk, by the form that the entry has
     ask-left : (m : Member) (f : Form) → φ at ≡ ask m f → walked (atReceiver f k) xs f (opening (admits k) (counted met)) ≡ all
     unfolding walked
@@ -164,9 +242,10 @@ module _ (links cells : List ℕ) (count entry : ℕ) (s : Scope) (found : ℕ) 
     unfolding walked
     call-left m f a e = rw e at (w .same)
 
-    function-left : (x : ℕ) (b : Form) → φ at ≡ function x b → walked (suc marks) (x ∷ xs) b (opening (admitsFunction marks xs x) (counted met)) ≡ all
+    function-left : (v : ℕ) (b : Form) → φ at ≡ function v b
+        → walked (suc marks) (v ∷ xs) b (looked (eqb (levelIn v) (length xs)) (opening (admitsFunction marks xs) (counted met))) ≡ all
     unfolding walked
-    function-left x b e = rw e at (w .same)
+    function-left v b e = rw e at (w .same)
 
     -- the receiver of a member comes before it
     pub receiver-low : functionKind < q .kind → (i : ℕ) → i ≡ q .first - 1 → i < at
@@ -227,9 +306,9 @@ module _ (links cells : List ℕ) (count entry : ℕ) (s : Scope) (found : ℕ) 
           pub argument-held : j < count
           argument-held = let l = argument-low in let h = w .held in omega arith
 
-          pub walks-call : (met₂ : ℕ) → met₂ ≡ walked (k + 1) (names (record { marks = k + 1; inner = s .inner; outer = s .outer })) (φ j) met₁
+          pub walks-call : (met₂ : ℕ) → met₂ ≡ walked (k + 1) (variables (record { marks = k + 1; inner = s .inner; near = s .near; outer = s .outer; far = s .far })) (φ j) met₁
               → (i : ℕ) → i ≡ q .first - 1 → (p : Node) → p ≡ nodeAt links cells i → Walks links cells count entry s found i p (k + 1) met₂
-          unfolding names
+          unfolding variables
           walks-call met₂ e =
               let v = call-node fine (λ z. omega arith) (omega arith) in
               let f = φ (v .receiver) in
@@ -241,20 +320,29 @@ module _ (links cells : List ℕ) (count entry : ℕ) (s : Scope) (found : ℕ) 
               (ap (walked (atReceiver f k) xs f) is ∙ call-left (v .member) f a (form ∙ v .form φ))
 
     -- a function
-    module _ (kind : q .kind ≡ functionKind) (met₁ : ℕ) (opens : met₁ ≡ opening (admitsFunction marks xs (q .key)) (counted met)) where
+    module _ (kind : q .kind ≡ functionKind) (met₁ : ℕ) (opens : met₁ ≡ looked (eqb (q .level) (length xs)) (opening (admitsFunction marks xs) (counted met))) where
       pub function-few : met₁ ≤ declined
-      function-few = rw opens (opening-few (admitsFunction marks xs (q .key)) met)
+      function-few = rw opens (looked-few (eqb (q .level) (length xs)) (opening (admitsFunction marks xs) (counted met)) (opening-few (admitsFunction marks xs) met))
+
+      -- what is left, with the function's body
+      body-left : (b : Form) → φ at ≡ function (variableIn q) b → walked (suc marks) (variableIn q ∷ xs) b met₁ ≡ all
+      body-left b e =
+          let l = walks-level in
+          let z : levelIn (variableIn q) ≡ q .level = omega arith in
+          ap (walked (suc marks) (variableIn q ∷ xs) b) opens ∙ (rw z at (function-left (variableIn q) b e))
 
       pub function-declined : met₁ ≡ declined → declined ≡ all
       function-declined z =
           let v = function-node fine kind in
           let b = φ (v .body) in
-          sym (ap (walked (suc marks) (q .key ∷ xs) b) (sym opens ∙ z) ∙ walked-declined (suc marks) (q .key ∷ xs) b) ∙ function-left (q .key) b (form ∙ v .form φ)
+          sym (ap (walked (suc marks) (variableIn q ∷ xs) b) z ∙ walked-declined (suc marks) (variableIn q ∷ xs) b) ∙ body-left b (form ∙ v .form φ)
 
       -- within the limits
       module _ (kept : met₁ ≡ declined → ⊥) where
-        within : (admits marks && (ltb (length xs) openLambdas && not (hasName (q .key) xs))) ≡ true
-        within = opening-within (admitsFunction marks xs (q .key)) (counted met) (rw opens at kept)
+        within : (admits marks && ltb (length xs) openLambdas) ≡ true
+        within =
+            opening-within (admitsFunction marks xs) (counted met)
+            (λ e. kept (opens ∙ ap (looked (eqb (q .level) (length xs))) e ∙ looked-declined (eqb (q .level) (length xs))))
 
         pub deeper : marks + 1 ≤ openMarks
         deeper = let l = ltb-true marks openMarks (and-eq-true-iff (admits marks) _ .0 within .0) in omega arith
@@ -266,14 +354,15 @@ module _ (links cells : List ℕ) (count entry : ℕ) (s : Scope) (found : ℕ) 
           pub body-held : j < count
           body-held = let l = body-low in let h = w .held in omega arith
 
-          pub walks-function : (r : ℕ) → r ≡ walked (marks + 1) (names (record { marks = marks + 1; inner = q .key; outer = s .inner })) (φ j) met₁ → r ≡ all
+          pub walks-function : (r : ℕ)
+              → r ≡ walked (marks + 1) (variables (record { marks = marks + 1; inner = q .key; near = q .level; outer = s .inner; far = s .near })) (φ j) met₁ → r ≡ all
           walks-function r e =
               let v = function-node fine kind in
               let z : j ≡ v .body = (let g = v .first in omega arith) in
               let m : marks + 1 ≡ suc marks = omega arith in
-              let few : eqb (s .outer) 0 ≡ true = names-few s ∙ and-eq-true-iff (ltb (length xs) openLambdas) _ .0 (and-eq-true-iff (admits marks) _ .0 within .1) .0 in
-              let n = names-more s (marks + 1) (q .key) (key-name q functionKind kind walks-key refl refl) (eqb-true (s .outer) 0 few) in
-              e ∙ (λ i. walked (m i) (n i) (φ (z i)) (opens i)) ∙ function-left (q .key) (φ (v .body)) (form ∙ v .form φ)
+              let few : eqb (s .outer) 0 ≡ true = depth-few s ∙ and-eq-true-iff (admits marks) _ .0 within .1 in
+              let n = variables-more s (marks + 1) (q .key) (q .level) (key-name q functionKind kind walks-key refl refl) (eqb-true (s .outer) 0 few) in
+              e ∙ (λ i. walked (m i) (n i) (φ (z i)) met₁) ∙ body-left (φ (v .body)) (form ∙ v .form φ)
 
     pub walks-leaf : q .kind ≤ functionKind → (q .kind ≡ functionKind → ⊥) → leafWalked q xs met ≡ all
     walks-leaf l n =
@@ -282,9 +371,9 @@ module _ (links cells : List ℕ) (count entry : ℕ) (s : Scope) (found : ℕ) 
 
 -- ---- the whole form
 
-module _ (f : Form) (n : ℕ) (is : n ≡ walked 0 (names (record { marks = 0; inner = 0; outer = 0 })) f 0) where
+module _ (f : Form) (n : ℕ) (is : n ≡ walked 0 (variables (record { marks = 0; inner = 0; near = 0; outer = 0; far = 0 })) f 0) where
   answered : refusalOf n ≡ verdict f
-  unfolding names
+  unfolding variables
   answered = ap refusalOf is
 
   pub verdict-declined : n ≡ declined → 15 ≡ verdict f

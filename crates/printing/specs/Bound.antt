@@ -1,34 +1,42 @@
--- 02, T-04: the form that is bound when a form's tree is read again. Its names are looked up anew, so that a variable that no function around it
--- binds comes back as an unbound name, and an unbound name that one does bind as a variable. Assumes nothing: these are definitions.
+-- 02, T-04 and T-05: the form that is bound when a form's tree is read again. Its names are looked up anew, so that a variable that no function
+-- around it binds comes back as an unbound name, an unbound name that one does bind as a variable, and a variable hidden by an inner function of
+-- its name as that one's; and each function gets the level of the place where it stands. Assumes nothing: these are definitions.
 use mathlib.Core.Path.{_≡_}
-use mathlib.Core.Bool.{true, false}
-use mathlib.Core.List.{List, [], _∷_}
+use mathlib.Core.Bool.{Bool, true, false, cond}
+use mathlib.Core.List.{List, [], _∷_, map}
 use Prim.Native.Nat.{ℕ}
-use Rattle.language.specs.Names.{packed}
-use Rattle.meaning.specs.Forms.{Form, number, variable, unbound, readings, ask, call, function}
-use Rattle.meaning.specs.Binding.{Meaning, named, asLambda}
+use lib.Dec.{eqb}
+use lib.ListN.{length}
+use Rattle.meaning.specs.Forms.{Form, nameIn, levelIn, number, variable, unbound, readings, ask, call, function}
+use Rattle.meaning.specs.Binding.{Meaning, named, variableOf, asLambda}
 use Rattle.meaning.specs.Evaluation.{hasName}
 use Rattle.printing.specs.Printed.{unpacked}
 
 -- where the names around it have these meanings
 unfoldable pub bound : Form → List Meaning → Form
 bound (number z) Γ = number z
-bound (variable x) Γ = named (unpacked x) Γ
+bound (variable v) Γ = named (unpacked (nameIn v)) Γ
 bound (unbound x) Γ = named (unpacked x) Γ
 bound readings Γ = readings
 bound (ask m f) Γ = ask m (bound f Γ)
 bound (call m f a) Γ = call m (bound f Γ) (bound a Γ)
-bound (function x b) Γ = function (packed (unpacked x)) (bound b (asLambda (unpacked x) Γ))
+bound (function v b) Γ = function (variableOf (unpacked (nameIn v)) Γ) (bound b (asLambda (unpacked (nameIn v)) Γ))
 
--- each variable has the name of a function around it, or one of the names xs, and no unbound name has
+-- within functions of the variables ys, innermost first: v is the variable of the innermost one of its name
+unfoldable pub isInnermost : ℕ → List ℕ → Bool
+isInnermost v [] = false
+isInnermost v (y ∷ ys) = cond (eqb (nameIn v) (nameIn y)) (eqb v y) (isInnermost v ys)
+
+-- within functions of the variables xs, innermost first: each variable is that of the innermost function of its name around it, no unbound name is
+-- that of a function around it, and each function has as its level how many are around it
 abbrev pub Closed : List ℕ → Form → Type 0
 Closed xs (number z) = Unit {0}
-Closed xs (variable x) = hasName x xs ≡ true
-Closed xs (unbound x) = hasName x xs ≡ false
+Closed xs (variable v) = isInnermost v xs ≡ true
+Closed xs (unbound x) = hasName x (map nameIn xs) ≡ false
 Closed xs readings = Unit {0}
 Closed xs (ask m f) = Closed xs f
 Closed xs (call m f a) = Closed xs f × Closed xs a
-Closed xs (function x b) = Closed (x ∷ xs) b
+Closed xs (function v b) = (levelIn v ≡ length xs) × Closed (v ∷ xs) b
 
 -- each form of a list is such
 abbrev pub Every : (Form → Type 0) → List Form → Type 0

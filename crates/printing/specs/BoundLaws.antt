@@ -11,9 +11,9 @@ use Rattle.members.specs.Members.{spelled}
 use Rattle.members.specs.MembersLaws.{name-found}
 use Rattle.members.specs.declared.Member.{Member}
 use Rattle.grammar.specs.Grammar.{Calls, done, call, none, first, last}
-use Rattle.meaning.specs.Forms.{Form, number, variable, unbound, readings, ask, function, same, within}
+use Rattle.meaning.specs.Forms.{Form, nameIn, number, variable, unbound, readings, ask, function, same, within}
 use Rattle.meaning.specs.FormsLaws.{within-self, within-trans}
-use Rattle.meaning.specs.Binding.{Meaning, named, asLambda, member, formE, formC, called, orderE, orderC, formOf, formsInOrder}
+use Rattle.meaning.specs.Binding.{Meaning, named, variableOf, asLambda, member, formE, formC, called, orderE, orderC, formOf, formsInOrder}
 use Rattle.printing.specs.Printed.{unpacked}
 use Rattle.printing.specs.Trees.{treeWith, treeOf}
 use Rattle.printing.specs.Bound.{bound, Every}
@@ -30,13 +30,13 @@ data-again Γ = rw (eq-eqb (packed dataWord) (packed dataWord) refl)
 tree-form : (f : Form) (r : Calls) (Γ : List Meaning) → formE (treeWith f r) Γ ≡ formC r (bound f Γ) Γ
 unfolding formE treeWith bound
 tree-form (number z) r Γ = refl
-tree-form (variable x) r Γ = refl
+tree-form (variable v) r Γ = refl
 tree-form (unbound x) r Γ = refl
 tree-form readings r Γ = rw (data-again Γ)
 tree-form (ask m f) r Γ = rw (tree-form f (call (spelled m) (none r)) Γ, member-again m)
 tree-form (Form.call m f a) r Γ = rw (tree-form f (call (spelled m) (first (treeOf a) (last r))) Γ, member-again m, tree-form a done Γ)
-tree-form (function x b) done Γ = rw (tree-form b done (asLambda (unpacked x) Γ))
-tree-form (function x b) (call m a) Γ = rw (tree-form b done (asLambda (unpacked x) Γ))
+tree-form (function v b) done Γ = rw (tree-form b done (asLambda (unpacked (nameIn v)) Γ))
+tree-form (function v b) (call m a) Γ = rw (tree-form b done (asLambda (unpacked (nameIn v)) Γ))
 
 pub form-bound : (f : Form) → formOf (treeOf f) ≡ bound f []
 unfolding formE
@@ -58,9 +58,9 @@ module _ (g : Form) where
   below-argument m f a h =
       within-trans a (Form.call m f a) g (or-right (same a (Form.call m f a)) _ (or-right (within a f) _ (within-self a))) h
 
-  below-body : (x : ℕ) (b : Form) → within (function x b) g ≡ true → within b g ≡ true
+  below-body : (v : ℕ) (b : Form) → within (function v b) g ≡ true → within b g ≡ true
   unfolding within
-  below-body x b h = within-trans b (function x b) g (or-right (same b (function x b)) _ (within-self b)) h
+  below-body v b h = within-trans b (function v b) g (or-right (same b (function v b)) _ (within-self b)) h
 
   abbrev Below : List Form → Type 0
   Below fs = Every (λ f. within f g ≡ true) fs
@@ -69,7 +69,7 @@ module _ (g : Form) where
       → Below (orderE (treeWith f r) Γ u)
   unfolding treeWith bound orderE formE called
   order-below (number z) r Γ u h k = (h, k)
-  order-below (variable x) r Γ u h k = (h, k)
+  order-below (variable v) r Γ u h k = (h, k)
   order-below (unbound x) r Γ u h k = (h, k)
   order-below readings r Γ u h k = rw (data-again Γ) (h, k)
   order-below (ask m f) r Γ u h k = order-below f (call (spelled m) (none r)) Γ u (below-ask m (bound f Γ) h) (rw (member-again m) (h, k))
@@ -78,12 +78,12 @@ module _ (g : Form) where
       (rw (member-again m, tree-form a done Γ)
       (order-below a done Γ (Form.call m (bound f Γ) (bound a Γ) ∷ orderC r (Form.call m (bound f Γ) (bound a Γ)) Γ u)
       (below-argument m (bound f Γ) (bound a Γ) h) (h, k)))
-  order-below (function x b) done Γ u h k =
-      order-below b done (asLambda (unpacked x) Γ) _ (below-body (packed (unpacked x)) (bound b (asLambda (unpacked x) Γ)) h)
-      (rw (tree-form b done (asLambda (unpacked x) Γ)) (h, k))
-  order-below (function x b) (call m a) Γ u h k =
-      order-below b done (asLambda (unpacked x) Γ) _ (below-body (packed (unpacked x)) (bound b (asLambda (unpacked x) Γ)) h)
-      (rw (tree-form b done (asLambda (unpacked x) Γ)) (h, k))
+  order-below (function v b) done Γ u h k =
+      let Δ = asLambda (unpacked (nameIn v)) Γ in
+      order-below b done Δ _ (below-body (variableOf (unpacked (nameIn v)) Γ) (bound b Δ) h) (rw (tree-form b done Δ) (h, k))
+  order-below (function v b) (call m a) Γ u h k =
+      let Δ = asLambda (unpacked (nameIn v)) Γ in
+      order-below b done Δ _ (below-body (variableOf (unpacked (nameIn v)) Γ) (bound b Δ) h) (rw (tree-form b done Δ) (h, k))
 
 pub order-within : (f : Form) → Every (λ g. within g (formOf (treeOf f)) ≡ true) (formsInOrder (treeOf f))
 unfolding orderE

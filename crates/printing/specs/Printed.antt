@@ -1,5 +1,6 @@
 -- 02, T-04: the text that a let-free form is printed as. No blanks but one on either side of ->; brackets only where the grammar needs them,
--- around a function that is a receiver; shortest decimals; arguments parted by a comma alone, of which no member takes two.
+-- around a function that is a receiver; shortest decimals; arguments parted by a comma alone, of which no member takes two. Of a variable only
+-- the name is printed, and not its level (T-05).
 -- Assumes nothing: these are definitions. Which tokens the text has is in TokenLaws.
 use mathlib.Core.Bool.{Bool, true, false, cond}
 use mathlib.Core.List.{List, [], _∷_, _++_}
@@ -9,7 +10,7 @@ use lib.IntN.{ℤ, pos, negsuc}
 use Rattle.language.specs.Limits.{nameBytes}
 use Rattle.language.specs.Names.{bytes, byteBase, dataWord}
 use Rattle.members.specs.Members.{spelled}
-use Rattle.meaning.specs.Forms.{Form, number, variable, unbound, readings, ask, call, function}
+use Rattle.meaning.specs.Forms.{Form, nameIn, number, variable, unbound, readings, ask, call, function}
 
 -- a number is within signed 32 bits: it has at most 10 digits
 abbrev pub numberDigits : ℕ
@@ -39,12 +40,12 @@ unpacked x = unpackOnto nameBytes x []
 
 abbrev pub isFunction : Form → Bool
 isFunction (number z) = false
-isFunction (variable x) = false
+isFunction (variable v) = false
 isFunction (unbound x) = false
 isFunction readings = false
 isFunction (ask m f) = false
 isFunction (call m f a) = false
-isFunction (function x b) = true
+isFunction (function v b) = true
 
 -- the text t of the receiver f
 abbrev pub asReceiver : Form → List ℕ → List ℕ
@@ -53,9 +54,9 @@ asReceiver f t = cond (isFunction f) (bytes "(" ++ (t ++ bytes ")")) t
 -- the text of a form
 unfoldable pub textOf : Form → List ℕ
 textOf (number z) = decimals z
-textOf (variable x) = unpacked x
+textOf (variable v) = unpacked (nameIn v)
 textOf (unbound x) = unpacked x
 textOf readings = dataWord
 textOf (ask m f) = asReceiver f (textOf f) ++ (bytes "." ++ (spelled m ++ bytes "()"))
 textOf (call m f a) = asReceiver f (textOf f) ++ (bytes "." ++ (spelled m ++ (bytes "(" ++ (textOf a ++ bytes ")"))))
-textOf (function x b) = bytes "\\" ++ (unpacked x ++ (bytes " -> " ++ textOf b))
+textOf (function v b) = bytes "\\" ++ (unpacked (nameIn v) ++ (bytes " -> " ++ textOf b))

@@ -21,7 +21,7 @@ use Rattle.grammar.specs.Words.{IsWord}
 use Rattle.grammar.specs.Grammar.{Calls, done, call, none, first, last, spellE, spellC}
 use Rattle.grammar.specs.KeptLimits.{InRange}
 use Rattle.grammar.specs.Reading.{tokensOf}
-use Rattle.meaning.specs.Forms.{Form, variable, unbound, readings, ask, function}
+use Rattle.meaning.specs.Forms.{Form, nameIn, variable, unbound, readings, ask, function}
 use Rattle.layout.specs.Nodes.{isName}
 use Rattle.printing.specs.Printed.{digits, decimals, unpacked, isFunction, textOf}
 use Rattle.printing.specs.Trees.{treeWith, treeOf}
@@ -184,7 +184,7 @@ scans-form : (f : Form) → Printable f → (r : Calls) (u : List ℕ) (ts : Lis
     → Scans (standing f r ++ u) (spellE (treeWith f r) ts)
 unfolding textOf treeWith spellE bytes isCall
 scans-form (Form.number z) p r u ts e k = scans-number z u (spellC r ts) p e k
-scans-form (variable x) p r u ts e k = scans-word (unpacked x) u (spellC r ts) (name-word x p) e k
+scans-form (variable v) p r u ts e k = scans-word (unpacked (nameIn v)) u (spellC r ts) (name-word (nameIn v) p) e k
 scans-form (unbound x) p r u ts e k = scans-word (unpacked x) u (spellC r ts) (name-word x p) e k
 scans-form readings p r u ts e k = scans-word dataWord u (spellC r ts) data-word e k
 scans-form (ask m f) p r u ts e k =
@@ -196,11 +196,11 @@ scans-form (Form.call m f a) p r u ts e k =
     (scans-form f (p .0) (call (spelled m) (first (treeOf a) (last r))) (46 ∷ (spelled m ++ (40 ∷ (textOf a ++ (41 ∷ u))))) ts refl
     (scans-dot _ _ (scans-word (spelled m) _ _ (member-word m) refl
     (scans-open _ _ (alone a _ _ (scans-form a (p .1) done (41 ∷ u) (kShut ∷ spellC r ts) refl (scans-shut u (spellC r ts) k)))))))
-scans-form (function x b) p done u ts e k =
-    simp append-assoc (scans-function x (textOf b ++ u) (spellE (treeOf b) ts) (p .0) (alone b _ _ (scans-form b (p .1) done u ts e k)))
-scans-form (function x b) p (call m a) u ts e k =
+scans-form (function v b) p done u ts e k =
+    simp append-assoc (scans-function (nameIn v) (textOf b ++ u) (spellE (treeOf b) ts) (p .0) (alone b _ _ (scans-form b (p .1) done u ts e k)))
+scans-form (function v b) p (call m a) u ts e k =
     simp append-assoc
-    (scans-open _ _ (scans-function x (textOf b ++ (41 ∷ u)) (spellE (treeOf b) (kShut ∷ spellC (call m a) ts)) (p .0)
+    (scans-open _ _ (scans-function (nameIn v) (textOf b ++ (41 ∷ u)) (spellE (treeOf b) (kShut ∷ spellC (call m a) ts)) (p .0)
     (alone b _ _ (scans-form b (p .1) done (41 ∷ u) (kShut ∷ spellC (call m a) ts) refl (scans-shut u (spellC (call m a) ts) k)))))
 
 -- the tokens of a form's text are those of its tree

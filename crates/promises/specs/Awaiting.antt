@@ -1,9 +1,9 @@
--- The paper's delayed previews (Figure 5): which names a form awaits, that a form with a free lambda variable is delayed or missing, and that
+-- The paper's delayed previews (Figure 5): which variables a form awaits, that a form with a free lambda variable is delayed or missing, and that
 -- one which is delayed has one. And a run of a function puts the number for its variable in the body. Assumes nothing.
 use mathlib.Core.Path.{_≡_, refl, sym, ap, _∙_}
 use mathlib.Core.Logic.{_↔_, _⊎_, inl, inr}
 use mathlib.Core.Bool.{Bool, true, false, _||_}
-use mathlib.Core.List.{List}
+use mathlib.Core.List.{List, map}
 use Prim.Native.Nat.{ℕ}
 use lib.IntN.{ℤ, pos}
 use Rattle.language.specs.Cases.{or-right, impossible, split}
@@ -11,7 +11,7 @@ use Rattle.members.specs.declared.Member.{Member}
 use Rattle.rules.specs.declared.Value.{Value}
 use Rattle.rules.specs.declared.Value.the-variants.{Number, Window, Function, Delayed, Missing}
 use Rattle.rules.specs.Apply.{isMissing, isDelayed, apply0, apply1}
-use Rattle.meaning.specs.Forms.{Form, number, variable, unbound, readings, ask, call, function, nameOf}
+use Rattle.meaning.specs.Forms.{Form, number, variable, unbound, readings, ask, call, function, nameIn, nameOf}
 use Rattle.meaning.specs.Evaluation.{Result, valueOf, runOf, Environment, nowhere, bind, lookup, settled, functionOf, evaluate, putFor}
 use Rattle.meaning.specs.Evaluation.{hasName, awaited, aDelay, aReason, shownAs, shows}
 use Rattle.meaning.specs.EvaluationLaws.{evaluate-put}
@@ -84,13 +84,13 @@ unsettled xs ρ (call m f a) h =
     (λ p. late1 m xs _ _ _ (rw (unsettled xs ρ f p)))
 unsettled xs ρ (function x b) h = rw h (late-function (valueOf (evaluate xs (bind x Delayed ρ) b)) (λ z. evaluate xs (bind x (Number z) ρ) b))
 
--- a form in which the name y is free
+-- a form in which the variable y is free
 pub free-shown : (xs : List ℤ) (f : Form) (y : ℕ) → hasName y (awaited f) ≡ true
-    → (shows xs f ≡ aDelay (awaited f)) ⊎ ((r : ℕ) × (shows xs f ≡ aReason r))
+    → (shows xs f ≡ aDelay (map nameIn (awaited f))) ⊎ ((r : ℕ) × (shows xs f ≡ aReason r))
 unfolding shows lookup
 free-shown xs f y h = by (valueOf (evaluate xs nowhere f)) (unsettled xs nowhere f (settled-no nowhere f y h refl))
   where
-    by : (v : Value) → late v ≡ true → (shownAs (nameOf f) (awaited f) v ≡ aDelay (awaited f)) ⊎ ((r : ℕ) × (shownAs (nameOf f) (awaited f) v ≡ aReason r))
+    by : (v : Value) → late v ≡ true → (shownAs (nameIn (nameOf f)) (map nameIn (awaited f)) v ≡ aDelay (map nameIn (awaited f))) ⊎ ((r : ℕ) × (shownAs (nameIn (nameOf f)) (map nameIn (awaited f)) v ≡ aReason r))
     by (Number z) e = impossible e
     by (Window s l) e = impossible e
     by Function e = impossible e
@@ -98,15 +98,15 @@ free-shown xs f y h = by (valueOf (evaluate xs nowhere f)) (unsettled xs nowhere
     by (Missing r) e = inr (r, refl)
 
 -- a form that shows a delay
-pub delay-free : (xs : List ℤ) (f : Form) (names : List ℕ) → shows xs f ≡ aDelay names → (names ≡ awaited f) × ((y : ℕ) × (hasName y names ≡ true))
+pub delay-free : (xs : List ℤ) (f : Form) (names : List ℕ) → shows xs f ≡ aDelay names → (names ≡ map nameIn (awaited f)) × ((y : ℕ) × (hasName y (awaited f) ≡ true))
 unfolding shows
 delay-free xs f names h = by (valueOf (evaluate xs nowhere f)) refl h
   where
-    by : (v : Value) → valueOf (evaluate xs nowhere f) ≡ v → shownAs (nameOf f) (awaited f) v ≡ aDelay names → (names ≡ awaited f) × ((y : ℕ) × (hasName y names ≡ true))
+    by : (v : Value) → valueOf (evaluate xs nowhere f) ≡ v → shownAs (nameIn (nameOf f)) (map nameIn (awaited f)) v ≡ aDelay names → (names ≡ map nameIn (awaited f)) × ((y : ℕ) × (hasName y (awaited f) ≡ true))
     by (Number z) e q = impossible (cc)
     by (Window s l) e q = impossible (cc)
     by Function e q = impossible (cc)
-    by Delayed e q = let n : names ≡ awaited f = cc in let a = delayed-awaits xs f nowhere (rw e) in (n, (a .name, rw n (a .free)))
+    by Delayed e q = let n : names ≡ map nameIn (awaited f) = cc in let a = delayed-awaits xs f nowhere (rw e) in (n, (a .name, a .free))
     by (Missing r) e q = impossible (cc)
 
 -- ---- a run

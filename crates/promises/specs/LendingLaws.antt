@@ -21,7 +21,7 @@ use Rattle.meaning.specs.Forms.{Form}
 use Rattle.formulas.specs.Formulas.{formulas}
 use Rattle.bridge.specs.FormulaLaws.{formula-laws}
 use Rattle.table.specs.EntryForms.{formsOf}
-use Rattle.layout.specs.Links.{tableLinks, tableCells, kindIndex, firstIndex, secondIndex, keyIndex, valueIndex, nameIndex, otherIndex}
+use Rattle.layout.specs.Links.{tableLinks, tableCells, kindIndex, firstIndex, secondIndex, levelIndex, keyIndex, valueIndex, nameIndex, otherIndex}
 use Rattle.layout.specs.Memory.{Memory, Entry, fits, entryCount, readingCount, recordingOf, nothingKept, entryAt, nodeAt, keptAt}
 use Rattle.layout.specs.Memory.{entriesFrom, entriesOf, nodesOf}
 use Rattle.interface.specs.Calls.{openMemory, editMemory, previewMemory}
@@ -193,12 +193,13 @@ module _ (m n : Memory) (a : Alike m n) where
       let l₀ = link (kindIndex i) 0 (omega arith) in
       let l₁ = link (firstIndex i) 0 (omega arith) in
       let l₂ = link (secondIndex i) 0 (omega arith) in
+      let l₃ = link (levelIndex i) 0 (omega arith) in
       let c₀ = cell (keyIndex i) 0 (omega arith) in
       let c₁ = cell (valueIndex i) 0 (omega arith) in
       let c₂ = cell (nameIndex i) 0 (omega arith) in
       let c₃ = cell (otherIndex i) 0 (omega arith) in
       λ t. record {
-        node = record { kind = l₀ t; key = c₀ t; first = l₁ t; second = l₂ t };
+        node = record { kind = l₀ t; key = c₀ t; first = l₁ t; second = l₂ t; level = l₃ t };
         kept = record { value = c₁ t; name = c₂ t; other = c₃ t };
       }
 

@@ -11,6 +11,7 @@ pub mod Finishing
 pub mod Showing
 pub mod Fetching
 pub mod Awaiting
+pub mod Levels
 pub mod Printing
 pub mod Boundary
 pub mod BoundaryLaws

@@ -13,7 +13,7 @@ use Rattle.language.specs.Limits.{textBytes, textParts, tableEntries, tableRead
 use Rattle.language.specs.Cases.{split}
 use Rattle.grammar.specs.Reading.{Reading, tree, refused as refusedAt}
 use Rattle.grammar.specs.Machine.{readText}
-use Rattle.layout.specs.Links.{tableLinks, tableCells, kindIndex, firstIndex, secondIndex, keyIndex, valueIndex, nameIndex, otherIndex, linksWith, keptWith}
+use Rattle.layout.specs.Links.{tableLinks, tableCells, kindIndex, firstIndex, secondIndex, levelIndex, keyIndex, valueIndex, nameIndex, otherIndex, linksWith, keptWith}
 use Rattle.layout.specs.Memory.{Memory, memory, Node, fits, entryCount}
 use Rattle.table.specs.WellFormed.{wellFormed}
 use Rattle.table.specs.Bind.{Bound, append, appendAll}
@@ -71,7 +71,9 @@ module _ (m : Memory) (n : Node) (l : entryCount m < tableEntries) where
       record {
         readings = refl;
         heads = drop-set-lt 2 (m .heads) 0 (suc k) (omega arith);
-        links = three-before tableLinks (m .links) (kindIndex k) (firstIndex k) (secondIndex k) (n .kind) (n .first) (n .second) (omega arith) (omega arith) (omega arith);
+        links =
+            drop-set-lt tableLinks (set (set (set (m .links) (kindIndex k) (n .kind)) (firstIndex k) (n .first)) (secondIndex k) (n .second)) (levelIndex k) (n .level) (omega arith)
+            ∙ three-before tableLinks (m .links) (kindIndex k) (firstIndex k) (secondIndex k) (n .kind) (n .first) (n .second) (omega arith) (omega arith) (omega arith);
         cells =
             three-before tableCells (set (m .cells) (keyIndex k) (n .key)) (valueIndex k) (nameIndex k) (otherIndex k) 0 0 0 (omega arith) (omega arith) (omega arith)
             ∙ drop-set-lt tableCells (m .cells) (keyIndex k) (n .key) (omega arith);

@@ -5,9 +5,9 @@
 --      memory (Declined), and cells beyond the sizes keep their contents (Outside), as do lent bytes behind a printed text (Printing). A cache
 --      that a call accepts, whatever was in it, is accepted by the next one (Accepting).
 --   2. A text is read exactly if a tree of the grammar spells its tokens and keeps the limits, and is refused exactly where 01 says; an edit is
---      declined for its text exactly if that is too long or is not read. Packed names are equal exactly if their bytes are (Naming). What a
---      finished preview of a part shows is what evaluation gives for its let-free form, and what is delayed shows the names of Figure 5
---      (Awaiting). Division goes down (rules' NumbersLaws). What is printed of an entry is read as the entry's form again and printed as the same
+--      declined for its text exactly if that is too long or is not read. Packed names are equal exactly if their bytes are (Naming), and lambda
+--      variables exactly if their names and levels are; number 11 never comes up. What a finished preview of a part shows is what evaluation
+--      gives for its let-free form, and what is delayed shows the names of Figure 5 (Awaiting). Division goes down (rules' NumbersLaws). What is printed of an entry is read as the entry's form again and printed as the same
 --      bytes (Printing).
 --   3. Over every list of calls after an opening the engine answers as the reference model does, and ends holding what it holds (model's
 --      Demand), and so over every run of a program in C (Boundary).
@@ -18,13 +18,13 @@ use mathlib.Core.List.{List, [], map}
 use Prim.Native.Nat.{ℕ, _+_, _^_, _≤_, _<_}
 use lib.IntN.{ℤ, pos, _+ℤ_}
 use lib.ListN.{length, take, drop}
-use Rattle.language.specs.Limits.{textParts, nameBytes, tableReadings}
+use Rattle.language.specs.Limits.{textParts, openLambdas, nameBytes, tableReadings}
 use Rattle.language.specs.Names.{packed, sameName, isData, dataWord}
 use Rattle.grammar.specs.Grammar.{Expression, spellE, Spells}
 use Rattle.grammar.specs.KeptLimits.{partsE, KeepsLimits}
 use Rattle.grammar.specs.Reading.{tree, refused as refusedAt, RefusedBy, placeOf, tokensOf}
 use Rattle.grammar.specs.Machine.{readText}
-use Rattle.grammar.specs.Theorems.{text-read-plainly, text-refused}
+use Rattle.grammar.specs.Theorems.{text-read-plainly, text-refused, text-never-eleven}
 use Rattle.model.specs.Lists.{All}
 use Rattle.model.specs.Model.{refused, opened, edited, printed, said}
 use Rattle.model.specs.Since.{Sendable}
@@ -41,7 +41,7 @@ use Rattle.rules.specs.declared.Value.the-variants.{Number, Function, Missing}
 use Rattle.rules.specs.Values.{ranged, divisionByZero}
 use Rattle.rules.specs.Numbers.{NotAbove, Above, GreatestNotAbove, quotient}
 use Rattle.rules.specs.NumbersLaws as Division
-use Rattle.meaning.specs.Forms.{Form, function, same, IsDependency, dependency, AtOrBelow, within, works}
+use Rattle.meaning.specs.Forms.{Form, levelBase, withLevel, nameIn, levelIn, variable, function, same, IsDependency, dependency, AtOrBelow, within, works}
 use Rattle.meaning.specs.FormsLaws as Forms
 use Rattle.rules.specs.Apply.{isDelayed, apply1}
 use Rattle.meaning.specs.Binding.{formOf, formsByPlace}
@@ -80,6 +80,7 @@ use Rattle.promises.specs.Engine.{engine}
 use Rattle.promises.specs.Boundary.{ForC, Run, DemandForC}
 use Rattle.promises.specs.BoundaryLaws as Boundary
 use Rattle.promises.specs.Awaiting as Awaiting
+use Rattle.promises.specs.Levels as Levels
 use Rattle.promises.specs.Terms.{HasWord, beyond, CanEdit, CanPrint, TextFits, readingsOf, AwaitedNames}
 use Rattle.promises.specs.Naming as Naming
 use Rattle.promises.specs.Declined as Declined
@@ -259,7 +260,23 @@ pub text-declined : (m : Memory) (places text : List ℕ) → fits m ≡ true �
     → TextDeclined (editAnswer m places text) ↔ (¬ InLanguage text)
 text-declined = Acceptance.text-declined
 
--- Every let of a text that is read is replaced by capture-avoiding substitution.
+-- 02, T-05: an inner lambda hides an outer one of its name, so that no text is refused with 11, and no edit is, at any place.
+pub never-eleven : (text : List ℕ) (n p : ℕ) → readText text ≡ refusedAt n p → ¬ (n ≡ 11)
+never-eleven = text-never-eleven
+
+pub edit-never-eleven : (m : Memory) (places text : List ℕ) (at : ℕ) → ¬ (editAnswer m places text ≡ refused 11 at)
+edit-never-eleven = Declined.edit-never-eleven
+
+-- A lambda variable is its name and its level: the number that stands for both loses neither, for levels below 256, and those of an entry are 0
+-- or 1.
+pub variable-exactly : (x y k l : ℕ) → k < levelBase → l < levelBase → (withLevel x k ≡ withLevel y l) ↔ ((x ≡ y) × (k ≡ l))
+variable-exactly = Forms.variable-exactly
+
+pub levels-low : (m : Memory) (n v : ℕ) (b : Form) → wellFormed m ≡ true → n < entryCount m → (formAt m n ≡ variable v) ⊎ (formAt m n ≡ function v b)
+    → levelIn v < openLambdas
+levels-low = Levels.levels-low
+
+-- Every let of a text that is read is replaced by capture-avoiding substitution, also where an inner lambda hides an outer one.
 pub lets-replaced : (text : List ℕ) (e : Expression) → readText text ≡ tree e → AtLetsE Substituted e []
 lets-replaced = text-lets
 
@@ -299,7 +316,7 @@ quotient-exactly = Division.quotient-exactly
 pub quotient-between : (a b : ℤ) → ¬ (b ≡ pos 0) → (q : ℤ) → (quotient a b ≡ q) ↔ (NotAbove a b q × Above a b (q +ℤ pos 1))
 quotient-between = Division.quotient-between
 
--- A run of a function on a reading puts the number for its variable in the let-free body.
+-- A run of a function on a reading puts the number for its variable, by name and level, in the let-free body.
 pub run-puts : (xs : List ℤ) (ρ : Environment) (x : ℕ) (b : Form) (z : ℤ) → valueOf (evaluate xs ρ (function x b)) ≡ Function
     → runOf (evaluate xs ρ (function x b)) z ≡ valueOf (evaluate xs ρ (putFor x z b))
 run-puts = Awaiting.run-puts
@@ -307,7 +324,7 @@ run-puts = Awaiting.run-puts
 pub body-put : (xs : List ℤ) (x : ℕ) (z : ℤ) (ρ : Environment) (b : Form) → evaluate xs (bind x (Number z) ρ) b ≡ evaluate xs ρ (putFor x z b)
 body-put = evaluate-put
 
--- The names that a form awaits are joined from its dependencies as in Figure 5.
+-- The variables that a form awaits are joined from its dependencies as in Figure 5.
 pub awaited-names : AwaitedNames
 awaited-names = Awaiting.awaited-names
 
@@ -316,13 +333,14 @@ pub settled-exactly : (ρ : Environment) (f : Form)
     → (settled ρ f ≡ false) ↔ ((y : ℕ) × (hasName y (awaited f) ≡ true) × (isDelayed (lookup ρ y) ≡ true))
 settled-exactly = Awaiting.settled-exactly
 
--- A form that has a free lambda variable is delayed, and shows the names that it awaits, or missing; one that is delayed shows them, and there
--- is one.
+-- A form that has a free lambda variable is delayed, and shows the names of the variables that it awaits, two of one spelling twice, or missing; one
+-- that is delayed shows them, and there is one.
 pub free-shown : (xs : List ℤ) (f : Form) (y : ℕ) → hasName y (awaited f) ≡ true
-    → (shows xs f ≡ aDelay (awaited f)) ⊎ ((r : ℕ) × (shows xs f ≡ aReason r))
+    → (shows xs f ≡ aDelay (map nameIn (awaited f))) ⊎ ((r : ℕ) × (shows xs f ≡ aReason r))
 free-shown = Awaiting.free-shown
 
-pub delay-free : (xs : List ℤ) (f : Form) (names : List ℕ) → shows xs f ≡ aDelay names → (names ≡ awaited f) × ((y : ℕ) × (hasName y names ≡ true))
+pub delay-free : (xs : List ℤ) (f : Form) (names : List ℕ) → shows xs f ≡ aDelay names
+    → (names ≡ map nameIn (awaited f)) × ((y : ℕ) × (hasName y (awaited f) ≡ true))
 delay-free = Awaiting.delay-free
 
 -- A field of an answer that has no value is 0: what a finished preview gives are the numbers and names of what it shows.
@@ -348,7 +366,8 @@ fetch-none = Fetching.fetch-none
 
 -- 02, T-04. Of any cache that passes 4: the text of an entry's form has, longest first, the tokens that the form's tree spells; so the reader
 -- reads it as that tree, exactly if the tree keeps the limits, and never declines it with 5. The tree's let-free form is the entry's exactly if
--- each variable has the name of a function around it, and no unbound name has.
+-- each function has as its level the number of functions around it, each variable is that of the innermost function of its name, and no unbound
+-- name is one of theirs.
 pub print-tokens : (m : Memory) (n : ℕ) → wellFormed m ≡ true → n < entryCount m → tokensOf (textAt m n) ≡ spellE (treeOf (formAt m n)) []
 print-tokens = Printing.print-tokens
 

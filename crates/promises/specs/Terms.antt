@@ -1,5 +1,5 @@
 -- What the promise page speaks of beside the calls and the model: the words of a text, cells beyond the sizes, when an edit and a print are
--- accepted, the readings of what is shown, and the names that a form awaits. Assumes nothing: these are definitions.
+-- accepted, the readings of what is shown, and the variables that a form awaits. Assumes nothing: these are definitions.
 use mathlib.Core.Path.{_≡_}
 use mathlib.Core.Bool.{true, cond, not, _&&_, _||_}
 use mathlib.Core.List.{List, [], _∷_, _++_}
@@ -71,8 +71,8 @@ TextFits m n bytes = (length (textAt m n) ≤ length bytes) × (length (textAt m
 unfoldable pub readingsOf : List ℤ → View → List ℤ
 readingsOf xs v = cond (eqb (v .kind) 2) (take (v .second) (drop (natural (v .first)) xs)) []
 
--- Figure 5: a variable awaits itself (var); a member what its dependencies await, the receiver's names first and each once (mem-expr); a
--- function what its body awaits but its own name (fun-bind, fun-expr); all else is a value and awaits nothing (val)
+-- Figure 5: a variable awaits itself (var); a member what its dependencies await, the receiver's variables first and each once (mem-expr); a
+-- function what its body awaits but its own variable (fun-bind, fun-expr); all else is a value and awaits nothing (val)
 pub record AwaitedNames : Type 0 where
   pub of-number : (z : ℤ) → awaited (number z) ≡ []
   pub of-variable : (x : ℕ) → awaited (variable x) ≡ x ∷ []
@@ -81,6 +81,6 @@ pub record AwaitedNames : Type 0 where
   pub of-ask : (m : Member) (f : Form) → awaited (ask m f) ≡ awaited f
   pub of-call : (m : Member) (f a : Form) → awaited (call m f a) ≡ joined (awaited f) (awaited a)
   pub of-function : (x : ℕ) (b : Form) → awaited (function x b) ≡ without x (awaited b)
-  -- the names of two lists joined are those of either, and of a list without x those that are not x
+  -- the variables of two lists joined are those of either, and of a list without x those that are not x
   pub either : (y : ℕ) (xs ys : List ℕ) → hasName y (joined xs ys) ≡ (hasName y xs || hasName y ys)
   pub others : (y x : ℕ) (ys : List ℕ) → hasName y (without x ys) ≡ (not (eqb x y) && hasName y ys)

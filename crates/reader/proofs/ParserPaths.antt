@@ -1,6 +1,6 @@
 -- What each path through a function of parser.rt gives: descent's rules of Paths and PathsCalls, at the states that the code's cursors and
 -- arrays stand for. Assumes nothing.
-use mathlib.Core.Path.{_≡_, refl, ap, sym, subst, _∙_}
+use mathlib.Core.Path.{_≡_, refl, ap, ap₂, sym, subst, _∙_}
 use mathlib.Core.Bool.{Bool, true, false}
 use mathlib.Core.List.{List, []}
 use Prim.Native.Nat.{ℕ, suc, _+_, _*_, _-_, _≤_, _<_}
@@ -11,7 +11,7 @@ use lib.ListN.{length, set}
 use borrow.Author.Tests.{eq-eqb, ne-eqb}
 use Rattle.language.specs.Limits.{textParts, openMarks}
 use Rattle.grammar.specs.Tokens.{when}
-use Rattle.layout.specs.Memory.{node}
+use Rattle.layout.specs.Memory.{nodeWith}
 use Rattle.layout.specs.Nodes.{functionKind}
 use Rattle.descent.specs.Cursor as C
 use Rattle.descent.specs.Descent as D
@@ -443,12 +443,12 @@ module _ (text : List ℕ) where
                   let k = lambda-root in
                   record { count = m .count; place = m .place; kind = omega arith; first = omega arith; second = omega arith }
 
-              pub lambda-read : {q : Cursor} {R″ P″ : List ℕ} → Wrote (D.put (c .parts) (node functionKind (h .name) (r .root + 1) 0)) r R′ P′ q R″ P″
-                  → Parses E text c R P S q R″ P″ S′
-              lambda-read d =
+              pub lambda-read : {q : Cursor} {R″ P″ : List ℕ} (level : ℕ) → level ≡ C.lambdasIn S depth
+                  → Wrote (D.put (c .parts) (nodeWith functionKind (h .name) (r .root + 1) 0 level)) r R′ P′ q R″ P″ → Parses E text c R P S q R″ P″ S′
+              lambda-read level l d =
                   record {
                     reads = subst (Reads end E at-it)
-                        (ap (λ (j : ℕ). D.put (c .parts) (node functionKind (h .name) j 0) (stateOf text r R′ P′ S′)) (sym (add-one (r .root)))
+                        (ap₂ (λ (j k : ℕ). D.put (c .parts) (nodeWith functionKind (h .name) j 0 k) (stateOf text r R′ P′ S′)) (sym (add-one (r .root))) (sym l)
                         ∙ sym (d .same text S′))
                         (Paths.lambda-read end w marks depth at-it (cursorOf text h) (f .ahead) p (eq-eqb (h .number) 0 z) body-reads (eq-eqb (r .number) 0 t));
                   }

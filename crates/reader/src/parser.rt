@@ -182,6 +182,7 @@ fn read_lambda(
 {
     let h = cursor::lambda_head(text, w, marks, depth, scope, c);
     if h.number == 0 {
+        let level = cursor::lambdas_in(scope, depth);
         scratch::enter(depth, h.name, 0, scope);
         let r = expression(text, false, marks + 1, depth + 1, h, records, places, scope);
         if r.number == 0 {
@@ -192,6 +193,7 @@ fn read_lambda(
                 h.name,
                 r.root + 1,
                 0,
+                level,
                 records,
                 places,
             )

@@ -1,20 +1,27 @@
 -- The records that a tree is read to: one for each part but lets and uses of their names, in the order of binding (01, "Binding"), with
 -- links to earlier records; and, by place, the record of each part. A let's name stands for the record of its value, so that what is
--- shared stays shared. Assumes nothing: these are definitions. That they unfold to the let-free forms is bridge's Recorded.
+-- shared stays shared. A variable and a function have their level (02, T-05). Assumes nothing: these are definitions. That they unfold to the
+-- let-free forms is bridge's Recorded.
 use mathlib.Core.Bool.{cond}
 use mathlib.Core.List.{List, [], _∷_, _++_}
 use Prim.Native.Nat.{ℕ, zero, suc}
+use lib.Dec.{eqb}
 use lib.IntN.{ℤ, pos, natAbs, _+ℤ_}
 use lib.ListN.{length}
 use Rattle.language.specs.Names.{packed, sameName, isData}
 use Rattle.grammar.specs.Grammar.{Expression, Calls, Arguments, More, letIn, lambda, name, literal, bracket, done, call, none, first, last, next}
 use Rattle.meaning.specs.Binding.{member}
-use Rattle.layout.specs.Memory.{Node, node}
+use Rattle.layout.specs.Memory.{Node, nodeWith, node}
 use Rattle.layout.specs.Nodes.{numberKind, variableKind, unboundKind, readingsKind, functionKind, memberKind}
 
 -- a name, and what it stands for: 0 a lambda's variable, or one more than the record of a let's value
 abbrev pub Named : Type 0
 Named = List ℕ × ℕ
+
+-- how many lambdas are written around
+unfoldable pub lambdasOf : List Named → ℕ
+lambdasOf [] = 0
+lambdasOf (e ∷ Σ) = cond (eqb (e .1) 0) (suc (lambdasOf Σ)) (lambdasOf Σ)
 
 -- the records so far, the record of what was read last, and the records of its parts by place
 pub record Recorded : Type 0 where
@@ -30,15 +37,15 @@ newRecord n t ps = record { records = t ++ (n ∷ []); root = length t; places =
 abbrev pub numberKey : ℤ → ℕ
 numberKey z = natAbs (z +ℤ pos 2147483648)
 
--- the record of a name that is bound: a variable's own, or that of the let's value
-abbrev pub linked : ℕ → List ℕ → List Node → Recorded
-linked zero x t = newRecord (node variableKind (packed x) 0 0) t (length t ∷ [])
-linked (suc j) x t = record { records = t; root = j; places = j ∷ [] }
+-- the record of a name that is bound, where k lambdas are around its let or lambda: a variable's own, or that of the let's value
+abbrev pub linked : ℕ → List ℕ → (k : ℕ) → List Node → Recorded
+linked zero x k t = newRecord (nodeWith variableKind (packed x) 0 0 k) t (length t ∷ [])
+linked (suc j) x k t = record { records = t; root = j; places = j ∷ [] }
 
 -- an inner let or lambda hides an outer one; a name that none of them binds is unbound
 unfoldable pub recordScoped : List ℕ → List Named → List Node → Recorded
 recordScoped x [] t = newRecord (node unboundKind (packed x) 0 0) t (length t ∷ [])
-recordScoped x (e ∷ Σ) t = cond (sameName x (e .0)) (linked (e .1) x t) (recordScoped x Σ t)
+recordScoped x (e ∷ Σ) t = cond (sameName x (e .0)) (linked (e .1) x (lambdasOf Σ) t) (recordScoped x Σ t)
 
 -- a name in use
 unfoldable pub recordName : List ℕ → List Named → List Node → Recorded
@@ -57,7 +64,7 @@ unfoldable mutual
       behind (B .root ∷ A .places) B
   recordE (lambda x b) Σ t =
       let B : Recorded = recordE b ((x, 0) ∷ Σ) t in
-      newRecord (node functionKind (packed x) (suc (B .root)) 0) (B .records) (length (B .records) ∷ B .places)
+      newRecord (nodeWith functionKind (packed x) (suc (B .root)) 0 (lambdasOf Σ)) (B .records) (length (B .records) ∷ B .places)
   recordE (name x r) Σ t =
       let N : Recorded = recordName x Σ t in
       behind (N .places) (recordC r (N .root) Σ (N .records))

@@ -22,11 +22,12 @@ use Rattle.values.specs.Packing.{packOf, unpackOf}
 use Rattle.values.specs.PackingLaws.{round}
 use Rattle.values.specs.Tallies as Tallies
 use Rattle.values.specs.TallyLaws.{stopped-stays}
-use Rattle.meaning.specs.Forms.{Form, variable}
+use Rattle.meaning.specs.Forms.{Form, withLevel, variable}
 use Rattle.meaning.specs.Evaluation.{valueOf, Environment, bind, lookup, evaluate, awaited, hasName}
 use Rattle.layout.specs.Memory.{Node}
-use Rattle.layout.specs.Links.{kindAt, firstAt, secondAt, keyAt}
+use Rattle.layout.specs.Links.{kindAt, firstAt, secondAt}
 use Rattle.layout.specs.Nodes.{variableKind, functionKind}
+use Rattle.table.specs.WaitsLaws.{variableAt}
 use Rattle.table.specs.NodeKinds.{Fine, aNumber, aVariable, anUnbound, theReadings, aFunction, anAsk, aCall}
 use Rattle.table.specs.Waits.{awaits}
 use Rattle.evaluator.specs.Reach.{moves, gathered}
@@ -59,15 +60,15 @@ module _ (links cells waits : List ℕ) (xs : List ℤ) (n : ℕ) (φ : ℕ → 
       → ((m : ℕ) → m < i → Sees links φ i m → Right ρ frame m) → go frame i ≡ packOf (valueAt ρ i)
 
   module _ (good : Good links cells waits xs n φ) where
-    vars : (j : ℕ) → j < n → kindAt links j ≡ variableKind → (φ j ≡ variable (keyAt cells j)) × ((firstAt links j ≡ 0) × (secondAt links j ≡ 0))
+    vars : (j : ℕ) → j < n → kindAt links j ≡ variableKind → (φ j ≡ variable (variableAt links cells j)) × ((firstAt links j ≡ 0) × (secondAt links j ≡ 0))
     vars j h k = by (fine good h) (parts good h)
       where
-        by : {q : Node} (k : Fine q) → Parts links cells φ j k → (φ j ≡ variable (keyAt cells j)) × ((firstAt links j ≡ 0) × (secondAt links j ≡ 0))
+        by : {q : Node} (k : Fine q) → Parts links cells φ j k → (φ j ≡ variable (variableAt links cells j)) × ((firstAt links j ≡ 0) × (secondAt links j ≡ 0))
         by (aNumber _) e = absurd (omega arith)
-        by (aVariable x) e = (e .form ∙ ap variable (sym (e .key)), (e .first, e .second))
+        by (aVariable _ _ _) e = (e .form ∙ ap variable (sym (e .variable)), (e .first, e .second))
         by (anUnbound _) e = absurd (omega arith)
         by theReadings e = absurd (omega arith)
-        by (aFunction _ _) e = absurd (omega arith)
+        by (aFunction _ _ _ _) e = absurd (omega arith)
         by (anAsk _ _ _) e = absurd (omega arith)
         by (aCall _ _ _ _) e = absurd (omega arith)
 
@@ -76,7 +77,7 @@ module _ (links cells waits : List ℕ) (xs : List ℤ) (n : ℕ) (φ : ℕ → 
         (plain : Plain ρ) (body : ℕ)
         (body-n : body < n) (body-f : body < f) where
       abbrev x : ℕ
-      x = keyAt cells j₀
+      x = variableAt links cells j₀
 
       abbrev v : ℕ
       v = suc j₀
@@ -101,12 +102,13 @@ module _ (links cells waits : List ℕ) (xs : List ℤ) (n : ℕ) (φ : ℕ → 
         where
           by : {q : Node} (k : Fine q) → Parts links cells φ m k → (free x (φ m) ≡ true) × (m ≡ j₀ → ⊥) → functionKind ≤ kindAt links m
           by (aNumber _) w p = never (rw (w .form) at (p .0)) refl
-          by (aVariable y) w p =
+          by (aVariable name k _) w p =
+              let y = withLevel name k in
               let z : x ≡ y = eqb-true x y (sym (free-variable x y) ∙ (rw (w .form) at (p .0))) in
-              absurd (p .1 (good .one m j₀ h var-n (w .kind) var-k (w .key ∙ sym z)))
+              absurd (p .1 (good .one m j₀ h var-n (w .kind) var-k (w .variable ∙ sym z)))
           by (anUnbound _) w p = never (rw (w .form) at (p .0)) refl
           by theReadings w p = never (rw (w .form) at (p .0)) refl
-          by (aFunction _ _) w p = omega arith
+          by (aFunction _ _ _ _) w p = omega arith
           by (anAsk _ _ _) w p = omega arith
           by (aCall _ _ _ _) w p = omega arith
 

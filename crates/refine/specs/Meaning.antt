@@ -13,6 +13,7 @@ use lib.Dec.{eqb, leb}
 use lib.IntN.{ℤ, pos, natAbs, _+ℤ_}
 use lib.ListN.{length, getD, take, drop}
 use lib.Signed.{mag}
+use Rattle.table.specs.WaitsLaws.{variableAt}
 use Rattle.table.specs.NodeKinds.{Fine, aNumber, aVariable, anUnbound, theReadings, aFunction, anAsk, aCall, member-found}
 use Rattle.language.specs.Cases.{split, either, or-right}
 use Rattle.language.specs.Limits.{tableEntries, tableReadings}
@@ -36,11 +37,11 @@ use Rattle.values.specs.Tallies.{begun}
 use Rattle.values.specs.Tallies as Tallies
 use Rattle.values.specs.TallyLaws.{finished-is}
 use Rattle.rules.specs.Windows.{readingsIn}
-use Rattle.meaning.specs.Forms.{Form, variable}
+use Rattle.meaning.specs.Forms.{Form, withLevel, variable}
 use Rattle.meaning.specs.Evaluation.{Result, plain, runs, valueOf, runOf, Environment, bind, lookup, settled, functionOf, evaluate, awaited, hasName}
 use Rattle.layout.specs.Memory.{Node}
 use Rattle.layout.specs.Nodes.{variableKind, functionKind, memberKind, memberOfKind}
-use Rattle.layout.specs.Links.{kindAt, firstAt, secondAt, keyAt}
+use Rattle.layout.specs.Links.{kindAt, firstAt, secondAt}
 use Rattle.table.specs.Waits.{slotA, slotB, hasSlot, awaits, ownOf}
 use Rattle.evaluator.specs.Reach.{gathered}
 use Rattle.evaluator.specs.Frames as Code
@@ -199,7 +200,7 @@ module _ (links cells waits : List ℕ) (xs : List ℤ) (n : ℕ) (φ : ℕ → 
   record Seen (i y : ℕ) : Type 0 where
     at : ℕ
     kind : kindAt links at ≡ variableKind
-    key : keyAt cells at ≡ y
+    is : variableAt links cells at ≡ y
     form : φ at ≡ variable y
     sees : Sees links φ i at
 
@@ -208,7 +209,7 @@ module _ (links cells waits : List ℕ) (xs : List ℤ) (n : ℕ) (φ : ℕ → 
       record {
         at = s .at;
         kind = s .kind;
-        key = s .key;
+        is = s .is;
         form = s .form;
         sees = down i d (s .at) l (s .sees) (λ z e. subst (λ (k : ℕ). free k (φ i) ≡ true) (sym (eqb-true z y (sym (free-variable z y) ∙ subst (λ (f : Form). free z f ≡ true) (s .form) e))) h);
       }
@@ -220,12 +221,14 @@ module _ (links cells waits : List ℕ) (xs : List ℤ) (n : ℕ) (φ : ℕ → 
     where
       by : {q : Node} (k : Fine q) → Parts links cells φ i k → ((d : ℕ) → d < i → free y (φ d) ≡ true → Seen d y) → Seen i y
       by (aNumber _) w again = never (rw (w .form) at e) refl
-      by (aVariable x) w again =
+      by (aVariable name k _) w again =
+          let x = withLevel name k in
           let z : y ≡ x = eqb-true y x (sym (free-variable y x) ∙ (rw (w .form) at e)) in
-          record { at = i; kind = w .kind; key = w .key ∙ sym z; form = w .form ∙ ap variable (sym z); sees = here i }
+          record { at = i; kind = w .kind; is = w .variable ∙ sym z; form = w .form ∙ ap variable (sym z); sees = here i }
       by (anUnbound _) w again = never (rw (w .form) at e) refl
       by theReadings w again = never (rw (w .form) at e) refl
-      by (aFunction x b) w again =
+      by (aFunction name b k _) w again =
+          let x = withLevel name k in
           lift i b y (w .low, inl (w .first)) e (again b (w .low) (and-eq-true-iff (not (eqb x y)) (free y (φ b)) .0 (sym (free-function y x (φ b)) ∙ (rw (w .form) at e)) .1))
       by (anAsk m d _) w again = lift i d y (w .low, inl (w .first)) e (again d (w .low) (rw (w .form) at e))
       by (aCall m d a _) w again =
@@ -238,10 +241,13 @@ module _ (links cells waits : List ℕ) (xs : List ℤ) (n : ℕ) (φ : ℕ → 
     at : ℕ
     is : v ≡ suc at
     kind : kindAt links at ≡ variableKind
-    key : keyAt cells at ≡ x
+    variable : variableAt links cells at ≡ x
     low : at ≤ b
 
-  module _ {i x b : ℕ} (i-n : i < n) (entry : Parts links cells φ i (aFunction x b)) where
+  module _ {i name b k : ℕ} {low : k < 2} (i-n : i < n) (entry : Parts links cells φ i (aFunction name b k low)) where
+    abbrev x : ℕ
+    x = withLevel name k
+
     abbrev wb : ℕ
     wb = getD waits b 0
 
@@ -255,16 +261,16 @@ module _ (links cells waits : List ℕ) (xs : List ℤ) (n : ℕ) (φ : ℕ → 
     free-outer y = ap (free y) (entry .form) ∙ free-function y x (φ b)
 
     -- a variable that the body awaits and that has another name is awaited by the function
-    held : (v : ℕ) → 1 ≤ v → hasSlot wb v ≡ true → ((j : ℕ) → v ≡ suc j → j < n → kindAt links j ≡ variableKind → keyAt cells j ≡ x → ⊥)
+    held : (v : ℕ) → 1 ≤ v → hasSlot wb v ≡ true → ((j : ℕ) → v ≡ suc j → j < n → kindAt links j ≡ variableKind → variableAt links cells j ≡ x → ⊥)
         → hasSlot wi v ≡ true
     held v p q other =
         let s = good .slots b v b-n p q in
         let j : ℕ = s .at in
         let jn : j < n = omega (arith, s .below) in
         let q′ : hasSlot wb (suc j) ≡ true = subst (λ (k : ℕ). hasSlot wb k ≡ true) (s .is) q in
-        let a : free (keyAt cells j) (φ b) ≡ true = sym (good .awaited b j b-n jn (s .kind)) ∙ rw (le-leb 1 (suc j) (omega arith), q′) in
-        let d : eqb x (keyAt cells j) ≡ false = ne-eqb x (keyAt cells j) (λ z. other j (s .is) jn (s .kind) (sym z)) in
-        let w : awaits wi (suc j) ≡ true = good .awaited i j i-n jn (s .kind) ∙ free-outer (keyAt cells j) ∙ rw (d, a) in
+        let a : free (variableAt links cells j) (φ b) ≡ true = sym (good .awaited b j b-n jn (s .kind)) ∙ rw (le-leb 1 (suc j) (omega arith), q′) in
+        let d : eqb x (variableAt links cells j) ≡ false = ne-eqb x (variableAt links cells j) (λ z. other j (s .is) jn (s .kind) (sym z)) in
+        let w : awaits wi (suc j) ≡ true = good .awaited i j i-n jn (s .kind) ∙ free-outer (variableAt links cells j) ∙ rw (d, a) in
         subst (λ (k : ℕ). hasSlot wi k ≡ true) (sym (s .is)) (and-eq-true-iff (leb 1 (suc j)) (hasSlot wi (suc j)) .0 w .1)
 
     hold-a : hasSlot wb (slotA wb) ≡ true
@@ -289,9 +295,9 @@ module _ (links cells waits : List ℕ) (xs : List ℤ) (n : ℕ) (φ : ℕ → 
               split (hasSlot wi (slotA wb)) (λ r. rw r (split (hasSlot wi (slotB wb)) (λ s. rw s) (λ s. rw s u))) (λ r. rw r z)
         ]
       where
-        clash : (v : ℕ) → hasSlot wb v ≡ true → (j : ℕ) → v ≡ suc j → j < n → kindAt links j ≡ variableKind → keyAt cells j ≡ x → ⊥
+        clash : (v : ℕ) → hasSlot wb v ≡ true → (j : ℕ) → v ≡ suc j → j < n → kindAt links j ≡ variableKind → variableAt links cells j ≡ x → ⊥
         clash v q j z jn k y =
-            let a : free (keyAt cells j) (φ b) ≡ true = sym (good .awaited b j b-n jn k) ∙ rw (le-leb 1 (suc j) (omega arith), subst (λ (m : ℕ). hasSlot wb m ≡ true) z q) in
+            let a : free (variableAt links cells j) (φ b) ≡ true = sym (good .awaited b j b-n jn k) ∙ rw (le-leb 1 (suc j) (omega arith), subst (λ (m : ℕ). hasSlot wb m ≡ true) z q) in
             never (subst (λ (m : ℕ). free m (φ b) ≡ true) y a) e
 
     own-some : free x (φ b) ≡ true → Own x b (ownOf wb wi)
@@ -303,13 +309,13 @@ module _ (links cells waits : List ℕ) (xs : List ℤ) (n : ℕ) (φ : ℕ → 
         let jn : j < n = omega arith in
         let hb : hasSlot wb (suc j) ≡ true =
         and-eq-true-iff (leb 1 (suc j)) (hasSlot wb (suc j)) .0
-        (good .awaited b j b-n jn (s .kind) ∙ subst (λ (m : ℕ). free m (φ b) ≡ true) (sym (s .key)) e) .1 in
-        let off : (leb 1 (suc j) && hasSlot wi (suc j)) ≡ false = good .awaited i j i-n jn (s .kind) ∙ free-outer (keyAt cells j) ∙ rw (eq-eqb x (keyAt cells j) (sym (s .key))) in
+        (good .awaited b j b-n jn (s .kind) ∙ subst (λ (m : ℕ). free m (φ b) ≡ true) (sym (s .is)) e) .1 in
+        let off : (leb 1 (suc j) && hasSlot wi (suc j)) ≡ false = good .awaited i j i-n jn (s .kind) ∙ free-outer (variableAt links cells j) ∙ rw (eq-eqb x (variableAt links cells j) (sym (s .is))) in
         let hi : hasSlot wi (suc j) ≡ false = split (hasSlot wi (suc j)) (λ r. never (rw (le-leb 1 (suc j) (omega arith), r)) off) (λ r. r) in
         record {
           at = j;
           kind = s .kind;
-          key = s .key;
+          variable = s .is;
           low = low;
           is = elim (decEq (slotA wb) (suc j)) [
             | yes p ↦ rw (ap (hasSlot wi) p ∙ hi) p
@@ -319,26 +325,26 @@ module _ (links cells waits : List ℕ) (xs : List ℤ) (n : ℕ) (φ : ℕ → 
                   | yes r ↦ r
                   | no r ↦ let z : slotB wb ≡ 0 = good .filled b b-n (omega arith) in absurd (omega arith)
                 ] in
-                rw (held (slotA wb) one hold-a (λ k z kn kk ky. p (z ∙ ap suc (good .one k j kn jn kk (s .kind) (ky ∙ sym (s .key))))), ap (hasSlot wi) q ∙ hi) q
+                rw (held (slotA wb) one hold-a (λ k z kn kk ky. p (z ∙ ap suc (good .one k j kn jn kk (s .kind) (ky ∙ sym (s .is))))), ap (hasSlot wi) q ∙ hi) q
           ];
         }
 
   -- the frame at what entry i sees
   module _ (ρ : Environment) (plain : Plain ρ) (frame : List ℕ) (i : ℕ) (i-n : i < n) (below : (m : ℕ) → m < i → Sees links φ i m → Right links cells waits xs n φ ρ frame m) where
     -- a variable that entry i awaits has no value in the frame where it has none in the environment
-    unset-is : (j : ℕ) → j < i → kindAt links j ≡ variableKind → free (keyAt cells j) (φ i) ≡ true
-        → Code.isUnset frame (suc j) ≡ isDelayed (lookup ρ (keyAt cells j))
+    unset-is : (j : ℕ) → j < i → kindAt links j ≡ variableKind → free (variableAt links cells j) (φ i) ≡ true
+        → Code.isUnset frame (suc j) ≡ isDelayed (lookup ρ (variableAt links cells j))
     unfolding Code.isUnset evaluate valueOf
     unset-is j h k e =
-        let s = seen (suc i) i (keyAt cells j) (omega arith) i-n e in
+        let s = seen (suc i) i (variableAt links cells j) (omega arith) i-n e in
         let low = sees-below links φ i (s .at) (s .sees) in
-        let z : s .at ≡ j = good .one (s .at) j (omega arith) (omega arith) (s .kind) k (s .key) in
+        let z : s .at ≡ j = good .one (s .at) j (omega arith) (omega arith) (s .kind) k (s .is) in
         let t : Sees links φ i j = subst (λ (m : ℕ). Sees links φ i m) z (s .sees) in
-        let w : φ j ≡ variable (keyAt cells j) = subst (λ (m : ℕ). φ m ≡ variable (keyAt cells j)) z (s .form) in
-        let r : getD frame j 0 ≡ packOf (lookup ρ (keyAt cells j)) = below j h t ∙ ap (λ (f : Form). packOf (valueOf (evaluate xs ρ f))) w in
+        let w : φ j ≡ variable (variableAt links cells j) = subst (λ (m : ℕ). φ m ≡ variable (variableAt links cells j)) z (s .form) in
+        let r : getD frame j 0 ≡ packOf (lookup ρ (variableAt links cells j)) = below j h t ∙ ap (λ (f : Form). packOf (valueOf (evaluate xs ρ f))) w in
         let q : suc j - 1 ≡ j = omega arith in
         rw (le-leb 1 (suc j) (omega arith), le-leb (suc j) tableEntries (omega (arith, good .most)), q, r)
-        (delayed-cell (length xs) (good .few) (lookup ρ (keyAt cells j)) (plain-lookup ρ plain (keyAt cells j)))
+        (delayed-cell (length xs) (good .few) (lookup ρ (variableAt links cells j)) (plain-lookup ρ plain (variableAt links cells j)))
 
     unset-none : (v : ℕ) → v < 1 → Code.isUnset frame v ≡ false
     unfolding Code.isUnset
@@ -369,10 +375,10 @@ module _ (links cells waits : List ℕ) (xs : List ℤ) (n : ℕ) (φ : ℕ → 
                     let z : j ≡ i = omega (arith, s .below) in
                     absurd (omega (arith, k, subst (λ (m : ℕ). kindAt links m ≡ variableKind) z (s .kind)))
               ] in
-              let fr : free (keyAt cells j) (φ i) ≡ true =
+              let fr : free (variableAt links cells j) (φ i) ≡ true =
               sym (good .awaited i j i-n jn (s .kind))
               ∙ rw (le-leb 1 (suc j) (omega arith), subst (λ (m : ℕ). hasSlot (getD waits i 0) m ≡ true) (s .is) h) in
-              ap (Code.isUnset frame) (s .is) ∙ unset-is j ji (s .kind) fr ∙ split (isDelayed (lookup ρ (keyAt cells j))) (λ d. never e (settled-no ρ (φ i) (keyAt cells j) fr d)) (λ d. d)
+              ap (Code.isUnset frame) (s .is) ∙ unset-is j ji (s .kind) fr ∙ split (isDelayed (lookup ρ (variableAt links cells j))) (λ d. never e (settled-no ρ (φ i) (variableAt links cells j) fr d)) (λ d. d)
         ]
 
         opens : settled ρ (φ i) ≡ false → Code.isOpen frame (getD waits i 0) ≡ true
@@ -385,10 +391,10 @@ module _ (links cells waits : List ℕ) (xs : List ℤ) (n : ℕ) (φ : ℕ → 
               | yes r ↦ r
               | no r ↦ let z : j ≡ i = omega arith in absurd (omega (arith, k, subst (λ (m : ℕ). kindAt links m ≡ variableKind) z (s .kind)))
             ] in
-            let fr : free (keyAt cells j) (φ i) ≡ true = subst (λ (m : ℕ). free m (φ i) ≡ true) (sym (s .key)) (u .isFree) in
+            let fr : free (variableAt links cells j) (φ i) ≡ true = subst (λ (m : ℕ). free m (φ i) ≡ true) (sym (s .is)) (u .isFree) in
             let h : hasSlot (getD waits i 0) (suc j) ≡ true =
             and-eq-true-iff (leb 1 (suc j)) (hasSlot (getD waits i 0) (suc j)) .0 (good .awaited i j i-n (omega arith) (s .kind) ∙ fr) .1 in
-            let d : Code.isUnset frame (suc j) ≡ true = unset-is j ji (s .kind) fr ∙ subst (λ (m : ℕ). isDelayed (lookup ρ m) ≡ true) (sym (s .key)) (u .unset) in
+            let d : Code.isUnset frame (suc j) ≡ true = unset-is j ji (s .kind) fr ∙ subst (λ (m : ℕ). isDelayed (lookup ρ m) ≡ true) (sym (s .is)) (u .unset) in
             either (eqb (slotA (getD waits i 0)) (suc j)) (eqb (slotB (getD waits i 0)) (suc j)) h
             (λ r. or-inl _ _ (ap (Code.isUnset frame) (eqb-true _ _ r) ∙ d))
             (λ r. or-right (Code.isUnset frame (slotA (getD waits i 0))) _ (ap (Code.isUnset frame) (eqb-true _ _ r) ∙ d))
@@ -418,9 +424,13 @@ module _ (links cells waits : List ℕ) (xs : List ℤ) (n : ℕ) (φ : ℕ → 
           ∙ ap (λ (g : Form). packOf (valueOf (evaluate xs ρ g))) (sym (e .form))
 
       -- the runs of the function that entry a is
-      module _ (m : Member) (s l : ℕ) {a x b : ℕ} (entry : Parts links cells φ a (aFunction x b)) (link : Link links i a) (up : (y : ℕ) → free y (φ a) ≡ true → free y (φ i) ≡ true) where
+      module _ (m : Member) (s l : ℕ) {a name b k : ℕ} {low : k < 2} (entry : Parts links cells φ a (aFunction name b k low)) (link : Link links i a)
+          (up : (y : ℕ) → free y (φ a) ≡ true → free y (φ i) ≡ true) where
+        abbrev x′ : ℕ
+        x′ = withLevel name k
+
         abbrev run : ℤ → Value
-        run z = valueOf (evaluate xs (bind x (Number z) ρ) (φ b))
+        run z = valueOf (evaluate xs (bind x′ (Number z) ρ) (φ b))
 
         a-n : a < n
         a-n = omega arith
@@ -428,11 +438,11 @@ module _ (links cells waits : List ℕ) (xs : List ℤ) (n : ℕ) (φ : ℕ → 
         b-n′ : b < n
         b-n′ = omega arith
 
-        inner : (y : ℕ) → free y (φ b) ≡ true → (x ≡ y → ⊥) → free y (φ a) ≡ true
-        inner y h q = ap (free y) (entry .form) ∙ free-function y x (φ b) ∙ rw (ne-eqb x y q, h)
+        inner : (y : ℕ) → free y (φ b) ≡ true → (x′ ≡ y → ⊥) → free y (φ a) ≡ true
+        inner y h q = ap (free y) (entry .form) ∙ free-function y x′ (φ b) ∙ rw (ne-eqb x′ y q, h)
 
         -- what the body sees without the function's variable, entry i sees
-        sees-rest : (p : ℕ) → Sees links φ b p → free x (φ p) ≡ false → getD frame p 0 ≡ packOf (value p)
+        sees-rest : (p : ℕ) → Sees links φ b p → free x′ (φ p) ≡ false → getD frame p 0 ≡ packOf (value p)
         sees-rest p t nf =
             let low = sees-below links φ b p t in
             let mid : (y : ℕ) → free y (φ p) ≡ true → free y (φ a) ≡ true = λ y h. inner y (sees-free links φ b p t y h) (λ q. never h (subst (λ (k : ℕ). free k (φ p) ≡ false) q nf)) in
@@ -451,29 +461,29 @@ module _ (links cells waits : List ℕ) (xs : List ℤ) (n : ℕ) (φ : ℕ → 
             ∙ rw (ne-eqb (memberKind m) functionKind (λ e. omega arith))
 
         -- a body that does not await the variable comes to the same for every reading
-        still : free x (φ b) ≡ false → (zs : List ℤ) (t : Tally) → overOf go b (gathered links waits 0 b) 0 frame t zs ≡ Tallies.gathered t (map run zs)
+        still : free x′ (φ b) ≡ false → (zs : List ℤ) (t : Tally) → overOf go b (gathered links waits 0 b) 0 frame t zs ≡ Tallies.gathered t (map run zs)
         unfolding overOf fillOf gathered Code.bound Tallies.gathered
         still e [] t = refl
         still e (z ∷ zs) t =
-            let is : unpackOf (getD frame b 0) ≡ run z = opened b b-n′ (sees-rest b (here b) e) ∙ ap valueOf (sym (unbound-same xs ρ x (Number z) (φ b) e)) in
+            let is : unpackOf (getD frame b 0) ≡ run z = opened b b-n′ (sees-rest b (here b) e) ∙ ap valueOf (sym (unbound-same xs ρ x′ (Number z) (φ b) e)) in
             rw is (turn (Tallies.stepped t (run z)) _ (map run zs) (Tallies.stepped t (run z) .stopped) refl (still e zs (Tallies.stepped t (run z))))
 
         run-right : finishOf (graph links waits xs) go frame i (taskRun links waits a (memberKind m) s l) ≡ packOf (ofRuns m (map run (readingsIn xs s l)))
-        run-right = split (free x (φ b)) with-own without-own
+        run-right = split (free x′ (φ b)) with-own without-own
           where
-            with-own : free x (φ b) ≡ true → finishOf (graph links waits xs) go frame i (taskRun links waits a (memberKind m) s l) ≡ packOf (ofRuns m (map run (readingsIn xs s l)))
+            with-own : free x′ (φ b) ≡ true → finishOf (graph links waits xs) go frame i (taskRun links waits a (memberKind m) s l) ≡ packOf (ofRuns m (map run (readingsIn xs s l)))
             with-own e =
                 let o = own-some a-n entry e in
                 let j : ℕ = o .at in
                 let jn : j < n = omega (arith, o .low) in
-                let rest : (p : ℕ) → Sees links φ b p → free (keyAt cells j) (φ p) ≡ false → getD frame p 0 ≡ packOf (value p) =
-                λ p t nf. sees-rest p t (subst (λ (k : ℕ). free k (φ p) ≡ false) (o .key) nf) in
+                let rest : (p : ℕ) → Sees links φ b p → free (variableAt links cells j) (φ p) ≡ false → getD frame p 0 ≡ packOf (value p) =
+                λ p t nf. sees-rest p t (subst (λ (k : ℕ). free k (φ p) ≡ false) (o .variable) nf) in
                 finish-run (suc j) (o .is) (omega (arith, good .most))
                 ∙ conclude-right _
                 (over-right links cells waits xs n φ good j jn (o .kind) go f right ρ plain b b-n′ (omega arith) (readingsIn xs s l) (small-window xs (good .small) s l) frame len rest begun
-                ∙ ap (λ (k : ℕ). Tallies.gathered begun (map (λ z. valueOf (evaluate xs (bind k (Number z) ρ) (φ b))) (readingsIn xs s l))) (o .key))
+                ∙ ap (λ (k : ℕ). Tallies.gathered begun (map (λ z. valueOf (evaluate xs (bind k (Number z) ρ) (φ b))) (readingsIn xs s l))) (o .variable))
 
-            without-own : free x (φ b) ≡ false → finishOf (graph links waits xs) go frame i (taskRun links waits a (memberKind m) s l) ≡ packOf (ofRuns m (map run (readingsIn xs s l)))
+            without-own : free x′ (φ b) ≡ false → finishOf (graph links waits xs) go frame i (taskRun links waits a (memberKind m) s l) ≡ packOf (ofRuns m (map run (readingsIn xs s l)))
             without-own e = finish-run 0 (own-none a-n entry e) (omega arith) ∙ conclude-right _ (still e (readingsIn xs s l) begun)
 
       -- only a function's entry comes to a function
@@ -489,12 +499,15 @@ module _ (links cells waits : List ℕ) (xs : List ℤ) (n : ℕ) (φ : ℕ → 
             → finishOf (graph links waits xs) go frame i (taskRun links waits a (memberKind m) s l) ≡ packOf (ofRuns m (map (λ z. runOf (evaluate xs ρ (φ a)) z) (readingsIn xs s l)))
         unfolding evaluate valueOf runOf
         ran s l r (aNumber _) e = never (ap isFunction r) (rw (e .form))
-        ran s l r (aVariable x) e = never (ap isFunction r) (rw (e .form) (plain-none (lookup ρ x) (plain-lookup ρ plain x)))
+        ran s l r (aVariable name k _) e =
+            let x = withLevel name k in
+            never (ap isFunction r) (rw (e .form) (plain-none (lookup ρ x) (plain-lookup ρ plain x)))
         ran s l r (anUnbound _) e = never (ap isFunction r) (rw (e .form))
         ran s l r theReadings e = never (ap isFunction r) (rw (e .form))
         ran s l r (anAsk k d _) e = never (ap isFunction r) (rw (e .form) (ask-none k xs (valueOf (evaluate xs ρ (φ d)))))
         ran s l r (aCall k d c _) e = never (ap isFunction r) (rw (e .form) (call-none k xs (valueOf (evaluate xs ρ (φ d))) (valueOf (evaluate xs ρ (φ c))) (runOf (evaluate xs ρ (φ c)))))
-        ran s l r (aFunction x b) e =
+        ran s l r (aFunction name b k _) e =
+            let x = withLevel name k in
             let q : evaluate xs ρ (φ a) ≡ runs (λ z. evaluate xs (bind x (Number z) ρ) (φ b)) =
             ap (evaluate xs ρ) (e .form)
             ∙ function-runs (valueOf (evaluate xs (bind x Delayed ρ) (φ b))) (settled (bind x (Number (pos 0)) ρ) (φ b)) (λ z. evaluate xs (bind x (Number z) ρ) (φ b))
@@ -523,15 +536,18 @@ module _ (links cells waits : List ℕ) (xs : List ℤ) (n : ℕ) (φ : ℕ → 
           ∙ ap (λ (g : Form). packOf (valueOf (evaluate xs ρ g))) (sym (e .form))
 
       -- a function
-      module _ {x b : ℕ} (entry : Parts links cells φ i (aFunction x b)) where
+      module _ {name b k : ℕ} {low : k < 2} (entry : Parts links cells φ i (aFunction name b k low)) where
+        abbrev x″ : ℕ
+        x″ = withLevel name k
+
         abbrev base : Value
-        base = valueOf (evaluate xs (bind x Delayed ρ) (φ b))
+        base = valueOf (evaluate xs (bind x″ Delayed ρ) (φ b))
 
         judged : done ≡ Code.functionOf frame (getD waits i 0) (packOf base)
         unfolding finishOf
         judged =
             ap (finishOf (graph links waits xs) go frame i) (plan-function links waits xs frame i b (entry .kind) (entry .first) (entry .low))
-            ∙ split (free x (φ b))
+            ∙ split (free x″ (φ b))
             (λ h.
             let o = own-some i-n entry h in
             let j : ℕ = o .at in
@@ -539,32 +555,32 @@ module _ (links cells waits : List ℕ) (xs : List ℤ) (n : ℕ) (φ : ℕ → 
             ap (finishOf (graph links waits xs) go frame i) (judge-again links waits xs frame i b j (o .is) (omega (arith, good .most)))
             ∙ ap (Code.functionOf frame (getD waits i 0))
             (set-value links cells waits xs n φ good j jn (o .kind) go f right ρ plain b (omega arith) (omega arith) Delayed tt frame len
-            (λ p t nf. rest p t (subst (λ (m : ℕ). free m (φ p) ≡ false) (o .key) nf))
-            ∙ ap (λ (m : ℕ). packOf (valueOf (evaluate xs (bind m Delayed ρ) (φ b)))) (o .key)))
+            (λ p t nf. rest p t (subst (λ (m : ℕ). free m (φ p) ≡ false) (o .variable) nf))
+            ∙ ap (λ (m : ℕ). packOf (valueOf (evaluate xs (bind m Delayed ρ) (φ b)))) (o .variable)))
             (λ h.
             ap (finishOf (graph links waits xs) go frame i) (judge-kept links waits xs frame i b (own-none i-n entry h))
-            ∙ ap (Code.functionOf frame (getD waits i 0)) (rest b (here b) h ∙ ap (λ r. packOf (valueOf r)) (sym (unbound-same xs ρ x Delayed (φ b) h))))
+            ∙ ap (Code.functionOf frame (getD waits i 0)) (rest b (here b) h ∙ ap (λ r. packOf (valueOf r)) (sym (unbound-same xs ρ x″ Delayed (φ b) h))))
           where
-            rest : (p : ℕ) → Sees links φ b p → free x (φ p) ≡ false → getD frame p 0 ≡ packOf (value p)
+            rest : (p : ℕ) → Sees links φ b p → free x″ (φ p) ≡ false → getD frame p 0 ≡ packOf (value p)
             rest p t nf =
                 let low = sees-below links φ b p t in
                 below p (omega arith) (down i b p (entry .low, inl (entry .first)) t (λ y h.
-                free-outer i-n entry y ∙ rw (ne-eqb x y (λ q. never h (subst (λ (m : ℕ). free m (φ p) ≡ false) q nf)), sees-free links φ b p t y h)))
+                free-outer i-n entry y ∙ rw (ne-eqb x″ y (λ q. never h (subst (λ (m : ℕ). free m (φ p) ≡ false) q nf)), sees-free links φ b p t y h)))
 
         function-right : done ≡ packOf (value i)
         unfolding evaluate settled
         function-right =
             judged
-            ∙ function-cell (length xs) (good .few) frame (getD waits i 0) base (settled (bind x (Number (pos 0)) ρ) (φ b)) (λ z. evaluate xs (bind x (Number z) ρ) (φ b))
-            (kept b (omega arith) (bind x Delayed ρ) (tt, plain)) (open-right (entry .kind) ∙ ap (λ (g : Form). not (settled ρ g)) (entry .form))
+            ∙ function-cell (length xs) (good .few) frame (getD waits i 0) base (settled (bind x″ (Number (pos 0)) ρ) (φ b)) (λ z. evaluate xs (bind x″ (Number z) ρ) (φ b))
+            (kept b (omega arith) (bind x″ Delayed ρ) (tt, plain)) (open-right (entry .kind) ∙ ap (λ (g : Form). not (settled ρ g)) (entry .form))
             ∙ ap (λ (g : Form). packOf (valueOf (evaluate xs ρ g))) (sym (entry .form))
 
       step : functionKind ≤ kindAt links i → {q : Node} (k : Fine q) → Parts links cells φ i k → done ≡ packOf (value i)
       step h (aNumber _) e = absurd (omega arith)
-      step h (aVariable _) e = absurd (omega arith)
+      step h (aVariable _ _ _) e = absurd (omega arith)
       step h (anUnbound _) e = absurd (omega arith)
       step h theReadings e = absurd (omega arith)
-      step h (aFunction _ _) e = function-right e
+      step h (aFunction _ _ _ _) e = function-right e
       step h (anAsk m d z) e = ask-right m d z e
       step h (aCall m d a z) e = call-right m d a z e
 

@@ -2,7 +2,7 @@
 -- of first occurrence, or the reason. Assumes nothing.
 use mathlib.Core.Path.{_≡_, refl, ap, _∙_}
 use mathlib.Core.Bool.{Bool, true, false, cond}
-use mathlib.Core.List.{List, [], _∷_}
+use mathlib.Core.List.{List, [], _∷_, map}
 use Prim.Native.Nat.{ℕ, suc, _+_, _*_, _-_, _≤_}
 use native.Mathlib.Omega.{arith}
 use borrow.Author.Tests.{ne-eqb}
@@ -17,7 +17,7 @@ use Rattle.values.specs.Keepable.{Keepable}
 use Rattle.values.specs.Packing.{packOf, unpackOf, functionCell, delayedCell}
 use Rattle.values.specs.PackingLaws.{round}
 use Rattle.values.specs.Ranges.{up-size}
-use Rattle.meaning.specs.Forms.{Form, nameOf}
+use Rattle.meaning.specs.Forms.{Form, nameIn, nameOf}
 use Rattle.meaning.specs.Evaluation.{awaited, shownAs}
 use Rattle.layout.specs.Links.{keyAt}
 use Rattle.table.specs.Waits.{slotA, slotB}
@@ -40,9 +40,9 @@ second-name true true x y h = refl
 second-name true false x y h = refl
 second-name false b x y h = rw (h refl)
 
-module _ (n : ℕ) (cells : List ℕ) (i w : ℕ) (f : Form) (full : leb 1 (slotA w) ≡ false → leb 1 (slotB w) ≡ false) (names : slotNames cells w ≡ awaited f) where
-  pub kept-shows : (v : Value) → Keepable n v → n ≤ tableReadings → (v ≡ Function → keyAt cells i ≡ nameOf f)
-      → view (shownNumbers (unpackOf (packOf v))) (nameFor cells i (packOf v) w) (otherFor cells (packOf v) w) ≡ viewOf (shownAs (nameOf f) (awaited f) v)
+module _ (n : ℕ) (cells : List ℕ) (i w : ℕ) (f : Form) (full : leb 1 (slotA w) ≡ false → leb 1 (slotB w) ≡ false) (names : slotNames cells w ≡ map nameIn (awaited f)) where
+  pub kept-shows : (v : Value) → Keepable n v → n ≤ tableReadings → (v ≡ Function → keyAt cells i ≡ nameIn (nameOf f))
+      → view (shownNumbers (unpackOf (packOf v))) (nameFor cells i (packOf v) w) (otherFor cells (packOf v) w) ≡ viewOf (shownAs (nameIn (nameOf f)) (map nameIn (awaited f)) v)
   unfolding viewOf nameFor otherFor
   kept-shows (Number z) k h g =
       let a : eqb (packOf (Number z)) functionCell ≡ false =
@@ -65,10 +65,10 @@ module _ (n : ℕ) (cells : List ℕ) (i w : ℕ) (f : Form) (full : leb 1 (slot
       rw (round Delayed tt)
       (λ t. view (shownNumbers Delayed) (p t) (q t))
     where
-      p : slotName cells (slotA w) ≡ nameAt (awaited f) 0
+      p : slotName cells (slotA w) ≡ nameAt (map nameIn (awaited f)) 0
       p = first-name (leb 1 (slotA w)) (leb 1 (slotB w)) (keyAt cells (slotA w - 1)) (keyAt cells (slotB w - 1)) ∙ ap (λ (l : List ℕ). nameAt l 0) names
 
-      q : slotName cells (slotB w) ≡ nameAt (awaited f) 1
+      q : slotName cells (slotB w) ≡ nameAt (map nameIn (awaited f)) 1
       q = second-name (leb 1 (slotA w)) (leb 1 (slotB w)) (keyAt cells (slotA w - 1)) (keyAt cells (slotB w - 1)) full ∙ ap (λ (l : List ℕ). nameAt l 1) names
   kept-shows (Missing r) k h g =
       let a : eqb (packOf (Missing r)) functionCell ≡ false = ne-eqb (packOf (Missing r)) functionCell (λ (e : _≡_ {A = ℕ} (34359738368 + r) 17179869184). omega arith) in

@@ -18,16 +18,17 @@ use Rattle.rules.specs.declared.Value.the-variants.{Number, Window, Function, D
 use Rattle.values.specs.Keepable.{Keepable}
 use Rattle.values.specs.Ranges.{down-range}
 use Rattle.values.specs.KeepableApply.{kept-apply0, kept-apply1}
-use Rattle.meaning.specs.Forms.{Form}
+use Rattle.meaning.specs.Forms.{Form, withLevel}
 use Rattle.meaning.specs.Evaluation.{Result, plain, runs, valueOf, runOf, Environment, nowhere, bind, lookup, settled, functionOf, evaluate}
 use Rattle.layout.specs.Memory.{Node, nodeAt}
-use Rattle.layout.specs.Nodes.{variableKind, build}
+use Rattle.layout.specs.Nodes.{variableKind, variableIn, build}
 use Rattle.layout.specs.Links.{kindAt, firstAt, secondAt, keyAt}
 use Rattle.table.specs.WellFormed.{keyRight}
 use Rattle.table.specs.Right.{nodeRight}
 use Rattle.table.specs.RightLaws.{right-key, first-low, second-low}
 use Rattle.table.specs.NodeKinds.{Fine, aNumber, aVariable, anUnbound, theReadings, aFunction, anAsk, aCall, nodeForm, build-fine, right-fine}
 use Rattle.table.specs.Waits.{slotA, slotB, hasSlot, awaits}
+use Rattle.table.specs.WaitsLaws.{variableAt}
 use Rattle.refine.specs.Free.{free}
 
 -- a slot of what an entry awaits is a variable's entry, not above it
@@ -45,10 +46,10 @@ pub record Good (links cells waits : List ℕ) (xs : List ℤ) (n : ℕ) (φ : �
   pub right : (i : ℕ) → i < n → nodeRight i (nodeAt links cells i) ≡ true
   pub forms : (i : ℕ) → i < n → φ i ≡ build (nodeAt links cells i) φ
   -- what is awaited is what is free
-  pub awaited : (i j : ℕ) → i < n → j < n → kindAt links j ≡ variableKind → awaits (getD waits i 0) (suc j) ≡ free (keyAt cells j) (φ i)
+  pub awaited : (i j : ℕ) → i < n → j < n → kindAt links j ≡ variableKind → awaits (getD waits i 0) (suc j) ≡ free (variableAt links cells j) (φ i)
   pub slots : (i v : ℕ) → i < n → 1 ≤ v → hasSlot (getD waits i 0) v ≡ true → Slot links i v
-  -- a name has one variable
-  pub one : (i j : ℕ) → i < n → j < n → kindAt links i ≡ variableKind → kindAt links j ≡ variableKind → keyAt cells i ≡ keyAt cells j → i ≡ j
+  -- a variable has one entry
+  pub one : (i j : ℕ) → i < n → j < n → kindAt links i ≡ variableKind → kindAt links j ≡ variableKind → variableAt links cells i ≡ variableAt links cells j → i ≡ j
   pub filled : (i : ℕ) → i < n → slotA (getD waits i 0) ≡ 0 → slotB (getD waits i 0) ≡ 0
 
 -- ---- an entry by its node
@@ -56,6 +57,7 @@ pub record Good (links cells waits : List ℕ) (xs : List ℤ) (n : ℕ) (φ : �
 pub record Parts (links cells : List ℕ) (φ : ℕ → Form) (i : ℕ) {q : Node} (k : Fine q) : Type 0 where
   pub kind : kindAt links i ≡ q .kind
   pub key : keyAt cells i ≡ q .key
+  pub variable : variableAt links cells i ≡ variableIn q
   pub first : firstAt links i ≡ q .first
   pub second : secondAt links i ≡ q .second
   pub keyed : keyRight q ≡ true
@@ -74,6 +76,7 @@ module _ {links cells waits : List ℕ} {xs : List ℤ} {n : ℕ} {φ : ℕ → 
       record {
         kind = refl;
         key = refl;
+        variable = refl;
         first = refl;
         second = refl;
         keyed = right-key i _ r;
@@ -157,10 +160,13 @@ module _ (links cells waits : List ℕ) (xs : List ℤ) (n : ℕ) (φ : ℕ → 
           → Keepable (length xs) (valueOf (evaluate xs ρ (φ i))) × ((z : ℤ) → mag z < 2147483648 → Keepable (length xs) (runOf (evaluate xs ρ (φ i)) z))
       by (aNumber key) e again =
           rw (e .form) (record { held = down-range 2147483648 key (omega (arith, ltb-true key 4294967296 (e .keyed))); inside = tt; reasoned = tt }, λ z m. wrong)
-      by (aVariable x) e again = rw (e .form) (plain-kept (length xs) (lookup ρ x) (plain-lookup ρ p x), λ z m. wrong)
+      by (aVariable name k _) e again =
+          let x = withLevel name k in
+          rw (e .form) (plain-kept (length xs) (lookup ρ x) (plain-lookup ρ p x), λ z m. wrong)
       by (anUnbound x) e again = rw (e .form) (reason-kept (length xs) 1 (omega arith) (omega arith), λ z m. wrong)
       by theReadings e again = rw (e .form) (record { held = (omega arith, omega (arith, good .few)); inside = omega arith; reasoned = tt }, λ z m. wrong)
-      by (aFunction x b) e again =
+      by (aFunction name b k _) e again =
+          let x = withLevel name k in
           rw (e .form) (
             function-kept (length xs) (valueOf (evaluate xs (bind x Delayed ρ) (φ b)))
                 (settled (bind x (Number (pos 0)) ρ) (φ b)) (λ z. evaluate xs (bind x (Number z) ρ) (φ b))

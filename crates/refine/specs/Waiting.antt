@@ -2,7 +2,7 @@
 -- nodes, with the forms that they stand for, is one that working out can rely on. Assumes nothing.
 use mathlib.Core.Path.{_≡_, sym, _∙_}
 use mathlib.Core.Bool.{true, false}
-use mathlib.Core.List.{List}
+use mathlib.Core.List.{List, map}
 use Prim.Native.Nat.{ℕ, suc, _≤_, _<_}
 use native.Mathlib.Omega.{arith}
 use borrow.Author.Tests.{eqb-true, leb-false}
@@ -12,8 +12,9 @@ use lib.ListN.{length, getD, replicate}
 use lib.Signed.{mag}
 use Rattle.language.specs.Cases.{either}
 use Rattle.language.specs.Limits.{tableEntries, tableReadings}
-use Rattle.meaning.specs.Forms.{Form}
+use Rattle.meaning.specs.Forms.{Form, nameIn}
 use Rattle.meaning.specs.Evaluation.{awaited}
+use Rattle.layout.specs.Links.{keyAt}
 use Rattle.layout.specs.Memory.{nodeAt}
 use Rattle.layout.specs.Nodes.{build}
 use Rattle.table.specs.Right.{nodeRight}
@@ -21,16 +22,20 @@ use Rattle.table.specs.Waits.{slotA, slotB, hasSlot, waitsFrom}
 use Rattle.table.specs.NodeKinds.{less-one}
 use Rattle.table.specs.AwaitsLaws.{namesOf}
 use Rattle.table.specs.AwaitedForms.{awaited-forms}
-use Rattle.table.specs.WaitsLaws.{Variable, Holds, none, one, two, positive, single, holds-of, found}
+use Rattle.table.specs.WaitsLaws.{variableAt, Variable, Holds, none, one, two, positive, single, holds-of, found}
 use Rattle.refine.specs.Tables.{Slot, Good}
 use Rattle.refine.specs.Shows.{slotNames}
 
+-- the name of a variable's entry
+name-of : (links cells : List ℕ) (i a : ℕ) → Variable links i a → nameIn (variableAt links cells a) ≡ keyAt cells a
+name-of links cells i a v = omega (arith, v .level)
+
 -- ---- what is found, by its slots
 module _ {links cells : List ℕ} {i w : ℕ} {xs : List ℕ} where
-  names-of : Holds links cells i w xs → slotNames cells w ≡ xs
+  names-of : Holds links cells i w xs → slotNames cells w ≡ map nameIn xs
   names-of (none p q e) = rw (p, e)
-  names-of (one a va p q e) = rw (p, q, less-one a, positive, e)
-  names-of (two a b va vb d p q e) = rw (p, q, less-one a, less-one b, positive a, positive b, e)
+  names-of (one a va p q e) = rw (p, q, less-one a, positive, e, name-of links cells i a va)
+  names-of (two a b va vb d p q e) = rw (p, q, less-one a, less-one b, positive a, positive b, e, name-of links cells i a va, name-of links cells i b vb)
 
   filled-of : Holds links cells i w xs → slotA w ≡ 0 → slotB w ≡ 0
   filled-of (none p q e) h = q
@@ -69,7 +74,7 @@ module _ (links cells : List ℕ) (xs : List ℤ) (n : ℕ) (φ : ℕ → Form)
   of-form i h = rw (awaits-as i h) at (found links cells n most right alone (λ k l. rw (awaits-as k l) (names k l)) i h)
 
   -- the variables found for an entry have the names that its form awaits, in that order
-  pub waits-names : (i : ℕ) → i < n → slotNames cells (getD waits i 0) ≡ awaited (φ i)
+  pub waits-names : (i : ℕ) → i < n → slotNames cells (getD waits i 0) ≡ map nameIn (awaited (φ i))
   waits-names i h = names-of (of-form i h)
 
   filled : (i : ℕ) → i < n → slotA (getD waits i 0) ≡ 0 → slotB (getD waits i 0) ≡ 0

@@ -398,8 +398,10 @@ fn every_part(recording: &[i32]) {
     by_entry(recording, b"let f = \\a -> a in f.count()");
     // An unbound name under a lambda of its name
     by_entry(recording, b"let y = b in \\b -> y");
-    // Wholes whose text the reader would decline: for a lambda's name, a third open lambda, too many parts, and too many bytes
+    // A function that would be read with another level, and variables of one spelling
     by_entry(recording, b"let f = \\a -> a in \\a -> data.sumBy(f)");
+    by_entry(recording, b"\\a -> let x = a in \\a -> x.add(a)");
+    // Wholes whose text the reader would decline: for a third open lambda, too many parts, and too many bytes
     by_entry(recording, b"let f = \\b -> \\c -> 1 in \\a -> f");
     by_entry(
         recording,
@@ -448,6 +450,11 @@ fn main() {
         &[0, 2, 3],
         b"let h = \\y -> data.skip(1).sumBy(\\x -> y.div(x)) in data.sumBy(\\x -> data.skip(x).sumBy(h))",
     );
+    // Lambdas by their level: a function's twin inside another lambda, and a lambda that hides another of its name
+    session(
+        &run,
+        b"data.sumBy(\\a -> a)\n\\b -> data.sumBy(\\a -> a)\n\\a -> \\a -> 1\ndata.sumBy(\\a -> let x = a in data.countWhere(\\a -> a.gt(x)))",
+    );
     every_part(&run);
     // Taken
     sessions(
@@ -461,6 +468,6 @@ fn main() {
     memory();
     session(
         &run,
-        b"data.\n2147483648\nheartrate\nlet data = 1 in 2\ndata.skip()\n\\a -> \\b -> \\c -> 1\n\\a -> \\a -> 1\n(((((((((((((((((",
+        b"data.\n2147483648\nheartrate\nlet data = 1 in 2\ndata.skip()\n\\a -> \\b -> \\c -> 1\n(((((((((((((((((",
     );
 }

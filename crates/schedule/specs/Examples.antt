@@ -24,13 +24,17 @@ use Rattle.schedule.specs.Works
 use Rattle.schedule.specs.Works.{Work, worked}
 
 -- 0 data, 1 and 2 the numbers 1 and 2, 3 data.skip(1), 4 data.skip(1).take(2), 5 data.sum(), 6 1.add(data.sum()), 7 and 8 the variables a and b,
--- 9 a.add(b), 10 \b -> a.add(b), 11 \a -> \b -> a.add(b)
+-- 9 a.add(b), 10 \b -> a.add(b), 11 \a -> \b -> a.add(b); 12 the variable a of a function within another, 13 a.add(a) of both variables, 14 \a
+-- within, and 15 the function around it
+abbrev pub entry : (kind first second level : ℕ) → List ℕ
+entry kind first second level = kind ∷ first ∷ second ∷ level ∷ []
+
 abbrev pub links : List ℕ
 links =
     let l : List ℕ =
-    3 ∷ 0 ∷ 0 ∷ 0 ∷ 0 ∷ 0 ∷ 0 ∷ 0 ∷ 0 ∷ 11 ∷ 1 ∷ 2 ∷ 12 ∷ 4 ∷ 3 ∷ 14 ∷ 1 ∷ 0 ∷ 5 ∷ 2 ∷ 6 ∷ 1 ∷ 0 ∷ 0 ∷ 1 ∷ 0 ∷ 0 ∷ 5 ∷ 8 ∷ 9
-    ∷ 4 ∷ 10 ∷ 0 ∷ 4 ∷ 11 ∷ 0 ∷ [] in
-    l ++ drop (length l) (replicate 1536 0)
+    entry 3 0 0 0 ++ entry 0 0 0 0 ++ entry 0 0 0 0 ++ entry 11 1 2 0 ++ entry 12 4 3 0 ++ entry 14 1 0 0 ++ entry 5 2 6 0 ++ entry 1 0 0 0
+    ++ entry 1 0 0 1 ++ entry 5 8 9 0 ++ entry 4 10 0 1 ++ entry 4 11 0 0 ++ entry 1 0 0 1 ++ entry 5 8 13 0 ++ entry 4 14 0 1 ++ entry 4 15 0 0 in
+    l ++ drop (length l) (replicate 2048 0)
 
 abbrev pub key : ℕ → List ℕ
 key k = k ∷ 0 ∷ 0 ∷ 0 ∷ []
@@ -38,7 +42,8 @@ key k = k ∷ 0 ∷ 0 ∷ 0 ∷ []
 abbrev pub fresh : List ℕ
 fresh =
     let c : List ℕ =
-    key 0 ++ key 2147483649 ++ key 2147483650 ++ key 0 ++ key 0 ++ key 0 ++ key 0 ++ key 97 ++ key 98 ++ key 0 ++ key 98 ++ key 97 in
+    key 0 ++ key 2147483649 ++ key 2147483650 ++ key 0 ++ key 0 ++ key 0 ++ key 0 ++ key 97 ++ key 98 ++ key 0 ++ key 98 ++ key 97
+    ++ key 97 ++ key 0 ++ key 97 ++ key 97 in
     c ++ drop (length c) (replicate 2048 0)
 
 abbrev pub recording : List ℤ
@@ -136,3 +141,8 @@ pub functions-named : done (workOn fresh 11 9) ≡ record {
 }
 unfolding workOn
 functions-named = refl
+
+-- 02, T-05: two variables of one spelling are two, and a part that waits for both names it twice; each function puts its own
+pub named-twice : map (keptOf (workOn fresh 15 9 .cells)) (13 ∷ 14 ∷ 15 ∷ []) ≡ (delayedCell, 97, 97) ∷ (delayedCell, 97, 0) ∷ (functionCell, 97, 0) ∷ []
+unfolding workOn
+named-twice = refl

@@ -1,6 +1,6 @@
 -- What each path through a function of cursor.rt gives, from its tests and calls, over plain variables. Assumes nothing.
 use mathlib.Core.Path.{_≡_, refl, ap, sym, _∙_}
-use mathlib.Core.Bool.{Bool, true, false, cond, _&&_, _||_, true≢false}
+use mathlib.Core.Bool.{Bool, true, false, cond}
 use mathlib.Core.List.{List}
 use Prim.Native.Nat.{ℕ, zero, suc, _+_, _*_, _-_, _≤_, _<_}
 use native.Mathlib.Numerals.{add-one}
@@ -24,8 +24,8 @@ use Rattle.steps.specs.declared.cursor.Cursor.{Cursor}
 use Rattle.lexer.specs.declared.tokens.Lexed.{Lexed}
 use Rattle.lexer.specs.Lexing.{lexAt, tokensFrom, bytesAt, nameAt}
 use Rattle.lexer.specs.LexingLaws.{name-whole}
-use Rattle.steps.specs.Cursors.{cursorOf, passedTo, partTo, namedTo, refusedAt, refusing, passing, passingPart, letNamed, lambdaNamed, memberNamed, callOpened}
-use Rattle.steps.specs.Cursors.{nameFault, numberFault, letNameFault, lambdaNameFault, openFault}
+use Rattle.steps.specs.Cursors.{cursorOf, passedTo, partTo, namedTo, refusedAt, refusing, passing, passingPart, binderNamed, memberNamed, callOpened}
+use Rattle.steps.specs.Cursors.{nameFault, numberFault, binderFault, openFault}
 use Rattle.steps.specs.CursorsLaws.{head-place, behind-head, head-word, is-at}
 
 -- ---- the faults, from the picks that they are made of
@@ -61,13 +61,8 @@ pub comma-fault : (more r : ℕ) → r ≡ cond (eqb more 0) 9 0 → r ≡ D.atC
 unfolding D.atComma
 comma-fault more r p = p
 
-pub let-name-fault : (word long reserved : Bool) (m n r : ℕ) → m ≡ cond reserved 8 0 → n ≡ cond long 7 m → r ≡ cond word n 5 → r ≡ letNameFault word long reserved
-let-name-fault word long reserved m n r o p q = q ∙ ap (λ (k : ℕ). cond word k 5) (p ∙ ap (λ (k : ℕ). cond long 7 k) o)
-
-pub lambda-name-fault : (word long reserved taken : Bool) (l m n r : ℕ) → l ≡ cond taken 11 0 → m ≡ cond reserved 8 l → n ≡ cond long 7 m → r ≡ cond word n 5
-    → r ≡ lambdaNameFault word long reserved taken
-lambda-name-fault word long reserved taken l m n r e o p q =
-    q ∙ ap (λ (k : ℕ). cond word k 5) (p ∙ ap (λ (k : ℕ). cond long 7 k) (o ∙ ap (λ (k : ℕ). cond reserved 8 k) e))
+pub binder-fault : (word long reserved : Bool) (m n r : ℕ) → m ≡ cond reserved 8 0 → n ≡ cond long 7 m → r ≡ cond word n 5 → r ≡ binderFault word long reserved
+binder-fault word long reserved m n r o p q = q ∙ ap (λ (k : ℕ). cond word k 5) (p ∙ ap (λ (k : ℕ). cond long 7 k) o)
 
 pub open-fault : (bracket : Bool) (marks n r : ℕ) → n ≡ cond (leb 16 marks) 12 0 → r ≡ cond bracket n 5 → r ≡ openFault bracket marks
 open-fault bracket marks n r p q = q ∙ ap (λ (k : ℕ). cond bracket k 5) p
@@ -96,43 +91,7 @@ module _ (scope : List ℕ) (x : ℕ) where
   binder-none zero depth h l = h
   binder-none (suc i) depth h l = absurd (omega arith)
 
-  -- cond (eqb link 0) (eqb x name || rest) rest, where both tests hold, and where they do not
-  both : (s t u : Bool) → (s && t) ≡ true → true ≡ cond s (t || u) u
-  both true true u e = refl
-  both true false u e = absurd (true≢false (sym e))
-  both false t u e = absurd (true≢false (sym e))
-
-  neither : (s t u : Bool) → (s && t) ≡ false → u ≡ cond s (t || u) u
-  neither true true u e = absurd (true≢false e)
-  neither true false u e = refl
-  neither false t u e = refl
-
-  abbrev named : ℕ → Bool
-  named b = eqb (D.binderLink scope b) 0 && eqb x (D.binderName scope b)
-
-  pub lambda-found : (b depth : ℕ) (r : Bool) → D.lambdaIn scope x b ≡ D.lambdaIn scope x depth → 0 < b → r ≡ named (b - 1) → r ≡ true → true ≡ D.lambdaIn scope x depth
-  unfolding D.lambdaIn
-  lambda-found zero depth r h l e t = absurd (omega arith)
-  lambda-found (suc i) depth r h l e t = let n : suc i - 1 ≡ i = omega arith in both (eqb (D.binderLink scope i) 0) (eqb x (D.binderName scope i)) (D.lambdaIn scope x i) (sym (rw n at e) ∙ t) ∙ h
-
-  pub lambda-next : (b depth : ℕ) (r : Bool) → D.lambdaIn scope x b ≡ D.lambdaIn scope x depth → 0 < b → r ≡ named (b - 1) → r ≡ false
-      → D.lambdaIn scope x (b - 1) ≡ D.lambdaIn scope x depth
-  unfolding D.lambdaIn
-  lambda-next zero depth r h l e t = absurd (omega arith)
-  lambda-next (suc i) depth r h l e t =
-      let n : suc i - 1 ≡ i = omega arith in
-      rw n (neither (eqb (D.binderLink scope i) 0) (eqb x (D.binderName scope i)) (D.lambdaIn scope x i) (sym (rw n at e) ∙ t) ∙ h)
-
-  pub lambda-none : (b depth : ℕ) → D.lambdaIn scope x b ≡ D.lambdaIn scope x depth → b ≤ 0 → false ≡ D.lambdaIn scope x depth
-  unfolding D.lambdaIn
-  lambda-none zero depth h l = h
-  lambda-none (suc i) depth h l = absurd (omega arith)
-
 module _ (scope : List ℕ) (b : ℕ) where
-  pub lambda-of : (x : ℕ) (r : Bool) → r ≡ eqb (D.binderLink scope b) 0
-      → (r && eqb x (D.binderName scope b)) ≡ (eqb (D.binderLink scope b) 0 && eqb x (D.binderName scope b))
-  lambda-of x r e = ap (λ (t : Bool). t && eqb x (D.binderName scope b)) e
-
   pub with-one : (n : ℕ) (r : Bool) → r ≡ eqb (D.binderLink scope b) 0 → r ≡ true → n + 1 ≡ cond (eqb (D.binderLink scope b) 0) (suc n) n
   with-one n r e t = rw (sym e ∙ t) (omega arith)
 
@@ -266,46 +225,25 @@ module _ (text : List ℕ) (c : Cursor) (x : Lexed) (e : x ≡ lexAt text (c .at
   name-seen : (g : ℕ → ℕ) → cond (isLong bytes) 7 (g (nameAt bytes)) ≡ cond (isLong bytes) 7 (g (packed bytes))
   name-seen g = split (isLong bytes) (λ q. rw q) (λ q. rw q (ap g (name-whole bytes q)))
 
-  -- the name of a let
+  -- the name that a let or a lambda binds
   module _ (long reserved : Bool) (m n : ℕ) (l : long ≡ isLong bytes) (p : m ≡ nameAt bytes) (o : reserved ≡ eqb m (packed dataWord))
-      (f : n ≡ letNameFault (eqb (x .kind) 10) long reserved) where
-    let-number : n ≡ D.atLetName left
-    unfolding D.atLetName isData
-    let-number =
+      (f : n ≡ binderFault (eqb (x .kind) 10) long reserved) where
+    binder-number : n ≡ D.atBinder left
+    unfolding D.atBinder isData
+    binder-number =
         f ∙ rw (l, o, p) (ap (λ (k : ℕ). cond (eqb (x .kind) 10) k 5) (name-seen (λ k. cond (eqb k (packed dataWord)) 8 0))
         ∙ word-fault (λ w. cond (isLong w) 7 (cond (isData w) 8 0)))
 
-    pub let-name-passed : (r : Cursor) → n ≡ 0 → r ≡ namedTo c (x .end) m (c .takes) → cursorOf text r ≡ letNamed text c
+    pub binder-passed : (r : Cursor) → n ≡ 0 → r ≡ namedTo c (x .end) m (c .takes) → cursorOf text r ≡ binderNamed text c
     unfolding D.passName
-    let-name-passed r z q =
+    binder-passed r z q =
         let w = was-due (eqb (x .kind) 10) _ 4 (sym f ∙ z) in
         let s = not-refused long 6 _ (w .1) in
         let h : D.headWord left ≡ bytes = head-word text (c .at) x e (eqb-true (x .kind) 10 (w .0)) in
-        goes n _ r _ let-number z (ap (cursorOf text) q ∙ named-here m _ _ _ (p ∙ name-whole bytes (sym l ∙ s .0) ∙ ap packed (sym h)) refl)
+        goes n _ r _ binder-number z (ap (cursorOf text) q ∙ named-here m _ _ _ (p ∙ name-whole bytes (sym l ∙ s .0) ∙ ap packed (sym h)) refl)
 
-    pub let-name-refused : (r : Cursor) → (n ≡ 0 → ⊥) → r ≡ refusedAt c n (x .start) → cursorOf text r ≡ letNamed text c
-    let-name-refused r z q = stops n _ r _ let-number z q
-
-  -- the name of a lambda
-  module _ (scope : List ℕ) (depth : ℕ) (long reserved taken : Bool) (m n : ℕ) (l : long ≡ isLong bytes) (p : m ≡ nameAt bytes)
-      (o : reserved ≡ eqb m (packed dataWord)) (t : taken ≡ D.lambdaIn scope m depth) (f : n ≡ lambdaNameFault (eqb (x .kind) 10) long reserved taken) where
-    lambda-number : n ≡ D.atLambdaName scope depth left
-    unfolding D.atLambdaName isData
-    lambda-number =
-        f ∙ rw (l, o, t, p)
-        (ap (λ (k : ℕ). cond (eqb (x .kind) 10) k 5) (name-seen (λ k. cond (eqb k (packed dataWord)) 8 (cond (D.lambdaIn scope k depth) 11 0)))
-        ∙ word-fault (λ w. cond (isLong w) 7 (cond (isData w) 8 (cond (D.lambdaIn scope (packed w) depth) 11 0))))
-
-    pub lambda-name-passed : (r : Cursor) → n ≡ 0 → r ≡ namedTo c (x .end) m (c .takes) → cursorOf text r ≡ lambdaNamed text scope depth c
-    unfolding D.passName
-    lambda-name-passed r z q =
-        let w = was-due (eqb (x .kind) 10) _ 4 (sym f ∙ z) in
-        let s = not-refused long 6 _ (w .1) in
-        let h : D.headWord left ≡ bytes = head-word text (c .at) x e (eqb-true (x .kind) 10 (w .0)) in
-        goes n _ r _ lambda-number z (ap (cursorOf text) q ∙ named-here m _ _ _ (p ∙ name-whole bytes (sym l ∙ s .0) ∙ ap packed (sym h)) refl)
-
-    pub lambda-name-refused : (r : Cursor) → (n ≡ 0 → ⊥) → r ≡ refusedAt c n (x .start) → cursorOf text r ≡ lambdaNamed text scope depth c
-    lambda-name-refused r z q = stops n _ r _ lambda-number z q
+    pub binder-refused : (r : Cursor) → (n ≡ 0 → ⊥) → r ≡ refusedAt c n (x .start) → cursorOf text r ≡ binderNamed text c
+    binder-refused r z q = stops n _ r _ binder-number z q
 
   -- a member: none, one that is not known, and one that is
   abbrev unknown-fault : Found → ℕ
@@ -358,12 +296,12 @@ module _ (text : List ℕ) (n : ℕ) (c a : Cursor) (pa : cursorOf text a ≡ pa
     unfolding D.letHead
     let-stops z = next-stop (length text) (cursorOf text a) _ (first _ p) z
 
-    pub let-name-stops : (b : Cursor) → a .number ≡ 0 → cursorOf text b ≡ letNamed text a → (b .number ≡ 0 → ⊥)
+    pub let-name-stops : (b : Cursor) → a .number ≡ 0 → cursorOf text b ≡ binderNamed text a → (b .number ≡ 0 → ⊥)
         → cursorOf text b ≡ D.letHead (length text) w marks (cursorOf text c)
     unfolding D.letHead
     let-name-stops b z pb y = next-go (length text) (cursorOf text a) _ (first _ p) z (next-stop (length text) (cursorOf text b) _ pb y)
 
-    pub let-goes : (b r : Cursor) → a .number ≡ 0 → cursorOf text b ≡ letNamed text a → b .number ≡ 0 → cursorOf text r ≡ D.need (length text) 3 (cursorOf text b)
+    pub let-goes : (b r : Cursor) → a .number ≡ 0 → cursorOf text b ≡ binderNamed text a → b .number ≡ 0 → cursorOf text r ≡ D.need (length text) 3 (cursorOf text b)
         → cursorOf text r ≡ D.letHead (length text) w marks (cursorOf text c)
     unfolding D.letHead
     let-goes b r z pb y q = next-go (length text) (cursorOf text a) _ (first _ p) z (next-go (length text) (cursorOf text b) _ pb y q)
@@ -379,11 +317,11 @@ module _ (text : List ℕ) (n : ℕ) (c a : Cursor) (pa : cursorOf text a ≡ pa
     unfolding D.lambdaHead
     lambda-stops z = next-stop (length text) (cursorOf text a) _ lambda-first z
 
-    pub lambda-name-stops : (b : Cursor) → a .number ≡ 0 → cursorOf text b ≡ lambdaNamed text scope depth a → (b .number ≡ 0 → ⊥) → cursorOf text b ≡ whole
+    pub lambda-name-stops : (b : Cursor) → a .number ≡ 0 → cursorOf text b ≡ binderNamed text a → (b .number ≡ 0 → ⊥) → cursorOf text b ≡ whole
     unfolding D.lambdaHead
     lambda-name-stops b z pb y = next-go (length text) (cursorOf text a) _ lambda-first z (next-stop (length text) (cursorOf text b) _ pb y)
 
-    pub lambda-goes : (b r : Cursor) → a .number ≡ 0 → cursorOf text b ≡ lambdaNamed text scope depth a → b .number ≡ 0
+    pub lambda-goes : (b r : Cursor) → a .number ≡ 0 → cursorOf text b ≡ binderNamed text a → b .number ≡ 0
         → cursorOf text r ≡ D.need (length text) 5 (cursorOf text b) → cursorOf text r ≡ whole
     unfolding D.lambdaHead
     lambda-goes b r z pb y q = next-go (length text) (cursorOf text a) _ lambda-first z (next-go (length text) (cursorOf text b) _ pb y q)

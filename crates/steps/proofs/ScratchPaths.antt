@@ -7,7 +7,7 @@ use native.Mathlib.Numerals.{add-one}
 use native.Mathlib.Omega.{arith}
 use lib.Dec.{eqb}
 use lib.IntN.{ℤ, pos, natAbs, _+ℤ_}
-use lib.ListN.{length, getD, set}
+use lib.ListN.{length, set}
 use mir.Syntax.{w32, w64}
 use mir.Val.{SFits, toZ, ofZ}
 use borrow.Author.Tests.{eq-eqb, ne-eqb, eqb-true}
@@ -19,7 +19,7 @@ use Rattle.values.proofs.Signed.{wide}
 use Rattle.grammar.specs.Tokens.{when}
 use Rattle.grammar.specs.TokensLaws.{by-test}
 use Rattle.records.specs.Records.{numberKey}
-use Rattle.layout.specs.Memory.{node}
+use Rattle.layout.specs.Memory.{nodeWith, node}
 use Rattle.layout.specs.Nodes.{numberKind, variableKind, unboundKind, readingsKind}
 use Rattle.descent.specs.Cursor as C
 use Rattle.descent.specs.Descent.{State, moved}
@@ -38,16 +38,16 @@ use Rattle.steps.specs.CursorsLaws.{head-kind, head-word, head-value}
 use Rattle.steps.specs.Scratch.{Wrote, WroteIn, WroteFor, Linked, Recorded, BoundRoom, ScopedRoom, NameRoom, NameAhead, NumberAhead, ShutAhead, callOf, isBeyond, keyOf}
 
 -- ---- put
-pub put-path : (c : Cursor) (p k y f s : ℕ) (records places : List ℕ)
-    → Wrote (D.put p (node k y f s)) c records places
+pub put-path : (c : Cursor) (p k y f s l : ℕ) (records places : List ℕ)
+    → Wrote (D.put p (nodeWith k y f s l)) c records places
     (record { at = c .at; parts = c .parts; count = c .count + 1; root = c .count; name = c .name; takes = c .takes; number = c .number; place = c .place })
-    (set (set records (2 * c .count) (k + 32 * f + 8192 * s)) (2 * c .count + 1) y) (set places p (c .count))
+    (set (set records (2 * c .count) (k + 32 * f + 8192 * s + 2097152 * l)) (2 * c .count + 1) y) (set places p (c .count))
 unfolding D.put D.counted D.linkWord
-put-path c p k y f s records places =
+put-path c p k y f s l records places =
     record {
       same = λ text scope i. record {
         cursor = record { rest = tokensFrom text (c .at); parts = c .parts; count = add-one (c .count) i; root = c .count; name = c .name; takes = c .takes; number = c .number; place = c .place };
-        records = set (set records (2 * c .count) (k + 32 * f + 8192 * s)) (2 * c .count + 1) y;
+        records = set (set records (2 * c .count) (k + 32 * f + 8192 * s + 2097152 * l)) (2 * c .count + 1) y;
         places = set places p (c .count);
         scope = scope;
       };
@@ -55,14 +55,14 @@ put-path c p k y f s records places =
 
 -- ---- names
 module _ (p x : ℕ) (c : Cursor) (records places : List ℕ) (r : Cursor) (records′ places′ : List ℕ) where
-  pub bound-variable : (j : ℕ) → j ≡ 0 → Wrote (D.put p (node variableKind x 0 0)) c records places r records′ places′
-      → Wrote (D.putBound p x j) c records places r records′ places′
+  pub bound-variable : (j level : ℕ) → j ≡ 0 → Wrote (D.put p (nodeWith variableKind x 0 0 level)) c records places r records′ places′
+      → Wrote (D.putBound p x j level) c records places r records′ places′
   unfolding D.putBound when
-  bound-variable j e h = record { same = λ text scope. rw (eq-eqb j 0 e) (h .same text scope) }
+  bound-variable j level e h = record { same = λ text scope. rw (eq-eqb j 0 e) (h .same text scope) }
 
-  pub bound-record : (j : ℕ) → (j ≡ 0 → ⊥) → Linked p (j - 1) c places r places′ → Wrote (D.putBound p x j) c records places r records places′
+  pub bound-record : (j level : ℕ) → (j ≡ 0 → ⊥) → Linked p (j - 1) c places r places′ → Wrote (D.putBound p x j level) c records places r records places′
   unfolding D.putBound D.link D.rooted when
-  bound-record j e h = record { same = λ text scope. rw (ne-eqb j 0 e) (λ i. stateOf text (h .cursor i) records (h .written i) scope) }
+  bound-record j level e h = record { same = λ text scope. rw (ne-eqb j 0 e) (λ i. stateOf text (h .cursor i) records (h .written i) scope) }
 
   module _ (scope : List ℕ) where
     pub scoped-none : (b : ℕ) → b ≡ 0 → Wrote (D.put p (node unboundKind x 0 0)) c records places r records′ places′
@@ -70,10 +70,11 @@ module _ (p x : ℕ) (c : Cursor) (records places : List ℕ) (r : Cursor) (reco
     unfolding D.putScoped when
     scoped-none b e h = record { same = λ text. rw (eq-eqb b 0 e) (h .same text scope) }
 
-    pub scoped-bound : (b : ℕ) → (b ≡ 0 → ⊥) → Wrote (D.putBound p x (getD scope (2 * b - 1) 0)) c records places r records′ places′
+    pub scoped-bound : (b level : ℕ) → (b ≡ 0 → ⊥) → level ≡ C.lambdasIn scope (b - 1)
+        → Wrote (D.putBound p x (C.binderLink scope (b - 1)) level) c records places r records′ places′
         → WroteIn scope (D.putScoped p x b) c records places r records′ places′
     unfolding D.putScoped when
-    scoped-bound b e h = record { same = λ text. rw (ne-eqb b 0 e) (h .same text scope) }
+    scoped-bound b level e l h = record { same = λ text. rw (ne-eqb b 0 e, ← l) (h .same text scope) }
 
     pub name-data : (depth : ℕ) (t : Bool) → t ≡ eqb x (packed dataWord) → t ≡ true → Wrote (D.put p (node readingsKind 0 0 0)) c records places r records′ places′
         → WroteIn scope (D.putName p x depth) c records places r records′ places′
@@ -85,7 +86,7 @@ module _ (p x : ℕ) (c : Cursor) (records places : List ℕ) (r : Cursor) (reco
     unfolding D.putName when
     name-scoped depth b t q n e h = record { same = λ text. rw (sym q ∙ n, ← e) (h .same text) }
 
-pub bound-room : (c : Cursor) (p b : ℕ) (scope : List ℕ) → ScopedRoom c p b scope → (b ≡ 0 → ⊥) → BoundRoom c p (getD scope (2 * b - 1) 0)
+pub bound-room : (c : Cursor) (p b : ℕ) (scope : List ℕ) → ScopedRoom c p b scope → (b ≡ 0 → ⊥) → BoundRoom c p (C.binderLink scope (b - 1))
 bound-room c p b scope h n = record { count = h .count; place = h .place; link = h .link n }
 
 -- a binder that is found is one of the scope, and its link is bounded as all are
@@ -97,12 +98,12 @@ module _ (scope : List ℕ) (x : ℕ) where
       by-test (λ n. n ≤ suc b) (eqb x (C.binderName scope b)) (λ _. suc b) (λ _. C.binderOf scope x b) (λ _. omega arith) (λ _. let h = binder-few b in omega arith)
 
   binder-link : (depth : ℕ) → ((b : ℕ) → b < depth → C.binderLink scope b ≤ textParts) → (C.binderOf scope x depth ≡ 0 → ⊥)
-      → getD scope (2 * C.binderOf scope x depth - 1) 0 ≤ textParts
+      → C.binderLink scope (C.binderOf scope x depth - 1) ≤ textParts
   unfolding C.binderOf
   binder-link zero h = λ n. absurd (n refl)
   binder-link (suc b) h =
-      by-test (λ k. (k ≡ 0 → ⊥) → getD scope (2 * k - 1) 0 ≤ textParts) (eqb x (C.binderName scope b)) (λ _. suc b) (λ _. C.binderOf scope x b)
-      (λ _ _. let e : 2 * suc b - 1 ≡ 2 * b + 1 = omega arith in rw e (h b (omega arith))) (λ _. binder-link b (λ i l. h i (omega arith)))
+      by-test (λ k. (k ≡ 0 → ⊥) → C.binderLink scope (k - 1) ≤ textParts) (eqb x (C.binderName scope b)) (λ _. suc b) (λ _. C.binderOf scope x b)
+      (λ _ _. let e : suc b - 1 ≡ b = omega arith in rw e (h b (omega arith))) (λ _. binder-link b (λ i l. h i (omega arith)))
 
   pub binder-room : (c : Cursor) (p depth b : ℕ) → NameRoom c p depth scope → b ≡ C.binderOf scope x depth → ScopedRoom c p b scope
   binder-room c p depth b h e =

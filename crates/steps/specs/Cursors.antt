@@ -41,11 +41,8 @@ passing text n c = D.judge (length text) n (cursorOf text c) (λ _. D.pass (curs
 abbrev pub passingPart : List ℕ → ℕ → Cursor → D.Cursor
 passingPart text n c = D.judge (length text) n (cursorOf text c) (λ _. D.passPart (cursorOf text c))
 
-abbrev pub letNamed : List ℕ → Cursor → D.Cursor
-letNamed text c = D.judge (length text) (D.atLetName (tokensFrom text (c .at))) (cursorOf text c) (λ _. D.passName (cursorOf text c))
-
-abbrev pub lambdaNamed : List ℕ → List ℕ → ℕ → Cursor → D.Cursor
-lambdaNamed text scope depth c = D.judge (length text) (D.atLambdaName scope depth (tokensFrom text (c .at))) (cursorOf text c) (λ _. D.passName (cursorOf text c))
+abbrev pub binderNamed : List ℕ → Cursor → D.Cursor
+binderNamed text c = D.judge (length text) (D.atBinder (tokensFrom text (c .at))) (cursorOf text c) (λ _. D.passName (cursorOf text c))
 
 abbrev pub memberNamed : List ℕ → Cursor → D.Cursor
 memberNamed text c = D.judge (length text) (D.atMember (tokensFrom text (c .at))) (cursorOf text c) (λ _. D.passMember (cursorOf text c))
@@ -61,11 +58,8 @@ abbrev pub numberFault : (w beyond : Bool) (parts : ℕ) → ℕ
 numberFault w beyond parts = cond beyond 6 (cond w 9 (D.atPart parts))
 
 -- the faults where a name or a call's bracket is due, from the tests of the token there
-abbrev pub letNameFault : (word long reserved : Bool) → ℕ
-letNameFault word long reserved = cond word (cond long 7 (cond reserved 8 0)) 5
-
-abbrev pub lambdaNameFault : (word long reserved taken : Bool) → ℕ
-lambdaNameFault word long reserved taken = cond word (cond long 7 (cond reserved 8 (cond taken 11 0))) 5
+abbrev pub binderFault : (word long reserved : Bool) → ℕ
+binderFault word long reserved = cond word (cond long 7 (cond reserved 8 0)) 5
 
 abbrev pub openFault : Bool → (marks : ℕ) → ℕ
 openFault bracket marks = cond bracket (cond (leb openMarks marks) 12 0) 5

@@ -3,8 +3,8 @@
 use mathlib.Core.Path.{_≡_}
 use mathlib.Core.Bool.{Bool, true, false}
 use mathlib.Core.List.{List}
-use Prim.Native.Nat.{ℕ, _*_, _-_, _≤_, _<_}
-use lib.ListN.{getD, set}
+use Prim.Native.Nat.{ℕ, _-_, _≤_, _<_}
+use lib.ListN.{set}
 use Rattle.language.specs.Limits.{textParts, openMarks}
 use Rattle.layout.specs.Held.{kindBase}
 use Rattle.records.specs.Records.{numberKey}
@@ -55,7 +55,7 @@ pub record ScopedRoom (c : Cursor) (p b : ℕ) (scope : List ℕ) : Type 0 where
   pub count : c .count < textParts
   pub place : p < textParts
   pub binder : b ≤ openMarks
-  pub link : (b ≡ 0 → ⊥) → getD scope (2 * b - 1) 0 ≤ textParts
+  pub link : (b ≡ 0 → ⊥) → binderLink scope (b - 1) ≤ textParts
 
 pub record NameRoom (c : Cursor) (p d : ℕ) (scope : List ℕ) : Type 0 where
   pub count : c .count < textParts

@@ -8,15 +8,15 @@ use lexer::tokens::Lexed;
 use members;
 use members::Found;
 ghost use mathlib.Core.Path.{_≡_};
-ghost use mathlib.Core.Bool.{cond, _&&_};
+ghost use mathlib.Core.Bool.{cond};
 ghost use Prim.Native.Nat.{suc, _≤_, _<_};
 ghost use lib.Dec.{eqb};
 ghost use lib.ListN.{length};
 ghost use Rattle.language.specs.Limits.{textParts, openMarks};
-ghost use Rattle.descent.specs.Cursor.{binderName, binderLink, binderOf, lambdasIn, lambdaIn};
+ghost use Rattle.descent.specs.Cursor.{binderLink, binderOf, lambdasIn};
 ghost use Rattle.descent.specs.Cursor.{atPart, atLet, atLambda, atBracket, atShut, atComma, need, letHead, lambdaHead, callHead};
-ghost use Rattle.steps.specs.Cursors.{cursorOf, passedTo, partTo, namedTo, refusedAt, refusing, passing, passingPart, letNamed, lambdaNamed, memberNamed, callOpened};
-ghost use Rattle.steps.specs.Cursors.{nameFault, numberFault, letNameFault, lambdaNameFault, openFault};
+ghost use Rattle.steps.specs.Cursors.{cursorOf, passedTo, partTo, namedTo, refusedAt, refusing, passing, passingPart, binderNamed, memberNamed, callOpened};
+ghost use Rattle.steps.specs.Cursors.{nameFault, numberFault, binderFault, openFault};
 
 // Two cells for each binder that can be open.
 pub const SCOPE_CELLS: usize = 2 * Text::MARKS;
@@ -163,14 +163,14 @@ pub fn at_let(w: bool, marks: usize, parts: u16) -> u8
     pick(w, 9, pick(Text::MARKS <= marks, 12, at_part(parts)))
 }
 
-pub fn at_lambda(w: bool, lambdas: usize, marks: usize, parts: u16) -> u8
+pub fn at_lambda(w: bool, lambdas: u16, marks: usize, parts: u16) -> u8
     ensures { λ r. ⌜ r ≡ atLambda w lambdas marks parts ⌝ }
 {
     pick(
         w,
         9,
         pick(
-            Text::LAMBDAS <= lambdas,
+            Text::LAMBDAS <= lambdas as usize,
             10,
             pick(Text::MARKS <= marks, 12, at_part(parts)),
         ),
@@ -209,22 +209,11 @@ pub fn at_comma(more: u8) -> u8
     pick(more == 0, 9, 0)
 }
 
-// Where a name of a let is due.
-fn at_let_name(word: bool, long: bool, reserved: bool) -> u8
-    ensures { λ r. ⌜ r ≡ letNameFault word long reserved ⌝ }
+// Where the name of a let or a lambda is due.
+fn at_binder(word: bool, long: bool, reserved: bool) -> u8
+    ensures { λ r. ⌜ r ≡ binderFault word long reserved ⌝ }
 {
     pick(word, pick(long, 7, pick(reserved, 8, 0)), 5)
-}
-
-// Where a name of a lambda is due.
-fn at_lambda_name(word: bool, long: bool, reserved: bool, taken: bool) -> u8
-    ensures { λ r. ⌜ r ≡ lambdaNameFault word long reserved taken ⌝ }
-{
-    pick(
-        word,
-        pick(long, 7, pick(reserved, 8, pick(taken, 11, 0))),
-        5,
-    )
 }
 
 // Where the bracket of a call is due.
@@ -258,24 +247,16 @@ fn is_lambda(scope: &[u64; SCOPE_CELLS], b: usize) -> bool
     scope[2 * b + 1] == 0
 }
 
-// Whether it is a lambda's of this name.
-fn is_lambda_of(scope: &[u64; SCOPE_CELLS], x: u64, b: usize) -> bool
-    requires { ⌜ b < openMarks ⌝ }
-    ensures { λ r. ⌜ r ≡ (eqb (binderLink (now (scope .entry)) b) 0 && eqb x (binderName (now (scope .entry)) b)) ⌝ }
-{
-    is_lambda(scope, b) & (x == scope[2 * b])
-}
-
 // One more, where the binder is a lambda's.
-fn with_lambda(scope: &[u64; SCOPE_CELLS], b: usize, n: usize) -> usize
+fn with_lambda(scope: &[u64; SCOPE_CELLS], b: usize, n: u16) -> u16
     requires { ⌜ (b < openMarks) × (n ≤ b) ⌝ }
     ensures { λ r. ⌜ r ≡ cond (eqb (binderLink (now (scope .entry)) b) 0) (suc n) n ⌝ }
 {
     if is_lambda(scope, b) { n + 1 } else { n }
 }
 
-// How many lambdas are open.
-pub fn lambdas_in(scope: &[u64; SCOPE_CELLS], depth: usize) -> usize
+// How many lambdas are open. A lambda's level is that at its own mark.
+pub fn lambdas_in(scope: &[u64; SCOPE_CELLS], depth: usize) -> u16
     requires { ⌜ depth ≤ openMarks ⌝ }
     ensures { λ r. ⌜ r ≡ lambdasIn (now (scope .entry)) depth ⌝ }
 {
@@ -288,51 +269,14 @@ pub fn lambdas_in(scope: &[u64; SCOPE_CELLS], depth: usize) -> usize
     n
 }
 
-// Whether the name is one of an open lambda.
-pub fn lambda_in(scope: &[u64; SCOPE_CELLS], x: u64, depth: usize) -> bool
-    requires { ⌜ depth ≤ openMarks ⌝ }
-    ensures { λ r. ⌜ r ≡ lambdaIn (now (scope .entry)) x depth ⌝ }
-{
-    let mut b = depth;
-    while 0 < b {
-        let i = b - 1;
-        if is_lambda_of(scope, x, i) {
-            return true;
-        }
-        b = i;
-    }
-    false
-}
-
-// The name of a let.
-fn let_name(text: &[u8], c: Cursor) -> Cursor
-    ensures { λ r. ⌜ cursorOf (now (text .entry)) r ≡ letNamed (now (text .entry)) c ⌝ }
+// The name that a let or a lambda binds.
+fn binder_name(text: &[u8], c: Cursor) -> Cursor
+    ensures { λ r. ⌜ cursorOf (now (text .entry)) r ≡ binderNamed (now (text .entry)) c ⌝ }
 {
     let x = tokens::token(text, c.at);
     let long = tokens::is_long(text, x.start, x.end);
     let name = tokens::name(text, x.start, x.end);
-    let number = at_let_name(x.kind == Lexed::WORD, long, names::is_data(name));
-    if number == 0 {
-        named(c, x.end, name, c.takes)
-    } else {
-        refused_at(c, number, x.start)
-    }
-}
-
-// The name of a lambda.
-fn lambda_name(text: &[u8], scope: &[u64; SCOPE_CELLS], depth: usize, c: Cursor) -> Cursor
-    requires { ⌜ depth ≤ openMarks ⌝ }
-    ensures { λ r. ⌜ cursorOf (now (text .entry)) r ≡ lambdaNamed (now (text .entry)) (now (scope .entry)) depth c ⌝ }
-{
-    let x = tokens::token(text, c.at);
-    let long = tokens::is_long(text, x.start, x.end);
-    let name = tokens::name(text, x.start, x.end);
-    let number = at_lambda_name(
-        x.kind == Lexed::WORD,
-        long,
-        names::is_data(name),
-        lambda_in(scope, name, depth),
-    );
+    let number = at_binder(x.kind == Lexed::WORD, long, names::is_data(name));
     if number == 0 {
         named(c, x.end, name, c.takes)
     } else {
@@ -380,7 +324,7 @@ pub fn let_head(text: &[u8], w: bool, marks: usize, c: Cursor) -> Cursor
 {
     let a = judged_part(text, at_let(w, marks, c.parts), c);
     if a.number == 0 {
-        let b = let_name(text, a);
+        let b = binder_name(text, a);
         if b.number == 0 {
             need(text, Lexed::EQUALS, b)
         } else {
@@ -409,7 +353,7 @@ pub fn lambda_head(
         c,
     );
     if a.number == 0 {
-        let b = lambda_name(text, scope, depth, a);
+        let b = binder_name(text, a);
         if b.number == 0 {
             need(text, Lexed::ARROW, b)
         } else {

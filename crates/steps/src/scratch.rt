@@ -6,6 +6,7 @@ use crate::cursor::SCOPE_CELLS;
 use language::limits::Text;
 use language::names;
 use layout::nodes::KIND_BASE;
+use layout::nodes::RECORD_LEVEL;
 use layout::nodes::RECORD_WEIGHT;
 use layout::nodes::Shape;
 use layout::nodes::TEXT_WORDS;
@@ -15,7 +16,7 @@ ghost use mathlib.Core.Path.{_≡_};
 ghost use Prim.Native.Nat.{_+_, _*_, _≤_, _<_};
 ghost use lib.ListN.{length, set};
 ghost use Rattle.language.specs.Limits.{textParts, openMarks};
-ghost use Rattle.layout.specs.Memory.{node};
+ghost use Rattle.layout.specs.Memory.{nodeWith};
 ghost use Rattle.descent.specs.Descent.{put, putBound, putScoped, putName, readName, readNumber, readShut};
 ghost use Rattle.steps.specs.Cursors.{stateOf};
 ghost use Rattle.steps.specs.Scratch.{Wrote, WroteIn, WroteFor, Linked, Recorded, BoundRoom, ScopedRoom, NameRoom, NameAhead, NumberAhead, ShutAhead, isBeyond, keyOf, callOf};
@@ -30,7 +31,7 @@ pub struct Call {
     pub argument: u16,
 }
 
-// A record for the part of place p: its kind, its number or name, and what it depends on, each 0 for none or one more than a record.
+// A record for the part of place p: its kind, its number or name, what it depends on, each 0 for none or one more than a record, and its level.
 pub fn put(
     c: Cursor,
     p: u16,
@@ -38,14 +39,18 @@ pub fn put(
     key: u64,
     first: u16,
     second: u16,
+    level: u16,
     records: &mut [u64; TEXT_WORDS],
     places: &mut [u16; Text::PARTS],
 ) -> Cursor
     requires { ⌜ Recorded c p kind first second ⌝ }
-    ensures { λ r. ⌜ Wrote (put p (node kind key first second)) c (now (records .entry)) (now (places .entry)) r (now (records .exit)) (now (places .exit)) ⌝ }
+    ensures { λ r. ⌜ Wrote (put p (nodeWith kind key first second level)) c (now (records .entry)) (now (places .entry)) r (now (records .exit)) (now (places .exit)) ⌝ }
 {
     let n = c.count as usize;
-    records[2 * n] = kind as u64 + KIND_BASE * first as u64 + RECORD_WEIGHT * second as u64;
+    records[2 * n] = kind as u64
+        + KIND_BASE * first as u64
+        + RECORD_WEIGHT * second as u64
+        + RECORD_LEVEL * level as u64;
     records[2 * n + 1] = key;
     places[p as usize] = c.count;
     Cursor {
@@ -95,20 +100,21 @@ pub fn enter(depth: usize, x: u64, j: u64, scope: &mut [u64; SCOPE_CELLS])
     scope[2 * depth + 1] = j;
 }
 
-// A bound name stands for a variable, or for a record.
+// A bound name stands for a variable, which has its lambda's level, or for a record.
 fn put_bound(
     c: Cursor,
     p: u16,
     x: u64,
     j: u64,
+    level: u16,
     records: &mut [u64; TEXT_WORDS],
     places: &mut [u16; Text::PARTS],
 ) -> Cursor
     requires { ⌜ BoundRoom c p j ⌝ }
-    ensures { λ r. ⌜ Wrote (putBound p x j) c (now (records .entry)) (now (places .entry)) r (now (records .exit)) (now (places .exit)) ⌝ }
+    ensures { λ r. ⌜ Wrote (putBound p x j level) c (now (records .entry)) (now (places .entry)) r (now (records .exit)) (now (places .exit)) ⌝ }
 {
     if j == 0 {
-        put(c, p, Shape::VARIABLE, x, 0, 0, records, places)
+        put(c, p, Shape::VARIABLE, x, 0, 0, level, records, places)
     } else {
         link(c, p, (j - 1) as u16, places)
     }
@@ -128,10 +134,11 @@ fn put_scoped(
     ensures { λ r. ⌜ WroteIn (now (scope .entry)) (putScoped p x b) c (now (records .entry)) (now (places .entry)) r (now (records .exit)) (now (places .exit)) ⌝ }
 {
     if b == 0 {
-        put(c, p, Shape::UNBOUND, x, 0, 0, records, places)
+        put(c, p, Shape::UNBOUND, x, 0, 0, 0, records, places)
     } else {
-        let i = 2 * b - 1;
-        put_bound(c, p, x, scope[i], records, places)
+        let i = b - 1;
+        let level = cursor::lambdas_in(scope, i);
+        put_bound(c, p, x, scope[2 * i + 1], level, records, places)
     }
 }
 
@@ -149,7 +156,7 @@ fn put_name(
     ensures { λ r. ⌜ WroteIn (now (scope .entry)) (putName p x depth) c (now (records .entry)) (now (places .entry)) r (now (records .exit)) (now (places .exit)) ⌝ }
 {
     if names::is_data(x) {
-        put(c, p, Shape::READINGS, 0, 0, 0, records, places)
+        put(c, p, Shape::READINGS, 0, 0, 0, 0, records, places)
     } else {
         put_scoped(
             c,
@@ -238,6 +245,7 @@ pub fn read_number(
             key_of(value),
             0,
             0,
+            0,
             records,
             places,
         )
@@ -266,6 +274,7 @@ pub fn read_shut(
             0,
             k.receiver + 1,
             k.argument,
+            0,
             records,
             places,
         )

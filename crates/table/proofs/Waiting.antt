@@ -9,9 +9,9 @@ use borrow.Author.Needs.{needs}
 use borrow.Author.Tests.{lt-ltb, le-ltb, le-leb, lt-leb, eq-eqb, ne-eqb, leb-true}
 use lib.Dec.{leb, eqb}
 use lib.ListN.{getD, set}
-use Rattle.layout.specs.Links.{kindAt, firstAt, secondAt, keyAt, isBelow}
+use Rattle.layout.specs.Links.{kindAt, firstAt, secondAt, levelAt, keyAt, isBelow}
 use Rattle.layout.specs.Nodes.{variableKind, functionKind}
-use Rattle.table.specs.Waits.{hasSlot, awaits, joinedSlots, isNamed, withoutSlot, waitsOf, waitsAt, waitsFrom, covers, fewAt, ownOf}
+use Rattle.table.specs.Waits.{hasSlot, awaits, joinedSlots, isOf, withoutSlot, waitsOf, waitsAt, waitsFrom, covers, fewAt, ownOf}
 
 pub awaits-is : (w v : ℕ) (r : Bool) → r ≡ hasSlot w v → leb 1 v && r ≡ awaits w v
 awaits-is w v r e = rw e
@@ -33,23 +33,24 @@ module _ (w u : ℕ) (h : w / 65536 ≡ 0 → ⊥) where
   unfolding joinedSlots
   join-both k e = rw (ne-eqb _ _ h, lt-leb _ _ k, ne-eqb _ _ e)
 
-pub named-is : (cells : List ℕ) (key p r : ℕ) → 1 ≤ p → r ≡ keyAt cells (p - 1) → eqb r key ≡ isNamed cells key p
-named-is cells key p r h e = rw (le-leb _ _ h, e)
+pub of-is : (links cells : List ℕ) (key level p r s : ℕ) → 1 ≤ p → r ≡ keyAt cells (p - 1) → s ≡ levelAt links (p - 1)
+    → (eqb r key && eqb s level) ≡ isOf links cells key level p
+of-is links cells key level p r s h e d = rw (le-leb _ _ h, e, d)
 
-pub named-none : (cells : List ℕ) (key p : ℕ) → p < 1 → false ≡ isNamed cells key p
-named-none cells key p h = rw (lt-leb _ _ h)
+pub of-none : (links cells : List ℕ) (key level p : ℕ) → p < 1 → false ≡ isOf links cells key level p
+of-none links cells key level p h = rw (lt-leb _ _ h)
 
-module _ (cells : List ℕ) (key w : ℕ) (r : Bool) (e : r ≡ isNamed cells key (w / 65536)) where
-  pub without-first : r ≡ true → w % 65536 * 65536 ≡ withoutSlot cells key w
+module _ (links cells : List ℕ) (key level w : ℕ) (r : Bool) (e : r ≡ isOf links cells key level (w / 65536)) where
+  pub without-first : r ≡ true → w % 65536 * 65536 ≡ withoutSlot links cells key level w
   unfolding withoutSlot
   without-first t = rw (sym e ∙ t)
 
-  module _ (t : r ≡ false) (s : Bool) (d : s ≡ isNamed cells key (w % 65536)) where
-    pub without-second : s ≡ true → w / 65536 * 65536 ≡ withoutSlot cells key w
+  module _ (t : r ≡ false) (s : Bool) (d : s ≡ isOf links cells key level (w % 65536)) where
+    pub without-second : s ≡ true → w / 65536 * 65536 ≡ withoutSlot links cells key level w
     unfolding withoutSlot
     without-second u = rw (sym e ∙ t, sym d ∙ u)
 
-    pub without-none : s ≡ false → w ≡ withoutSlot cells key w
+    pub without-none : s ≡ false → w ≡ withoutSlot links cells key level w
     unfolding withoutSlot
     without-none u = rw (sym e ∙ t, sym d ∙ u)
 
@@ -77,9 +78,9 @@ module _ (links cells waits : List ℕ) (i kind : ℕ) (e : kind ≡ kindAt link
     at-leaf h = rw (← e, ne-eqb _ _ n, lt-ltb _ _ h)
 
     module _ (m : functionKind ≤ kind) (f g first : ℕ) (p : f ≡ firstAt links i) (q : first ≡ waitsOf waits f i) where
-      pub at-function : kind ≡ functionKind → (key r : ℕ) → key ≡ keyAt cells i → r ≡ withoutSlot cells key first → r ≡ waitsAt links cells waits i
+      pub at-function : kind ≡ functionKind → (key level r : ℕ) → key ≡ keyAt cells i → level ≡ levelAt links i → r ≡ withoutSlot links cells key level first → r ≡ waitsAt links cells waits i
       unfolding waitsAt
-      at-function h key r k d = rw (← e, ← p, ← k, ← q, ne-eqb _ _ n, le-ltb _ _ m, eq-eqb _ _ h) d
+      at-function h key level r k l d = rw (← e, ← p, ← k, ← l, ← q, ne-eqb _ _ n, le-ltb _ _ m, eq-eqb _ _ h) d
 
       pub at-member : (kind ≡ functionKind → ⊥) → g ≡ secondAt links i → (second r : ℕ) → second ≡ waitsOf waits g i → r ≡ joinedSlots first second → r ≡ waitsAt links cells waits i
       unfolding waitsAt
@@ -124,8 +125,8 @@ pub ruleset waiting = (
   join-full,
   join-same,
   join-both,
-  named-is,
-  named-none,
+  of-is,
+  of-none,
   without-first,
   without-second,
   without-none,

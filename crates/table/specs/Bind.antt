@@ -7,7 +7,7 @@ use lib.Dec.{ltb}
 use lib.ListN.{length, getD, set}
 use Rattle.model.specs.Lists.{index}
 use Rattle.layout.specs.Links.{linksWith, cellsWith}
-use Rattle.layout.specs.Memory.{Memory, memory, Node, entryCount}
+use Rattle.layout.specs.Memory.{Memory, memory, Node, nodeWith, entryCount}
 use Rattle.layout.specs.Nodes.{sameNode}
 
 -- a record is a node whose dependencies are earlier records; bound, they are those records' entries
@@ -16,7 +16,7 @@ relinked numbers zero = 0
 relinked numbers (suc j) = suc (getD numbers j 0)
 
 unfoldable pub relink : List ℕ → Node → Node
-relink numbers n = record { kind = n .kind; key = n .key; first = relinked numbers (n .first); second = relinked numbers (n .second) }
+relink numbers n = nodeWith (n .kind) (n .key) (relinked numbers (n .first)) (relinked numbers (n .second)) (n .level)
 
 -- the entries, and the number of each record so far
 pub record Bound : Type 0 where
@@ -34,11 +34,11 @@ unfoldable pub bindAll : Bound → List Node → Bound
 bindAll b [] = b
 bindAll b (r ∷ rs) = bindAll (bindOne b r) rs
 
--- an entry appended to the memory: its links and its key, nothing kept, and one more entry
+-- an entry appended to the memory: its links with its level and its key, nothing kept, and one more entry
 unfoldable pub append : Memory → Node → Memory
 append m n =
     let k : ℕ = entryCount m in
-    memory (m .readings) (set (m .heads) 0 (suc k)) (linksWith (m .links) k (n .kind) (n .first) (n .second)) (cellsWith (m .cells) k (n .key))
+    memory (m .readings) (set (m .heads) 0 (suc k)) (linksWith (m .links) k (n .kind) (n .first) (n .second) (n .level)) (cellsWith (m .cells) k (n .key))
 
 unfoldable pub appendAll : Memory → List Node → Memory
 appendAll m [] = m

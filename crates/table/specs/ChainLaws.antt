@@ -31,12 +31,21 @@ same-equal a b h =
     let k = eqb-true (a .kind) (b .kind) (and-eq-true-iff _ _ .0 h .0) in
     let y = eqb-true (a .key) (b .key) (and-eq-true-iff _ _ .0 r .0) in
     let f = eqb-true (a .first) (b .first) (and-eq-true-iff _ _ .0 s .0) in
-    let g = eqb-true (a .second) (b .second) (and-eq-true-iff (eqb (a .first) (b .first)) _ .0 s .1) in
-    λ i. record { kind = k i; key = y i; first = f i; second = g i }
+    let t = and-eq-true-iff (eqb (a .first) (b .first)) _ .0 s .1 in
+    let g = eqb-true (a .second) (b .second) (and-eq-true-iff _ _ .0 t .0) in
+    let l = eqb-true (a .level) (b .level) (and-eq-true-iff (eqb (a .second) (b .second)) _ .0 t .1) in
+    λ i. record { kind = k i; key = y i; first = f i; second = g i; level = l i }
 
 pub same-self : (a : Node) → sameNode a a ≡ true
 unfolding sameNode
-same-self a = rw (eq-eqb (a .kind) (a .kind) refl, eq-eqb (a .key) (a .key) refl, eq-eqb (a .first) (a .first) refl, eq-eqb (a .second) (a .second) refl)
+same-self a =
+    rw (
+      eq-eqb (a .kind) (a .kind) refl,
+      eq-eqb (a .key) (a .key) refl,
+      eq-eqb (a .first) (a .first) refl,
+      eq-eqb (a .second) (a .second) refl,
+      eq-eqb (a .level) (a .level) refl,
+    )
 
 pub same-sym : (a b : Node) → sameNode a b ≡ sameNode b a
 same-sym a b =

@@ -14,7 +14,7 @@ use Rattle.values.specs.Packing.{functionCell, delayedCell, isPacked}
 use Rattle.layout.specs.Links.{kindAt, valueAt, nameAt, otherAt}
 use Rattle.layout.specs.Memory.{Node, Entry, nodeAt, keptAt, entryAt, entriesFrom, nodesOf, memory}
 use Rattle.layout.specs.Nodes.{worksKind, arity, listed, kids, isName}
-use Rattle.table.specs.WellFormed.{every, kindKnown, keyRight, arityRight, lower, distinct, awaitsFew, isDone, doneAt, allDone, settled, namesRight, keptRight, wellFormed}
+use Rattle.table.specs.WellFormed.{every, kindKnown, keyRight, levelRight, arityRight, lower, distinct, awaitsFew, isDone, doneAt, allDone, settled, namesRight, keptRight, wellFormed}
 use Rattle.table.specs.Right.{nodeRight, rightAt}
 use Rattle.layout.specs.Numbered.{allFrom, numbered}
 use Rattle.layout.specs.Held.{shaped}
@@ -156,16 +156,21 @@ module _ (links cells : List ℕ) (readings n : ℕ) (a : Bool) (qa : a ≡ allF
 right-all : (links cells : List ℕ) (n : ℕ) →
     (allFrom (λ j. kindKnown (nodeAt links cells j)) n 0
     && (allFrom (λ j. keyRight (nodeAt links cells j)) n 0
+    && (allFrom (λ j. levelRight (nodeAt links cells j)) n 0
     && (allFrom (λ j. arityRight (nodeAt links cells j)) n 0
-    && allFrom (λ j. lower j (nodeAt links cells j)) n 0)))
+    && allFrom (λ j. lower j (nodeAt links cells j)) n 0))))
     ≡ allFrom (rightAt links cells) n 0
 unfolding rightAt nodeRight
 right-all links cells n =
-    ap (λ (b : Bool). allFrom (λ j. kindKnown (nodeAt links cells j)) n 0 && (allFrom (λ j. keyRight (nodeAt links cells j)) n 0 && b))
-    (all-and (λ j. arityRight (nodeAt links cells j)) (λ j. lower j (nodeAt links cells j)) n 0)
-    ∙ ap (λ (b : Bool). allFrom (λ j. kindKnown (nodeAt links cells j)) n 0 && b)
-    (all-and (λ j. keyRight (nodeAt links cells j)) (λ j. arityRight (nodeAt links cells j) && lower j (nodeAt links cells j)) n 0)
-    ∙ all-and (λ j. kindKnown (nodeAt links cells j)) (λ j. keyRight (nodeAt links cells j) && (arityRight (nodeAt links cells j) && lower j (nodeAt links cells j))) n 0
+    let kind : ℕ → Bool = λ j. kindKnown (nodeAt links cells j) in
+    let key : ℕ → Bool = λ j. keyRight (nodeAt links cells j) in
+    let level : ℕ → Bool = λ j. levelRight (nodeAt links cells j) in
+    let arity : ℕ → Bool = λ j. arityRight (nodeAt links cells j) in
+    let low : ℕ → Bool = λ j. lower j (nodeAt links cells j) in
+    ap (λ (b : Bool). allFrom kind n 0 && (allFrom key n 0 && (allFrom level n 0 && b))) (all-and arity low n 0)
+    ∙ ap (λ (b : Bool). allFrom kind n 0 && (allFrom key n 0 && b)) (all-and level (λ j. arity j && low j) n 0)
+    ∙ ap (λ (b : Bool). allFrom kind n 0 && b) (all-and key (λ j. level j && (arity j && low j)) n 0)
+    ∙ all-and kind (λ j. key j && (level j && (arity j && low j))) n 0
 
 kept-all : (links cells : List ℕ) (n readings : ℕ) →
     (allFrom (λ j. settled (entriesFrom links cells 0 n) (entryAt links cells j)) n 0 && allFrom (λ j. keptRight readings (entryAt links cells j)) n 0)
@@ -173,14 +178,16 @@ kept-all : (links cells : List ℕ) (n readings : ℕ) →
 unfolding keptOk
 kept-all links cells n readings = all-and (λ j. settled (entriesFrom links cells 0 n) (entryAt links cells j)) (λ j. keptRight readings (entryAt links cells j)) n 0
 
-regroup : (k y r l d f x : Bool) (all kept : Bool) → (k && (y && (r && l))) ≡ all → x ≡ kept → (k && (y && (r && (l && (d && (f && x)))))) ≡ (all && (d && (f && kept)))
-regroup k y r l d f x all kept p q = rw (← p, q) (by k y r l (d && (f && kept)))
+regroup : (k y v r l d f x : Bool) (all kept : Bool) → (k && (y && (v && (r && l)))) ≡ all → x ≡ kept
+    → (k && (y && (v && (r && (l && (d && (f && x))))))) ≡ (all && (d && (f && kept)))
+regroup k y v r l d f x all kept p q = rw (← p, q) (by k y v r l (d && (f && kept)))
   where
-    by : (k y r l x : Bool) → (k && (y && (r && (l && x)))) ≡ ((k && (y && (r && l))) && x)
-    by true true true l x = refl
-    by true true false l x = refl
-    by true false r l x = refl
-    by false y r l x = refl
+    by : (k y v r l x : Bool) → (k && (y && (v && (r && (l && x))))) ≡ ((k && (y && (v && (r && l)))) && x)
+    by true true true true l x = refl
+    by true true true false l x = refl
+    by true true false r l x = refl
+    by true false v r l x = refl
+    by false y v r l x = refl
 
 -- THE LAW: the clauses in the code's order are those of the definition
 module _ (rs : List ℤ) (heads links cells : List ℕ) where
@@ -198,6 +205,7 @@ module _ (rs : List ℤ) (heads links cells : List ℕ) where
       (rw (
         every-from links cells (λ (i : ℕ) (e : Entry). kindKnown (e .node)) 0 count,
         every-from links cells (λ (i : ℕ) (e : Entry). keyRight (e .node)) 0 count,
+        every-from links cells (λ (i : ℕ) (e : Entry). levelRight (e .node)) 0 count,
         every-from links cells (λ (i : ℕ) (e : Entry). arityRight (e .node)) 0 count,
         every-from links cells (λ (i : ℕ) (e : Entry). lower i (e .node)) 0 count,
         every-from links cells (λ (i : ℕ) (e : Entry). settled (entriesFrom links cells 0 count) e) 0 count,
@@ -207,6 +215,7 @@ module _ (rs : List ℤ) (heads links cells : List ℕ) where
       (regroup
       (allFrom (λ j. kindKnown (nodeAt links cells j)) count 0)
       (allFrom (λ j. keyRight (nodeAt links cells j)) count 0)
+      (allFrom (λ j. levelRight (nodeAt links cells j)) count 0)
       (allFrom (λ j. arityRight (nodeAt links cells j)) count 0)
       (allFrom (λ j. lower j (nodeAt links cells j)) count 0)
       (distinct (numbered (nodeAt links cells) 0 count))

@@ -6,7 +6,7 @@ use Prim.Native.Nat.{ℕ, zero, suc, _+_, _-_, _/_, _%_, _≤_, _<_}
 use native.Mathlib.Nat.{mod-eq-of-lt, sub-zero}
 use native.Mathlib.Numerals.{add-one}
 use native.Mathlib.Omega.{arith}
-use borrow.Author.Tests.{eq-eqb, ne-eqb, lt-ltb, le-ltb, leb-true}
+use borrow.Author.Tests.{eq-eqb, ne-eqb, eqb-true, lt-ltb, le-ltb, ltb-true, leb-true}
 use lib.Dec.{eqb, leb, ltb}
 use lib.ListN.{length}
 use Rattle.language.specs.Cases.{split}
@@ -16,10 +16,10 @@ use Rattle.members.specs.MembersLaws.{foundIn}
 use Rattle.members.specs.declared.Member.{Member}
 use Rattle.members.specs.declared.Found.{Found}
 use Rattle.members.specs.declared.Found.the-variants.{Is, Unknown}
-use Rattle.layout.specs.Links.{kindAt, firstAt, secondAt, keyAt}
-use Rattle.layout.specs.Memory.{Node, nodeAt, node}
+use Rattle.layout.specs.Links.{kindAt, firstAt, secondAt, levelAt, keyAt}
+use Rattle.layout.specs.Memory.{Node, nodeAt, nodeWith, node}
 use Rattle.layout.specs.Nodes.{numberKind, variableKind, unboundKind, functionKind, firstMember, kindCount, memberOfKind, memberArity, arity, wordNumber, isName}
-use Rattle.table.specs.WellFormed.{kindKnown, keyRight, arityRight, lower}
+use Rattle.table.specs.WellFormed.{kindKnown, keyRight, hasLevel, levelRight, arityRight, lower}
 use Rattle.table.specs.Right.{nodeRight, rightAt}
 use Rattle.layout.specs.Numbered.{allFrom}
 
@@ -116,6 +116,16 @@ module _ (kind key : ℕ) where
   unfolding keyRight
   key-none t e = rw (ne-eqb kind numberKind e, t)
 
+-- the level by kind
+module _ (kind level : ℕ) where
+  pub level-some : hasLevel kind ≡ true → ltb level 2 ≡ levelRight (nodeWith kind 0 0 0 level)
+  unfolding levelRight
+  level-some t = rw t
+
+  pub level-none : hasLevel kind ≡ false → eqb level 0 ≡ levelRight (nodeWith kind 0 0 0 level)
+  unfolding levelRight
+  level-none t = rw t
+
 -- the dependencies by their number
 module _ (kind first second n : ℕ) (q : n ≡ arity kind) where
   pub arity-zero : n ≡ 0 → (eqb first 0 && eqb second 0) ≡ arityRight (node kind 0 first second)
@@ -131,11 +141,11 @@ module _ (kind first second n : ℕ) (q : n ≡ arity kind) where
   arity-two u v = rw (← q, ne-eqb n 0 u, ne-eqb n 1 v)
 
 module _ (links cells : List ℕ) (i kind : ℕ) (qk : kind ≡ kindAt links i) where
-  pub right-known : (key first second : ℕ) (a b : Bool) → a ≡ keyRight (node kind key 0 0) → b ≡ arityRight (node kind 0 first second)
-      → key ≡ keyAt cells i → first ≡ firstAt links i → second ≡ secondAt links i → kind < kindCount
-      → (a && (b && (leb first i && leb second i))) ≡ rightAt links cells i
-  unfolding rightAt nodeRight nodeAt keyRight arityRight
-  right-known key first second a b qa qb q f s h = rw (← qk, ← q, ← f, ← s, lt-ltb kind kindCount h) (rw (qa, qb))
+  pub right-known : (key first second level : ℕ) (a b c : Bool) → a ≡ keyRight (node kind key 0 0) → b ≡ levelRight (nodeWith kind 0 0 0 level)
+      → c ≡ arityRight (node kind 0 first second) → key ≡ keyAt cells i → first ≡ firstAt links i → second ≡ secondAt links i → level ≡ levelAt links i
+      → kind < kindCount → (a && (b && (c && (leb first i && leb second i)))) ≡ rightAt links cells i
+  unfolding rightAt nodeRight nodeAt keyRight levelRight arityRight
+  right-known key first second level a b c qa qb qc q f s l h = rw (← qk, ← q, ← f, ← s, ← l, lt-ltb kind kindCount h) (rw (qa, qb, qc))
 
   pub right-unknown : kindCount ≤ kind → false ≡ rightAt links cells i
   unfolding rightAt nodeRight nodeAt
@@ -151,13 +161,29 @@ module _ (i : ℕ) (n : Node) (r : nodeRight i n ≡ true) where
   unfolding nodeRight
   right-key = and-eq-true-iff _ _ .0 (and-eq-true-iff (kindKnown n) _ .0 r .1) .0
 
-  pub right-arity : arityRight n ≡ true
+  behind-key : (levelRight n && (arityRight n && lower i n)) ≡ true
   unfolding nodeRight
-  right-arity = and-eq-true-iff _ _ .0 (and-eq-true-iff (keyRight n) _ .0 (and-eq-true-iff (kindKnown n) _ .0 r .1) .1) .0
+  behind-key = and-eq-true-iff (keyRight n) _ .0 (and-eq-true-iff (kindKnown n) _ .0 r .1) .1
+
+  pub right-level : levelRight n ≡ true
+  right-level = and-eq-true-iff _ _ .0 behind-key .0
+
+  pub right-arity : arityRight n ≡ true
+  right-arity = and-eq-true-iff _ _ .0 (and-eq-true-iff (levelRight n) _ .0 behind-key .1) .0
 
   right-lower : lower i n ≡ true
-  unfolding nodeRight
-  right-lower = and-eq-true-iff (arityRight n) _ .0 (and-eq-true-iff (keyRight n) _ .0 (and-eq-true-iff (kindKnown n) _ .0 r .1) .1) .1
+  right-lower = and-eq-true-iff (arityRight n) _ .0 (and-eq-true-iff (levelRight n) _ .0 behind-key .1) .1
+
+  -- the level is 0 or 1, and where the kind has none 0
+  pub level-low : n .level < 2
+  unfolding levelRight
+  level-low =
+      split (hasLevel (n .kind)) (λ p. ltb-true (n .level) 2 (rw p at right-level))
+      (λ p. let z = eqb-true (n .level) 0 (rw p at right-level) in omega arith)
+
+  pub no-level : hasLevel (n .kind) ≡ false → n .level ≡ 0
+  unfolding levelRight
+  no-level p = eqb-true (n .level) 0 (rw p at right-level)
 
   pub first-low : n .first ≤ i
   first-low = leb-true (n .first) i (and-eq-true-iff _ _ .0 right-lower .0)
@@ -214,6 +240,8 @@ pub ruleset entries = (
   key-number,
   key-name,
   key-none,
+  level-some,
+  level-none,
   arity-zero,
   arity-one,
   arity-two,

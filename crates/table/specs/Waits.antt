@@ -5,7 +5,7 @@ use mathlib.Core.List.{List}
 use Prim.Native.Nat.{ℕ, zero, suc, _+_, _*_, _-_, _/_, _%_}
 use lib.Dec.{leb, ltb, eqb}
 use lib.ListN.{getD, set}
-use Rattle.layout.specs.Links.{kindAt, firstAt, secondAt, keyAt, isBelow}
+use Rattle.layout.specs.Links.{kindAt, firstAt, secondAt, levelAt, keyAt, isBelow}
 use Rattle.layout.specs.Nodes.{variableKind, functionKind}
 
 -- the first and the second
@@ -30,27 +30,27 @@ joinedSlots w u =
     (cond (eqb (slotA w) (slotA u)) (slotA w * 65536 + slotB u)
     (slotA w * 65536 + slotA u)))
 
--- the slot is a variable with that name
-abbrev pub isNamed : List ℕ → ℕ → ℕ → Bool
-isNamed cells key p = leb 1 p && eqb (keyAt cells (p - 1)) key
+-- the slot is the variable with that name and level
+abbrev pub isOf : List ℕ → List ℕ → (key level : ℕ) → ℕ → Bool
+isOf links cells key level p = leb 1 p && (eqb (keyAt cells (p - 1)) key && eqb (levelAt links (p - 1)) level)
 
--- those of w that have another name
-unfoldable pub withoutSlot : List ℕ → ℕ → ℕ → ℕ
-withoutSlot cells key w =
-    cond (isNamed cells key (slotA w)) (slotB w * 65536)
-    (cond (isNamed cells key (slotB w)) (slotA w * 65536)
+-- those of w but that variable
+unfoldable pub withoutSlot : List ℕ → List ℕ → (key level : ℕ) → ℕ → ℕ
+withoutSlot links cells key level w =
+    cond (isOf links cells key level (slotA w)) (slotB w * 65536)
+    (cond (isOf links cells key level (slotB w)) (slotA w * 65536)
     w)
 
 -- of a dependency of entry i, from those of the entries before i
 abbrev pub waitsOf : List ℕ → ℕ → ℕ → ℕ
 waitsOf waits link i = cond (isBelow link i) (getD waits (link - 1) 0) 0
 
--- of entry i, by its kind: a variable awaits itself, a function what its body awaits but its own name
+-- of entry i, by its kind: a variable awaits itself, a function what its body awaits but its own variable
 unfoldable pub waitsAt : List ℕ → List ℕ → List ℕ → ℕ → ℕ
 waitsAt links cells waits i =
     cond (eqb (kindAt links i) variableKind) ((i + 1) * 65536)
     (cond (ltb (kindAt links i) functionKind) 0
-    (cond (eqb (kindAt links i) functionKind) (withoutSlot cells (keyAt cells i) (waitsOf waits (firstAt links i) i))
+    (cond (eqb (kindAt links i) functionKind) (withoutSlot links cells (keyAt cells i) (levelAt links i) (waitsOf waits (firstAt links i) i))
     (joinedSlots (waitsOf waits (firstAt links i) i) (waitsOf waits (secondAt links i) i))))
 
 -- k entries from i on, in rising order

@@ -1,5 +1,5 @@
--- The pass over the awaited variables keeps to the definition. For right nodes, none of them twice, a name has one variable, so what the pass
--- finds for an entry stands for the names that the entry awaits, and a join leaves a variable out just where these are over two. Assumes nothing.
+-- The pass over the awaited variables keeps to the definition. For right nodes, none of them twice, a name and a level have one variable, so
+-- what the pass finds for an entry stands for the variables that it awaits, and a join leaves one out just where these are over two. Assumes nothing.
 use mathlib.Core.Path.{_≡_, refl, sym, ap, _∙_}
 use mathlib.Core.Bool.{Bool, true, false, cond, _&&_, _||_, and-eq-true-iff}
 use mathlib.Core.List.{List, [], _∷_}
@@ -12,6 +12,7 @@ use lib.ListN.{length, getD, set, replicate, length-set, length-replicate}
 use lib.Seq.{getD-set-same, getD-set-other}
 use Rattle.language.specs.Cases.{impossible, split}
 use Rattle.language.specs.Limits.{tableEntries}
+use Rattle.meaning.specs.Forms.{withLevel}
 use Rattle.meaning.specs.Evaluation.{hasName}
 use Rattle.meaning.specs.Evaluation as meaning
 use Rattle.layout.specs.Memory.{Node, nodeAt}
@@ -20,9 +21,9 @@ use Rattle.table.specs.WellFormed.{distinct, awaitsFew}
 use Rattle.table.specs.Awaits.{awaitedBy}
 use Rattle.table.specs.Right.{nodeRight, rightAt}
 use Rattle.layout.specs.Numbered.{allFrom, numbered}
-use Rattle.table.specs.RightLaws.{first-low, second-low, first-given, second-given, all-at, right-at}
-use Rattle.layout.specs.Links.{kindAt, firstAt, secondAt, keyAt, isBelow}
-use Rattle.table.specs.Waits.{slotA, slotB, hasSlot, joinedSlots, isNamed, withoutSlot, waitsOf, waitsAt, waitsFrom, covers, fewAt}
+use Rattle.table.specs.RightLaws.{first-low, second-low, first-given, second-given, level-low, all-at, right-at}
+use Rattle.layout.specs.Links.{kindAt, firstAt, secondAt, levelAt, keyAt, isBelow}
+use Rattle.table.specs.Waits.{slotA, slotB, hasSlot, joinedSlots, isOf, withoutSlot, waitsOf, waitsAt, waitsFrom, covers, fewAt}
 use Rattle.table.specs.Chain.{newAt, lastSame}
 use Rattle.table.specs.ChainLaws.{same-self, distinct-all, all-last, all-zero}
 use Rattle.table.specs.ArityLaws.{arity-few, function-arity, leaf-arity, no-links, no-second}
@@ -68,18 +69,23 @@ module _ (links cells : List ℕ) where
       (let z = length-replicate {A = ℕ} tableEntries 0 in omega arith)
 
 -- ---- what is found for an entry
+-- the variable of entry a
+abbrev pub variableAt : List ℕ → List ℕ → ℕ → ℕ
+variableAt links cells a = withLevel (keyAt cells a) (levelAt links a)
+
 pub record Variable (links : List ℕ) (i a : ℕ) : Type 0 where
   pub below : a ≤ i
   pub kind : kindAt links a ≡ variableKind
+  pub level : levelAt links a < 2
 
--- w holds variables with these names: none, one, or two with different names
+-- w holds these variables: none, one, or two
 pub data Holds (links cells : List ℕ) (i w : ℕ) (xs : List ℕ) : Type 0 where
   none : slotA w ≡ 0 → slotB w ≡ 0 → xs ≡ [] → Holds links cells i w xs
-  one : (a : ℕ) → Variable links i a → slotA w ≡ suc a → slotB w ≡ 0 → xs ≡ keyAt cells a ∷ [] → Holds links cells i w xs
-  two : (a b : ℕ) → Variable links i a → Variable links i b → (keyAt cells a ≡ keyAt cells b → ⊥) → slotA w ≡ suc a → slotB w ≡ suc b
-      → xs ≡ keyAt cells a ∷ keyAt cells b ∷ [] → Holds links cells i w xs
+  one : (a : ℕ) → Variable links i a → slotA w ≡ suc a → slotB w ≡ 0 → xs ≡ variableAt links cells a ∷ [] → Holds links cells i w xs
+  two : (a b : ℕ) → Variable links i a → Variable links i b → (variableAt links cells a ≡ variableAt links cells b → ⊥) → slotA w ≡ suc a → slotB w ≡ suc b
+      → xs ≡ variableAt links cells a ∷ variableAt links cells b ∷ [] → Holds links cells i w xs
 
--- the test passes and w holds variables with these names, or it does not and the names are over two
+-- the test passes and w holds these variables, or it does not and they are over two
 data Outcome (test : Bool) (links cells : List ℕ) (i w : ℕ) (xs : List ℕ) : Type 0 where
   few : test ≡ true → Holds links cells i w xs → Outcome test links cells i w xs
   over : test ≡ false → 2 < length xs → Outcome test links cells i w xs
@@ -95,7 +101,7 @@ above : {links cells : List ℕ} {i j w : ℕ} {xs : List ℕ} → j ≤ i → H
 above {links} {cells} {i} {j} h o = by o
   where
     up : {a : ℕ} → Variable links j a → Variable links i a
-    up v = record { below = omega (arith, v .below); kind = v .kind }
+    up v = record { below = omega (arith, v .below); kind = v .kind; level = v .level }
 
     by : {w : ℕ} {xs : List ℕ} → Holds links cells j w xs → Holds links cells i w xs
     by (none p q e) = none p q e
@@ -124,33 +130,39 @@ module _ (w u : ℕ) where
     unfolding joinedSlots
     then-first q e = rw (p, q, eqb·suc-zero, ne-eqb (suc a) (slotA u) (λ z. e (sym z)))
 
-module _ (cells : List ℕ) (key : ℕ) where
-  named : (v a : ℕ) → v ≡ suc a → isNamed cells key v ≡ eqb key (keyAt cells a)
-  named v a e =
-      let z : suc a - 1 ≡ a = omega arith in
-      rw (e, z, positive)
-      (split (eqb key (keyAt cells a))
-      (λ p. rw p (eq-eqb (keyAt cells a) key (sym (eqb-true key (keyAt cells a) p))))
-      (λ p. rw p (ne-eqb (keyAt cells a) key (λ q. eqb-false key (keyAt cells a) p (sym q)))))
+-- names and levels are equal just where the variables are
+pub same-variable : (x y k l : ℕ) → k < 2 → l < 2 → (eqb y x && eqb l k) ≡ eqb (withLevel x k) (withLevel y l)
+same-variable x y k l h m =
+    split (eqb y x)
+    (λ p.
+    let e = eqb-true y x p in
+    rw p
+    (split (eqb l k) (λ q. let f = eqb-true l k q in rw q (sym (eq-eqb (withLevel x k) (withLevel y l) (omega arith))))
+    (λ q. rw q (sym (ne-eqb (withLevel x k) (withLevel y l) (λ z. eqb-false l k q (omega arith)))))))
+    (λ p. rw p (sym (ne-eqb (withLevel x k) (withLevel y l) (λ z. eqb-false y x p (omega arith)))))
 
-  unnamed : (v : ℕ) → v ≡ 0 → isNamed cells key v ≡ false
-  unnamed v e = rw e
+module _ (links cells : List ℕ) (key level : ℕ) (low : level < 2) where
+  of-variable : (v a : ℕ) → levelAt links a < 2 → v ≡ suc a → isOf links cells key level v ≡ eqb (withLevel key level) (variableAt links cells a)
+  of-variable v a l e = let z : suc a - 1 ≡ a = omega arith in rw (e, z, positive) (same-variable key (keyAt cells a) level (levelAt links a) low l)
 
-  module _ {links : List ℕ} {i : ℕ} (inside : i < tableEntries) where
-    less : {w : ℕ} {xs : List ℕ} → Holds links cells i w xs → Holds links cells i (withoutSlot cells key w) (meaning.without key xs)
+  of-none : (v : ℕ) → v ≡ 0 → isOf links cells key level v ≡ false
+  of-none v e = rw e
+
+  module _ {i : ℕ} (inside : i < tableEntries) where
+    less : {w : ℕ} {xs : List ℕ} → Holds links cells i w xs → Holds links cells i (withoutSlot links cells key level w) (meaning.without (withLevel key level) xs)
     unfolding withoutSlot meaning.without
-    less {w} (none p q e) = rw (unnamed (slotA w) p, unnamed (slotB w) q) (none p q (rw e))
+    less {w} (none p q e) = rw (of-none (slotA w) p, of-none (slotB w) q) (none p q (rw e))
     less {w} (one a va p q e) =
-        rw (named (slotA w) a p, unnamed (slotB w) q, e)
-        (split (eqb key (keyAt cells a)) (λ h. rw h (none (omega arith) (omega arith) refl)) (λ h. rw h (one a va p q refl)))
+        rw (of-variable (slotA w) a (va .level) p, of-none (slotB w) q, e)
+        (split (eqb (withLevel key level) (variableAt links cells a)) (λ h. rw h (none (omega arith) (omega arith) refl)) (λ h. rw h (one a va p q refl)))
     less {w} (two a b va vb d p q e) =
-        rw (named (slotA w) a p, named (slotB w) b q, e)
-        (split (eqb key (keyAt cells a))
-        (λ h. rw (h, ne-eqb key (keyAt cells b) (λ z. d (sym (eqb-true key (keyAt cells a) h) ∙ z))) (one b vb (omega arith) (omega arith) refl))
-        (λ h. rw h (split (eqb key (keyAt cells b)) (λ l. rw l (one a va (omega arith) (omega arith) refl)) (λ l. rw l (two a b va vb d p q refl)))))
+        rw (of-variable (slotA w) a (va .level) p, of-variable (slotB w) b (vb .level) q, e)
+        (split (eqb (withLevel key level) (variableAt links cells a))
+        (λ h. rw (h, ne-eqb (withLevel key level) (variableAt links cells b) (λ z. d (sym (eqb-true (withLevel key level) (variableAt links cells a) h) ∙ z))) (one b vb (omega arith) (omega arith) refl))
+        (λ h. rw h (split (eqb (withLevel key level) (variableAt links cells b)) (λ l. rw l (one a va (omega arith) (omega arith) refl)) (λ l. rw l (two a b va vb d p q refl)))))
 
 -- ---- a right node
--- the names of a dependency, none where there is no link
+-- what a dependency awaits, nothing where there is no link
 abbrev linked : List (List ℕ) → ℕ → List ℕ
 linked before link = cond (leb 1 link) (getD before (link - 1) []) []
 
@@ -206,51 +218,55 @@ all-same p q (suc n) h =
 module _ (links cells : List ℕ) (n : ℕ) (most : n ≤ tableEntries)
     (right : (i : ℕ) → i < n → nodeRight i (nodeAt links cells i) ≡ true)
     (alone : (i j : ℕ) → i < n → j < n → nodeAt links cells i ≡ nodeAt links cells j → i ≡ j) where
-  -- a name has one variable
-  pub single : (i j : ℕ) → i < n → j < n → kindAt links i ≡ variableKind → kindAt links j ≡ variableKind → keyAt cells i ≡ keyAt cells j → i ≡ j
+  -- a name and a level have one variable
+  pub single : (i j : ℕ) → i < n → j < n → kindAt links i ≡ variableKind → kindAt links j ≡ variableKind → variableAt links cells i ≡ variableAt links cells j → i ≡ j
   unfolding nodeAt
   single i j h m k l e =
       let a = no-links i (nodeAt links cells i) (right i h) (leaf-arity (kindAt links i) (omega arith)) in
       let b = no-links j (nodeAt links cells j) (right j m) (leaf-arity (kindAt links j) (omega arith)) in
+      let u = level-low i (nodeAt links cells i) (right i h) in
+      let v = level-low j (nodeAt links cells j) (right j m) in
+      let x : keyAt cells i ≡ keyAt cells j = omega arith in
+      let y : levelAt links i ≡ levelAt links j = omega arith in
       alone i j h m (cc)
 
   module _ (i : ℕ) (inside : i < n) where
     abbrev At : ℕ → List ℕ → Type 0
     At w xs = Holds links cells i w xs
 
-    -- two variables' names are equal just where the variables are
+    -- two variables are equal just where their entries are
     key-test : {a : ℕ} → Variable links i a → (j : ℕ) → j < n → kindAt links j ≡ variableKind
-        → eqb (suc a) (suc j) ≡ eqb (keyAt cells j) (keyAt cells a)
+        → eqb (suc a) (suc j) ≡ eqb (variableAt links cells j) (variableAt links cells a)
     key-test {a} va j h k =
         split (eqb (suc a) (suc j))
-        (λ p. let z : a ≡ j = (let z = eqb-true (suc a) (suc j) p in omega arith) in rw p (sym (eq-eqb (keyAt cells j) (keyAt cells a) (rw z))))
+        (λ p. let z : a ≡ j = (let z = eqb-true (suc a) (suc j) p in omega arith) in rw p (sym (eq-eqb (variableAt links cells j) (variableAt links cells a) (rw z))))
         (λ p.
-        rw p (sym (ne-eqb (keyAt cells j) (keyAt cells a)
+        rw p (sym (ne-eqb (variableAt links cells j) (variableAt links cells a)
         (λ q. eqb-false (suc a) (suc j) p (ap suc (sym (single j a h (omega (arith, va .below)) k (va .kind) q)))))))
 
-    differ : {a b : ℕ} → Variable links i a → Variable links i b → (b ≡ a → ⊥) → keyAt cells b ≡ keyAt cells a → ⊥
+    differ : {a b : ℕ} → Variable links i a → Variable links i b → (b ≡ a → ⊥) → variableAt links cells b ≡ variableAt links cells a → ⊥
     differ {a} {b} va vb s z = s (single b a (omega (arith, vb .below)) (omega (arith, va .below)) (vb .kind) (va .kind) z)
 
-    pub holds-of : {w : ℕ} {xs : List ℕ} → At w xs → (j : ℕ) → j < n → kindAt links j ≡ variableKind → hasSlot w (suc j) ≡ hasName (keyAt cells j) xs
+    pub holds-of : {w : ℕ} {xs : List ℕ} → At w xs → (j : ℕ) → j < n → kindAt links j ≡ variableKind → hasSlot w (suc j) ≡ hasName (variableAt links cells j) xs
     unfolding hasName
     holds-of (none p q e) j h k = rw (p, q, e, eqb·zero-suc j)
     holds-of (one a va p q e) j h k = rw (p, q, e, eqb·zero-suc j, key-test va j h k)
     holds-of (two a b va vb d p q e) j h k =
-        rw (p, q, e, key-test va j h k, key-test vb j h k) (by (eqb (keyAt cells j) (keyAt cells a)) (eqb (keyAt cells j) (keyAt cells b)))
+        rw (p, q, e, key-test va j h k, key-test vb j h k) (by (eqb (variableAt links cells j) (variableAt links cells a)) (eqb (variableAt links cells j) (variableAt links cells b)))
       where
         by : (a b : Bool) → (a || b) ≡ (a || (b || false))
         by true b = refl
         by false true = refl
         by false false = refl
 
-    holds-variable : {w a : ℕ} {xs : List ℕ} → At w xs → Variable links i a → hasSlot w (suc a) ≡ hasName (keyAt cells a) xs
+    holds-variable : {w a : ℕ} {xs : List ℕ} → At w xs → Variable links i a → hasSlot w (suc a) ≡ hasName (variableAt links cells a) xs
     holds-variable {a = a} o va = holds-of o a (omega (arith, va .below)) (va .kind)
 
     covers-of : {w u : ℕ} {xs ys : List ℕ} → At w xs → At u ys → covers w u ≡ contains xs ys
     covers-of o (none p q e) = rw (p, q, e)
     covers-of o (one a va p q e) = rw (p, q, e, eqb·suc-zero, holds-variable o va)
     covers-of o (two a b va vb d p q e) =
-        rw (p, q, e, eqb·suc-zero a, eqb·suc-zero b, holds-variable o va, holds-variable o vb) (by (hasName (keyAt cells a) _) (hasName (keyAt cells b) _))
+        rw (p, q, e, eqb·suc-zero a, eqb·suc-zero b, holds-variable o va, holds-variable o vb) (by (hasName (variableAt links cells a) _) (hasName (variableAt links cells b) _))
       where
         by : (a b : Bool) → (a && b) ≡ (a && (b && true))
         by true true = refl
@@ -275,7 +291,7 @@ module _ (links cells : List ℕ) (n : ℕ) (most : n ≤ tableEntries)
         by : At u ys → At u (meaning.joined [] ys)
         by (none p q e) = none p q (rw e)
         by (one a va p q e) = one a va p q (rw e)
-        by (two a b va vb d p q e) = two a b va vb d p q (rw (e, ne-eqb (keyAt cells b) (keyAt cells a) (λ z. d (sym z))))
+        by (two a b va vb d p q e) = two a b va vb d p q (rw (e, ne-eqb (variableAt links cells b) (variableAt links cells a) (λ z. d (sym z))))
     join {w} {u} {xs} {ys} (one a va p q e) (none p′ q′ e′) =
         whole (none p′ q′ e′) (rw (then-first w u a p q (λ z. omega arith)) (one a va (omega arith) (omega arith) (rw (e, e′)))) (joined-all xs ys)
     join {w} {u} {xs} {ys} (one a va p q e) (one b vb p′ q′ e′) =
@@ -283,31 +299,31 @@ module _ (links cells : List ℕ) (n : ℕ) (most : n ≤ tableEntries)
         (split (eqb b a)
         (λ t.
         let s : b ≡ a = eqb-true b a t in
-        rw (same-first w u a p q (omega arith)) (one a va (omega arith) (omega arith) (rw (e, e′, s, eq-eqb (keyAt cells a) (keyAt cells a) refl))))
+        rw (same-first w u a p q (omega arith)) (one a va (omega arith) (omega arith) (rw (e, e′, s, eq-eqb (variableAt links cells a) (variableAt links cells a) refl))))
         (λ t.
         let s : b ≡ a → ⊥ = eqb-false b a t in
         rw (then-first w u a p q (λ z. s (omega arith)))
         (two a b va vb (λ z. differ va vb s (sym z)) (omega (arith, vb .below)) (omega (arith, vb .below))
-        (rw (e, e′, ne-eqb (keyAt cells b) (keyAt cells a) (differ va vb s))))))
+        (rw (e, e′, ne-eqb (variableAt links cells b) (variableAt links cells a) (differ va vb s))))))
         (joined-all xs ys)
     join {w} {u} {xs} {ys} (one a va p q e) (two b c vb vc d p′ q′ e′) =
         split (eqb b a)
         (λ t.
         let s : b ≡ a = eqb-true b a t in
-        let o : keyAt cells a ≡ keyAt cells c → ⊥ = rw s at d in
+        let o : variableAt links cells a ≡ variableAt links cells c → ⊥ = rw s at d in
         whole (two b c vb vc d p′ q′ e′)
         (rw (same-first w u a p q (omega arith))
         (two a c va vc o (omega arith) (omega arith)
-        (rw (e, e′, s, eq-eqb (keyAt cells a) (keyAt cells a) refl, ne-eqb (keyAt cells c) (keyAt cells a) (λ z. o (sym z))))))
+        (rw (e, e′, s, eq-eqb (variableAt links cells a) (variableAt links cells a) refl, ne-eqb (variableAt links cells c) (variableAt links cells a) (λ z. o (sym z))))))
         (joined-all xs ys))
         (λ t.
         let s : b ≡ a → ⊥ = eqb-false b a t in
-        let o : eqb (keyAt cells b) (keyAt cells a) ≡ false = ne-eqb (keyAt cells b) (keyAt cells a) (differ va vb s) in
-        full {xs = keyAt cells a ∷ keyAt cells b ∷ []} (two b c vb vc d p′ q′ e′)
+        let o : eqb (variableAt links cells b) (variableAt links cells a) ≡ false = ne-eqb (variableAt links cells b) (variableAt links cells a) (differ va vb s) in
+        full {xs = variableAt links cells a ∷ variableAt links cells b ∷ []} (two b c vb vc d p′ q′ e′)
         (rw (then-first w u a p q (λ z. s (omega arith)))
         (two a b va vb (λ z. differ va vb s (sym z)) (omega (arith, vb .below)) (omega (arith, vb .below)) refl))
         refl
-        (rw (e, e′, o, eq-eqb (keyAt cells b) (keyAt cells b) refl)))
+        (rw (e, e′, o, eq-eqb (variableAt links cells b) (variableAt links cells b) refl)))
     join {w} {u} (two a b va vb d p q e) v = full v (rw (already-two w u a p b q) (two a b va vb d p q e)) (rw e) refl
 
   abbrev names : ℕ → List ℕ
@@ -348,7 +364,7 @@ module _ (links cells : List ℕ) (n : ℕ) (most : n ≤ tableEntries)
           let r = right i h in
           let a = function-arity (kindAt links i) e in
           let g : leb 1 (firstAt links i) ≡ true = le-leb 1 (firstAt links i) (first-given i n r (λ z. omega arith)) in
-          rw (e, g) (rw g at (less cells (keyAt cells i) (omega arith) (by-link (firstAt links i) (first-low i n r))))
+          rw (e, g) (rw g at (less links cells (keyAt cells i) (levelAt links i) (level-low i n r) (omega arith) (by-link (firstAt links i) (first-low i n r))))
 
       step : Step i
       unfolding fewAt waitsAt nodeAt awaitedBy
@@ -358,7 +374,7 @@ module _ (links cells : List ℕ) (n : ℕ) (most : n ≤ tableEntries)
           (λ p.
           let e : kindAt links i ≡ variableKind = eqb-true _ _ p in
           unjoined (no-links i (nodeAt links cells i) r (leaf-arity (kindAt links i) (omega arith)) .1)
-          (rw p (one i (record { below = omega arith; kind = e }) (omega arith) (omega arith) refl)))
+          (rw p (one i (record { below = omega arith; kind = e; level = level-low i (nodeAt links cells i) r }) (omega arith) (omega arith) refl)))
           (λ p.
           split (ltb (kindAt links i) functionKind)
           (λ q.

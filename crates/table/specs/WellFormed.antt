@@ -1,10 +1,10 @@
--- 01, refusal 4: when a cache is well-formed, clause by clause. Assumes nothing: these are definitions.
+-- 01, refusal 4, with 02, T-05: when a cache is well-formed, clause by clause. Assumes nothing: these are definitions.
 use mathlib.Core.Bool.{Bool, true, false, cond, not, _&&_, _||_}
 use mathlib.Core.List.{List, [], _∷_, map}
 use Prim.Native.Nat.{ℕ, suc, _^_}
 use lib.Dec.{leb, ltb, eqb}
 use lib.ListN.{length, getD}
-use Rattle.language.specs.Limits.{tableEntries, tableReadings}
+use Rattle.language.specs.Limits.{tableEntries, tableReadings, openLambdas}
 use Rattle.values.specs.Packing.{isPacked, functionCell, delayedCell}
 use Rattle.meaning.specs.Forms.{Form}
 use Rattle.meaning.specs.Evaluation.{awaited}
@@ -28,6 +28,13 @@ keyRight n =
     (cond (eqb (n .kind) variableKind || (eqb (n .kind) unboundKind || eqb (n .kind) functionKind)) (isName (n .key))
     (eqb (n .key) 0))
 
+-- 02, T-05: a level over 1, where at most two lambdas are open; what is neither a variable nor a function has none
+abbrev pub hasLevel : ℕ → Bool
+hasLevel k = eqb k variableKind || eqb k functionKind
+
+unfoldable pub levelRight : Node → Bool
+levelRight n = cond (hasLevel (n .kind)) (ltb (n .level) openLambdas) (eqb (n .level) 0)
+
 -- wrong number of dependencies
 unfoldable pub arityRight : Node → Bool
 arityRight n =
@@ -48,7 +55,7 @@ unfoldable pub distinct : List Node → Bool
 distinct [] = true
 distinct (n ∷ ns) = not (hasNode n ns) && distinct ns
 
--- an entry awaiting over two names: the form that it stands for does
+-- an entry awaiting over two names, each with its level: the form that it stands for does
 abbrev pub awaitsFew : List Node → Bool
 awaitsFew ns = every (λ i (f : Form). leb (length (awaited f)) 2) 0 (formsOf ns)
 
@@ -89,9 +96,10 @@ wellFormed m =
     && (leb (readingCount m) tableReadings
     && (every (λ i (e : Entry). kindKnown (e .node)) 0 (entriesOf m)
     && (every (λ i (e : Entry). keyRight (e .node)) 0 (entriesOf m)
+    && (every (λ i (e : Entry). levelRight (e .node)) 0 (entriesOf m)
     && (every (λ i (e : Entry). arityRight (e .node)) 0 (entriesOf m)
     && (every (λ i (e : Entry). lower i (e .node)) 0 (entriesOf m)
     && (distinct (nodesOf (entriesOf m))
     && (awaitsFew (nodesOf (entriesOf m))
     && (every (λ i (e : Entry). settled (entriesOf m) e) 0 (entriesOf m)
-    && every (λ i (e : Entry). keptRight (readingCount m) e) 0 (entriesOf m)))))))))
+    && every (λ i (e : Entry). keptRight (readingCount m) e) 0 (entriesOf m))))))))))

@@ -9,6 +9,7 @@ use language::names::is_letter;
 use layout::cells::first_of;
 use layout::cells::key_of;
 use layout::cells::kind_of;
+use layout::cells::level_of;
 use layout::cells::second_of;
 use layout::nodes::Shape;
 use members::Found;
@@ -19,10 +20,10 @@ ghost use Prim.Native.Nat.{_%_};
 ghost use Rattle.language.specs.Limits.{nameBytes};
 ghost use Rattle.language.specs.Names.{byteBase};
 ghost use Rattle.layout.specs.Nodes.{memberOfKind, memberArity, arity, wordNumber, isName};
-ghost use Rattle.table.specs.WellFormed.{keyRight, arityRight};
+ghost use Rattle.table.specs.WellFormed.{keyRight, levelRight, arityRight};
 ghost use Rattle.table.specs.Right.{rightAt};
 ghost use Rattle.layout.specs.Numbered.{allFrom};
-ghost use Rattle.layout.specs.Memory.{node};
+ghost use Rattle.layout.specs.Memory.{nodeWith, node};
 
 // The last byte of a packed word.
 fn low_byte(k: u64) -> u8
@@ -104,6 +105,16 @@ fn key_right(kind: u16, key: u64) -> bool
     key == 0
 }
 
+// A level is 0 or 1 for a variable and a function, and 0 for what has none.
+fn level_right(kind: u16, level: u16) -> bool
+    ensures { λ r. ⌜ r ≡ levelRight (nodeWith kind 0 0 0 level) ⌝ }
+{
+    if (kind == Shape::VARIABLE) | (kind == Shape::FUNCTION) {
+        return level < Text::LAMBDAS as u16;
+    }
+    level == 0
+}
+
 // As many dependencies as the kind has.
 fn arity_right(kind: u16, first: u16, second: u16) -> bool
     ensures { λ r. ⌜ r ≡ arityRight (node kind 0 first second) ⌝ }
@@ -118,7 +129,7 @@ fn arity_right(kind: u16, first: u16, second: u16) -> bool
     (1 <= first) & (1 <= second)
 }
 
-// Entry i has a known kind, a right key, the right number of dependencies, and these are lower.
+// Entry i has a known kind, a right key, a right level, the right number of dependencies, and these are lower.
 fn node_right(links: &[u16], cells: &[u64], i: u16) -> bool
     ensures { λ r. ⌜ r ≡ rightAt (now (links .entry)) (now (cells .entry)) i ⌝ }
 {
@@ -126,9 +137,12 @@ fn node_right(links: &[u16], cells: &[u64], i: u16) -> bool
     let kind = kind_of(links, at);
     let first = first_of(links, at);
     let second = second_of(links, at);
+    let level = level_of(links, at);
     let key = key_of(cells, at);
     if kind < Shape::KINDS {
-        key_right(kind, key) & (arity_right(kind, first, second) & ((first <= i) & (second <= i)))
+        key_right(kind, key)
+            & (level_right(kind, level)
+                & (arity_right(kind, first, second) & ((first <= i) & (second <= i))))
     } else {
         false
     }

@@ -4,13 +4,14 @@ use layout::cells::first_of;
 use layout::cells::is_below;
 use layout::cells::key_of;
 use layout::cells::kind_of;
+use layout::cells::level_of;
 use layout::cells::second_of;
 use layout::nodes::Shape;
 ghost use mathlib.Core.Path.{_≡_};
 ghost use Prim.Native.Nat.{_<_, _≤_};
 ghost use Rattle.language.specs.Limits.{tableEntries};
 ghost use Rattle.layout.specs.Numbered.{allFrom};
-ghost use Rattle.table.specs.Waits.{hasSlot, awaits as awaitsOf, joinedSlots, isNamed, withoutSlot as withoutOf, waitsOf, waitsAt, waitsFrom, covers as coversOf, fewAt, ownOf};
+ghost use Rattle.table.specs.Waits.{hasSlot, awaits as awaitsOf, joinedSlots, isOf, withoutSlot as withoutOf, waitsOf, waitsAt, waitsFrom, covers as coversOf, fewAt, ownOf};
 
 pub fn has(w: u32, v: u32) -> bool
     ensures { λ r. ⌜ r ≡ hasSlot w v ⌝ }
@@ -39,23 +40,24 @@ fn join(w: u32, u: u32) -> u32
     w / 65536 * 65536 + u / 65536
 }
 
-// Whether the slot is a variable with that name.
-fn is_named(cells: &[u64], key: u64, p: u32) -> bool
-    ensures { λ r. ⌜ r ≡ isNamed (now (cells .entry)) key p ⌝ }
+// Whether the slot is the variable with that name and level.
+fn is_of(links: &[u16], cells: &[u64], key: u64, level: u16, p: u32) -> bool
+    ensures { λ r. ⌜ r ≡ isOf (now (links .entry)) (now (cells .entry)) key level p ⌝ }
 {
     if 1 <= p {
-        return key_of(cells, p as usize - 1) == key;
+        let at = p as usize - 1;
+        return (key_of(cells, at) == key) & (level_of(links, at) == level);
     }
     false
 }
 
-fn without(cells: &[u64], key: u64, w: u32) -> u32
-    ensures { λ r. ⌜ r ≡ withoutOf (now (cells .entry)) key w ⌝ }
+fn without(links: &[u16], cells: &[u64], key: u64, level: u16, w: u32) -> u32
+    ensures { λ r. ⌜ r ≡ withoutOf (now (links .entry)) (now (cells .entry)) key level w ⌝ }
 {
-    if is_named(cells, key, w / 65536) {
+    if is_of(links, cells, key, level, w / 65536) {
         return w % 65536 * 65536;
     }
-    if is_named(cells, key, w % 65536) {
+    if is_of(links, cells, key, level, w % 65536) {
         return w / 65536 * 65536;
     }
     w
@@ -85,7 +87,7 @@ fn waits_at(links: &[u16], cells: &[u64], waits: &[u32; Table::ENTRIES], i: usiz
     }
     let first = waits_of(waits, first_of(links, i) as usize, i);
     if kind == Shape::FUNCTION {
-        return without(cells, key_of(cells, i), first);
+        return without(links, cells, key_of(cells, i), level_of(links, i), first);
     }
     join(first, waits_of(waits, second_of(links, i) as usize, i))
 }

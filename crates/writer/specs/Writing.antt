@@ -10,7 +10,7 @@ use lib.ListN.{length, getD, drop}
 use Rattle.language.specs.Limits.{textBytes, tableEntries}
 use Rattle.language.specs.Names.{bytes}
 use Rattle.members.specs.Members.{spelled}
-use Rattle.meaning.specs.Forms.{Form, number, variable, unbound, readings, ask, call, function}
+use Rattle.meaning.specs.Forms.{Form, nameIn, number, variable, unbound, readings, ask, call, function}
 use Rattle.layout.specs.Memory.{Node, nodeAt}
 use Rattle.layout.specs.Nodes.{functionKind, build}
 use Rattle.layout.specs.Numbered.{numbered}
@@ -32,7 +32,7 @@ pub record Tabled (links cells : List ℕ) (count : ℕ) : Type 0 where
 
 -- what stands before the text t of the last dependency of an open function or call; r: the function is a receiver
 unfoldable pub before : Bool → Form → List ℕ → List ℕ
-before r (function x b) t = cond r (bytes "(") [] ++ (bytes "\\" ++ (unpacked x ++ (bytes " -> " ++ t)))
+before r (function v b) t = cond r (bytes "(") [] ++ (bytes "\\" ++ (unpacked (nameIn v) ++ (bytes " -> " ++ t)))
 before r (call m f a) t = asReceiver f (textOf f) ++ (bytes "." ++ (spelled m ++ (bytes "(" ++ t)))
 before r (number z) t = t
 before r (variable x) t = t

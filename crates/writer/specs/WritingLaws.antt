@@ -14,9 +14,9 @@ use Rattle.language.specs.Names.{bytes}
 use Rattle.members.specs.Members.{spelled}
 use Rattle.members.specs.declared.Member.{Member}
 use Rattle.members.specs.declared.Found.the-variants.{Is}
-use Rattle.meaning.specs.Forms.{Form, number, variable, unbound, readings, ask, call, function}
+use Rattle.meaning.specs.Forms.{Form, nameIn, number, variable, unbound, readings, ask, call, function}
 use Rattle.layout.specs.Memory.{Node, nodeAt}
-use Rattle.layout.specs.Nodes.{functionKind, memberOfKind}
+use Rattle.layout.specs.Nodes.{functionKind, memberOfKind, variableIn}
 use Rattle.table.specs.NodeKinds.{Fine, right-fine}
 use Rattle.table.specs.RightLaws.{first-low, second-low}
 use Rattle.printing.specs.Printed.{unpackOnto, unpacked, isFunction, asReceiver, textOf}
@@ -35,9 +35,9 @@ before-longer : (r : Bool) (f : Form) (t : List ℕ) → length t ≤ length (be
 unfolding before
 before-longer r (function x b) t =
     let a = longer (bytes " -> ") t in
-    let c = longer (unpacked x) (bytes " -> " ++ t) in
-    let d = longer (bytes "\\") (unpacked x ++ (bytes " -> " ++ t)) in
-    let e = longer (cond r (bytes "(") []) (bytes "\\" ++ (unpacked x ++ (bytes " -> " ++ t))) in
+    let c = longer (unpacked (nameIn x)) (bytes " -> " ++ t) in
+    let d = longer (bytes "\\") (unpacked (nameIn x) ++ (bytes " -> " ++ t)) in
+    let e = longer (cond r (bytes "(") []) (bytes "\\" ++ (unpacked (nameIn x) ++ (bytes " -> " ++ t))) in
     omega arith
 before-longer r (call m f g) t =
     let a = longer (bytes "(") t in
@@ -185,10 +185,10 @@ plain-text (suc (suc k)) f u h e = absurd (omega arith)
 function-text : (k x : ℕ) (b : Form) (u : List ℕ) → k ≤ 1
     → nextText k (function x b) u ≡ before (eqb k 1) (function x b) (textOf b ++ (cond (eqb k 1) (bytes ")") [] ++ u))
 unfolding before textOf
-function-text zero x b u h = after-three (bytes "\\") (unpacked x) (bytes " -> ") (textOf b) u
+function-text zero x b u h = after-three (bytes "\\") (unpacked (nameIn x)) (bytes " -> ") (textOf b) u
 function-text (suc zero) x b u h =
     after-two (bytes "(") (textOf (function x b)) (bytes ")") u
-    ∙ ap (λ (l : List ℕ). bytes "(" ++ l) (after-three (bytes "\\") (unpacked x) (bytes " -> ") (textOf b) (bytes ")" ++ u))
+    ∙ ap (λ (l : List ℕ). bytes "(" ++ l) (after-three (bytes "\\") (unpacked (nameIn x)) (bytes " -> ") (textOf b) (bytes ")" ++ u))
 function-text (suc (suc k)) x b u h = absurd (omega arith)
 
 ask-text : (k : ℕ) (m : Member) (f : Form) (u : List ℕ) → k ≤ 1
@@ -207,9 +207,9 @@ call-text k r m f a u h =
     ∙ ap (λ (l : List ℕ). asReceiver f (textOf f) ++ l) (after-four (bytes ".") (spelled m) (bytes "(") (textOf a) (bytes ")") u)
 
 before-function : (r : Bool) (x : ℕ) (b : Form) (u : List ℕ)
-    → before r (function x b) u ≡ (cond r (bytes "(") [] ++ (bytes "\\" ++ (unpacked x ++ bytes " -> "))) ++ u
+    → before r (function x b) u ≡ (cond r (bytes "(") [] ++ (bytes "\\" ++ (unpacked (nameIn x) ++ bytes " -> "))) ++ u
 unfolding before
-before-function r x b u = sym (after-three (cond r (bytes "(") []) (bytes "\\") (unpacked x) (bytes " -> ") u)
+before-function r x b u = sym (after-three (cond r (bytes "(") []) (bytes "\\") (unpacked (nameIn x)) (bytes " -> ") u)
 
 before-call : (r : Bool) (m : Member) (f a : Form) (u : List ℕ) → before r (call m f a) u ≡ asReceiver f (textOf f) ++ ((memberBytes (Is m) ++ bytes "(") ++ u)
 unfolding before memberBytes
@@ -294,9 +294,9 @@ module _ {links cells : List ℕ} {count low : ℕ} {s : Spot} {pending out : Li
         let g = v .first in
         let l = first-low e (at e) (r .table .right e (r .entry)) in
         let b : j ≡ v .body = omega arith in
-        let f : ψ e ≡ function (at e .key) (ψ j) = r .table .forms e (r .entry) ∙ rw b (v .form ψ) in
+        let f : ψ e ≡ function (variableIn (at e)) (ψ j) = r .table .forms e (r .entry) ∙ rw b (v .form ψ) in
         opened x (s .turn) xk entering j (omega arith) (inl k) (cond (eqb (s .turn) 1) (41 ∷ []) []) at′ out′ (rw q at p)
-        (λ u. rw f (function-text (s .turn) (at e .key) (ψ j) u entering))
+        (λ u. rw f (function-text (s .turn) (variableIn (at e)) (ψ j) u entering))
 
     pub enter-call : (at e .kind ≡ functionKind → ⊥) → 1 ≤ at e .second → (x j at′ : ℕ) (out′ : List ℕ) → x ≡ 2 * e
         → j ≡ at e .second - 1 → Puts low (41 ∷ []) (s .at) out at′ out′
@@ -396,7 +396,7 @@ module _ {links cells : List ℕ} {count low : ℕ} {s : Spot} {pending out : Li
       unfolding bytes unpackOnto
       leave-function e wanted q key at₁ at₂ at₃ at₄ out₁ out₂ out₃ out₄ ke p₁ p₂ p₃ p₄ =
           let v = function-node (fine i leave-held) e in
-          let f : ψ i ≡ function (at i .key) (ψ (v .body)) = r .table .forms i leave-held ∙ v .form ψ in
+          let f : ψ i ≡ function (variableIn (at i)) (ψ (v .body)) = r .table .forms i leave-held ∙ v .form ψ in
           let w : List ℕ = cond (eqb (x % 2) 1) (40 ∷ []) [] ++ ((92 ∷ []) ++ (unpacked (at i .key) ++ (32 ∷ 45 ∷ 62 ∷ 32 ∷ []))) in
           let some : 1 ≤ length w =
           rw (length-append (cond (eqb (x % 2) 1) (40 ∷ []) []) ((92 ∷ []) ++ (unpacked (at i .key) ++ (32 ∷ 45 ∷ 62 ∷ 32 ∷ [])))) (omega arith) in
@@ -404,7 +404,7 @@ module _ {links cells : List ℕ} {count low : ℕ} {s : Spot} {pending out : Li
           let l = length-stack pending k in
           moves r (omega arith) w (record { at = at₄; depth = k; entry = i; turn = 2 }) pending out₄
           (puts-both (puts-both (puts-both p₁ (rw ke at p₂)) p₃) (rw q at p₄)) (r .list) (omega arith) leave-held (omega arith) (waiting .1)
-          (λ u. popped u ∙ ap (around ψ under) (rw f (before-function (eqb (x % 2) 1) (at i .key) (ψ (v .body)) u)))
+          (λ u. popped u ∙ ap (around ψ under) (rw f (rw (v .name) at (before-function (eqb (x % 2) 1) (variableIn (at i)) (ψ (v .body)) u))))
           (inl some)
 
       pub leave-call : (at i .kind ≡ functionKind → ⊥) → (j at₁ at₂ : ℕ) (out₁ out₂ : List ℕ) → j ≡ at i .first - 1

@@ -40,11 +40,11 @@ impl Cache {
         proved::work(recording, &self.links, &mut self.cells, entry, u32::MAX)
     }
 
-    /// A new entry; each dependency is an entry's number.
+    /// A new entry, of level 0 if it has one; each dependency is an entry's number.
     fn put(&mut self, kind: u16, key: u64, first: Option<u16>, second: Option<u16>) -> u16 {
         let i = self.heads[0] as usize;
         let link = |dependency: Option<u16>| dependency.map_or(0, |d| d + 1);
-        self.links[3 * i..3 * i + 3].copy_from_slice(&[kind, link(first), link(second)]);
+        self.links[4 * i..4 * i + 4].copy_from_slice(&[kind, link(first), link(second), 0]);
         self.cells[4 * i..4 * i + 4].copy_from_slice(&[key, 0, 0, 0]);
         self.heads[0] += 1;
         i as u16
@@ -165,7 +165,7 @@ impl Cache {
     pub fn restore(&mut self, earlier: &Cache) {
         let count = earlier.heads[0] as usize;
         self.heads = earlier.heads;
-        self.links[..3 * count].copy_from_slice(&earlier.links[..3 * count]);
+        self.links[..4 * count].copy_from_slice(&earlier.links[..4 * count]);
         self.cells[..4 * count].copy_from_slice(&earlier.cells[..4 * count]);
     }
 }

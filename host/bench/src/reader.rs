@@ -45,13 +45,14 @@ pub trait Builder {
     ) -> Self::Part;
 }
 
-/// A number, a name that no let binds, the recording, a function with its name and body, or a member with its receiver and argument.
+/// A number, a variable with its name and level, an unbound name, the recording, a function with its name, level and body, or a member with
+/// its receiver and argument.
 pub enum Node<P> {
     Number(i32),
-    Variable(u64),
+    Variable(u64, usize),
     Unbound(u64),
     Data,
-    Function(u64, P),
+    Function(u64, usize, P),
     Member(Member, P, Option<P>),
 }
 
@@ -75,19 +76,20 @@ impl Builder for Output {
 
     /// A link is one more than a record, 0 for none.
     fn part(&mut self, place: usize, node: Node<usize>) -> usize {
-        let (kind, key, first, second) = match node {
-            Node::Number(value) => (0, (i64::from(value) + (1 << 31)) as u64, 0, 0),
-            Node::Variable(name) => (VARIABLE, name, 0, 0),
-            Node::Unbound(name) => (UNBOUND, name, 0, 0),
-            Node::Data => (RECORDING, 0, 0, 0),
-            Node::Function(name, body) => (FUNCTION, name, body + 1, 0),
+        let (kind, key, first, second, level) = match node {
+            Node::Number(value) => (0, (i64::from(value) + (1 << 31)) as u64, 0, 0, 0),
+            Node::Variable(name, level) => (VARIABLE, name, 0, 0, level),
+            Node::Unbound(name) => (UNBOUND, name, 0, 0, 0),
+            Node::Data => (RECORDING, 0, 0, 0, 0),
+            Node::Function(name, level, body) => (FUNCTION, name, body + 1, 0, level),
             Node::Member(member, receiver, argument) => {
                 let second = argument.map_or(0, |record| record + 1);
-                (member.kind().into(), 0, receiver + 1, second)
+                (member.kind().into(), 0, receiver + 1, second, 0)
             }
         };
         let n = self.count;
-        self.records[2 * n] = kind | (first as u64) << 5 | (second as u64) << 13;
+        self.records[2 * n] =
+            kind | (first as u64) << 5 | (second as u64) << 13 | (level as u64) << 21;
         self.records[2 * n + 1] = key;
         self.places[place] = n as u16;
         self.count += 1;
@@ -133,10 +135,10 @@ struct Token {
     end: usize,
 }
 
-/// What a name stands for: a lambda's variable, or a let's value.
+/// What a name stands for: a lambda's variable, with its level, or a let's value.
 #[derive(Clone, Copy)]
 enum Binder<B> {
-    Variable,
+    Variable(usize),
     Value(B),
 }
 
@@ -318,7 +320,7 @@ impl<B: Builder> Reader<'_, B> {
     }
 
     /// A name that is bound.
-    fn binder(&mut self, is_lambda: bool) -> Step<u64> {
+    fn binder(&mut self) -> Step<u64> {
         if self.token.kind != Kind::Word {
             return self.refuse(5);
         }
@@ -330,11 +332,6 @@ impl<B: Builder> Reader<'_, B> {
             return self.refuse(8);
         }
         let key = packed(word);
-        let taken =
-            |(name, binder): &(u64, Binder<_>)| *name == key && matches!(binder, Binder::Variable);
-        if is_lambda && self.scope.iter().any(taken) {
-            return self.refuse(11);
-        }
         self.advance();
         Ok(key)
     }
@@ -343,7 +340,7 @@ impl<B: Builder> Reader<'_, B> {
         self.open_mark()?;
         let place = self.part()?;
         self.advance();
-        let name = self.binder(false)?;
+        let name = self.binder()?;
         self.expect(Kind::Equals)?;
         let value = self.expression(false)?;
         self.expect(Kind::In)?;
@@ -360,16 +357,17 @@ impl<B: Builder> Reader<'_, B> {
         }
         self.open_mark()?;
         let place = self.part()?;
+        let level = self.lambdas;
         self.lambdas += 1;
         self.advance();
-        let name = self.binder(true)?;
+        let name = self.binder()?;
         self.expect(Kind::Arrow)?;
-        self.scope.push((name, Binder::Variable));
+        self.scope.push((name, Binder::Variable(level)));
         let body = self.expression(false)?;
         self.scope.pop();
         self.lambdas -= 1;
         self.marks -= 1;
-        Ok(self.builder.part(place, Node::Function(name, body)))
+        Ok(self.builder.part(place, Node::Function(name, level, body)))
     }
 
     fn bracket(&mut self) -> Step<B::Part> {
@@ -397,7 +395,9 @@ impl<B: Builder> Reader<'_, B> {
         }
         Ok(match self.scope.iter().rev().find(|(name, _)| *name == key) {
             Some((_, Binder::Value(bound))) => self.builder.used(place, key, *bound),
-            Some((_, Binder::Variable)) => self.builder.part(place, Node::Variable(key)),
+            Some((_, Binder::Variable(level))) => {
+                self.builder.part(place, Node::Variable(key, *level))
+            }
             None => self.builder.part(place, Node::Unbound(key)),
         })
     }

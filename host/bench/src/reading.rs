@@ -78,6 +78,7 @@ pub fn measure(figures: &mut Figures) {
         texts::long_chain(),
         texts::long_chain_with_arguments(),
         texts::chain_in_calls(),
+        texts::hidden(),
     ] {
         assert!(agree(&text).is_ok());
         agree_on_damaged(&text, 2_000);

@@ -22,14 +22,16 @@ struct Node {
     key: u64,
     first: u16,
     second: u16,
+    level: u16,
 }
 
 fn node_at(links: &[u16], cells: &[u64], i: usize) -> Node {
     Node {
-        kind: links[3 * i],
+        kind: links[4 * i],
         key: cells[4 * i],
-        first: links[3 * i + 1],
-        second: links[3 * i + 2],
+        first: links[4 * i + 1],
+        second: links[4 * i + 2],
+        level: links[4 * i + 3],
     }
 }
 
@@ -67,18 +69,22 @@ fn is_right(node: Node, i: usize) -> bool {
         1 => given == (1, 0),
         _ => given == (1, 1),
     };
-    key && links && usize::from(node.first) <= i && usize::from(node.second) <= i
+    let level = node.level <= u16::from(matches!(node.kind, VARIABLE | FUNCTION));
+    key && links && level && usize::from(node.first) <= i && usize::from(node.second) <= i
 }
+
+/// A variable's name and level.
+type Name = (u64, u16);
 
 /// At most two names.
 #[derive(Clone, Copy, Default)]
 struct Names {
-    list: [u64; 2],
+    list: [Name; 2],
     count: usize,
 }
 
 impl Names {
-    fn add(&mut self, name: u64) -> bool {
+    fn add(&mut self, name: Name) -> bool {
         if self.list[..self.count].contains(&name) {
             return true;
         }
@@ -90,7 +96,7 @@ impl Names {
         true
     }
 
-    fn without(self, name: u64) -> Names {
+    fn without(self, name: Name) -> Names {
         let mut names = Names::default();
         for &other in self.list[..self.count].iter().filter(|&&other| other != name) {
             names.add(other);
@@ -103,8 +109,8 @@ impl Names {
 fn awaited(names: &[Names], node: Node) -> Option<Names> {
     let of = |link: u16| names[usize::from(link) - 1];
     match (node.kind, ARITIES[usize::from(node.kind)]) {
-        (VARIABLE, _) => Some(Names { list: [node.key, 0], count: 1 }),
-        (FUNCTION, _) => Some(of(node.first).without(node.key)),
+        (VARIABLE, _) => Some(Names { list: [(node.key, node.level), (0, 0)], count: 1 }),
+        (FUNCTION, _) => Some(of(node.first).without((node.key, node.level))),
         (_, 0) => Some(Names::default()),
         (_, 1) => Some(of(node.first)),
         _ => {
@@ -136,14 +142,14 @@ fn is_kept_right(links: &[u16], cells: &[u64], i: usize, readings: u32) -> bool 
     };
     let is_done = |link: u16| {
         let j = usize::from(link);
-        j == 0 || links[3 * (j - 1)] < FUNCTION || cells[4 * (j - 1) + 1] != 0
+        j == 0 || links[4 * (j - 1)] < FUNCTION || cells[4 * (j - 1) + 1] != 0
     };
     names
         && (value == 0
-            || links[3 * i] >= FUNCTION
+            || links[4 * i] >= FUNCTION
                 && is_packed(value, readings)
-                && is_done(links[3 * i + 1])
-                && is_done(links[3 * i + 2]))
+                && is_done(links[4 * i + 1])
+                && is_done(links[4 * i + 2]))
 }
 
 pub fn is_well_formed(heads: &[u32], links: &[u16], cells: &[u64]) -> bool {
@@ -185,6 +191,7 @@ pub fn bind(links: &[u16], cells: &[u64], count: u16, records: &[u64; 256], n: u
             key: record[1],
             first: entry(record[0] >> 5),
             second: entry(record[0] >> 13),
+            level: (record[0] >> 21) as u16,
         };
         let number = match entries.entry(node) {
             Entry::Occupied(found) => *found.get(),

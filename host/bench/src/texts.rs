@@ -66,6 +66,11 @@ fn padded(text: String) -> Vec<u8> {
     bytes
 }
 
+/// Functions that hide one another, with a let between them.
+pub fn hidden() -> Vec<u8> {
+    br"data.sumBy(\a -> let x = a in data.sumBy(\a -> x.add(a)).add((\b -> b).sum()))".to_vec()
+}
+
 /// 16 open marks, each a call's bracket.
 pub fn nested_calls() -> Vec<u8> {
     ("data.skip(".repeat(16) + "1" + &")".repeat(16)).into_bytes()

@@ -23,9 +23,9 @@ impl Builder for Trees {
     fn part(&mut self, _place: usize, node: Node<Box<Tree>>) -> Box<Tree> {
         Box::new(match node {
             Node::Number(value) => Tree::Number(value),
-            Node::Variable(name) | Node::Unbound(name) => Tree::Name(name),
+            Node::Variable(name, _) | Node::Unbound(name) => Tree::Name(name),
             Node::Data => Tree::Data,
-            Node::Function(name, body) => Tree::Function(name, body),
+            Node::Function(name, _, body) => Tree::Function(name, body),
             Node::Member(member, receiver, argument) => Tree::Member(member, receiver, argument),
         })
     }

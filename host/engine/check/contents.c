@@ -29,12 +29,12 @@ static unsigned deepest(void)
     return most;
 }
 
-/* Any kinds, links and names, each below a bound. */
-static unsigned any_contents(uint64_t kinds, uint64_t links, uint64_t names)
+/* Any kinds, links, levels and names, each below a bound. */
+static unsigned any_contents(uint64_t kinds, uint64_t links, uint64_t levels, uint64_t names)
 {
     size_t at;
     for (at = 0; at < FORMULA_LINKS_CELLS; at++) {
-        cache.links[at] = (uint16_t)(draw() % (at % 3 == 0 ? kinds : links));
+        cache.links[at] = (uint16_t)(draw() % (at % 4 == 0 ? kinds : at % 4 == 3 ? levels : links));
     }
     for (at = 0; at < FORMULA_CELLS_CELLS; at++) {
         cache.cells[at] = draw() % names;
@@ -42,27 +42,33 @@ static unsigned any_contents(uint64_t kinds, uint64_t links, uint64_t names)
     return deepest();
 }
 
-/* Variables, functions, windows and runs of two names, mostly over entries shortly before: many await three names. */
+/*
+ * Variables, functions, windows and runs of two names and two levels, mostly over entries shortly before: many await
+ * three variables.
+ */
 static unsigned any_runs(void)
 {
     static const uint16_t kinds[] = {1, 3, 4, 4, 12, 20, 20};
     size_t at;
     for (at = 0; at < FORMULA_LINKS_CELLS; at++) {
-        cache.links[at] = at % 3 == 0 ? kinds[draw() % 7] : (uint16_t)(at / 3 - draw() % 6);
+        cache.links[at] = at % 4 == 0   ? kinds[draw() % 7]
+                          : at % 4 == 3 ? (uint16_t)(draw() % 2)
+                                        : (uint16_t)(at / 4 - draw() % 6);
     }
     for (at = 0; at < FORMULA_CELLS_CELLS; at++) {
-        cache.cells[at] = draw() % 3;
+        cache.cells[at] = draw() % 2;
     }
     return deepest();
 }
 
-/* One more entry; a dependency is one more than its number. */
+/* One more entry, of level 0; a dependency is one more than its number. */
 static void put(uint16_t kind, uint64_t key, uint32_t first, uint32_t second)
 {
     uint32_t at = cache.heads[0]++;
-    cache.links[3 * at] = kind;
-    cache.links[3 * at + 1] = (uint16_t)first;
-    cache.links[3 * at + 2] = (uint16_t)second;
+    cache.links[4 * at] = kind;
+    cache.links[4 * at + 1] = (uint16_t)first;
+    cache.links[4 * at + 2] = (uint16_t)second;
+    cache.links[4 * at + 3] = 0;
     cache.cells[4 * at] = key;
 }
 
@@ -93,7 +99,9 @@ int main(int argc, char **argv)
     memset(&cache, 0xff, sizeof cache);
     printf("all bits set: %u\n", deepest());
     for (round = 0; round < 300; round++) {
-        unsigned depth = any_contents(round % 2 == 0 ? unknown + 1 : 65536, round % 3 == 0 ? 514 : 65536, 3);
+        uint64_t kinds = round % 2 == 0 ? unknown + 1 : 65536;
+        uint64_t links = round % 3 == 0 ? 514 : 65536;
+        unsigned depth = any_contents(kinds, links, round % 5 == 0 ? 65536 : 3, 3);
         any = any > depth ? any : depth;
         depth = any_runs();
         runs = runs > depth ? runs : depth;

@@ -356,12 +356,12 @@ fn check_written(before: &Memory, call: &Call, answer: &Answer, after: &Memory) 
     assert!(difference.is_none(), "{call:?}, answered {answer:?}, wrote {difference:?}");
 }
 
-/// The new entries have any links and keys, and keep nothing.
+/// The new entries have any links, keys and levels, and keep nothing.
 fn add_entries(expected: &mut Memory, new: u32, after: &Memory) {
     let held = expected.entries();
     expected.heads[0] += new;
     for entry in held..expected.entries() {
-        let links = 3 * entry..3 * entry + 3;
+        let links = 4 * entry..4 * entry + 4;
         expected.links[links.clone()].copy_from_slice(&after.links[links]);
         expected.cells[4 * entry..4 * entry + 4].copy_from_slice(&[after.key(entry), 0, 0, 0]);
     }

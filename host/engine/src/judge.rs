@@ -1,7 +1,7 @@
-//! Refusal 4, clause by clause of 01, over the arrangement of docs/MEMORY.md.
+//! Refusal 4, clause by clause of 01 and of 02, T-05, over the arrangement of docs/MEMORY.md.
 //!
-//! The arrangement has cells that stand for nothing: a key or a link where the kind
-//! has none, names that the result does not show, a kept result on an entry that is
+//! The arrangement has cells that stand for nothing: a key, a link or a level where the
+//! kind has none, names that the result does not show, a kept result on an entry that is
 //! worked out from the start. They are ill-formed too (docs/DECISIONS.md).
 
 use crate::memory::*;
@@ -19,7 +19,8 @@ pub fn is_well_formed(memory: &Memory) -> bool {
         && (0..memory.entries()).all(|entry| is_kept_right(memory, entry))
 }
 
-/// A known kind, a right key, the right number of dependencies, all of them lower.
+/// A known kind, a right key, a right level, the right number of dependencies, all of them
+/// lower.
 fn is_entry(memory: &Memory, entry: usize) -> bool {
     let key = memory.key(entry);
     let (has_right_key, dependencies) = match memory.kind(entry) {
@@ -32,11 +33,13 @@ fn is_entry(memory: &Memory, entry: usize) -> bool {
             None => return false,
         },
     };
-    let links = &memory.links[3 * entry + 1..3 * entry + 3];
+    let has_level = matches!(memory.kind(entry), VARIABLE | FUNCTION);
+    let has_right_level = memory.level(entry) <= u16::from(has_level);
+    let links = &memory.links[4 * entry + 1..4 * entry + 3];
     let given = links.iter().take_while(|link| **link > 0).count();
     let is_rest_empty = links[given..].iter().all(|link| *link == 0);
     let are_lower = links.iter().all(|link| usize::from(*link) <= entry);
-    has_right_key && given == dependencies && is_rest_empty && are_lower
+    has_right_key && has_right_level && given == dependencies && is_rest_empty && are_lower
 }
 
 fn is_name(packed: u64) -> bool {
@@ -47,25 +50,28 @@ fn is_name(packed: u64) -> bool {
 }
 
 fn are_distinct(memory: &Memory) -> bool {
-    let node = |entry: usize| (memory.kind(entry), memory.key(entry), memory.dependencies(entry));
+    let node = |entry: usize| {
+        let (kind, key, level) = (memory.kind(entry), memory.key(entry), memory.level(entry));
+        (kind, key, level, memory.dependencies(entry))
+    };
     let mut nodes = HashSet::new();
     (0..memory.entries()).all(|entry| nodes.insert(node(entry)))
 }
 
-/// No entry awaits over two names.
+/// No entry awaits over two names, counted with their levels.
 fn await_few(memory: &Memory) -> bool {
-    let mut awaited: Vec<Vec<u64>> = Vec::new();
+    let mut awaited: Vec<Vec<(u64, u16)>> = Vec::new();
     for entry in 0..memory.entries() {
-        let key = memory.key(entry);
-        let mut names: Vec<u64> = Vec::new();
+        let own = (memory.key(entry), memory.level(entry));
+        let mut names: Vec<(u64, u16)> = Vec::new();
         for name in memory.dependencies(entry).iter().flat_map(|below| &awaited[*below]) {
             if !names.contains(name) {
                 names.push(*name);
             }
         }
         match memory.kind(entry) {
-            VARIABLE => names.push(key),
-            FUNCTION => names.retain(|name| *name != key),
+            VARIABLE => names.push(own),
+            FUNCTION => names.retain(|name| *name != own),
             _ => (),
         }
         if names.len() > 2 {

@@ -2,13 +2,13 @@
 
 use plain::form::{Form, Forms};
 use plain::member::Member;
-use plain::name::Name;
+use plain::name::{Name, Variable};
 use plain::shown::{Shown, Window};
 use std::collections::BTreeMap;
 
 pub const READINGS: usize = 1024;
 pub const HEADS: usize = 2;
-pub const LINKS: usize = 1536;
+pub const LINKS: usize = 2048;
 pub const CELLS: usize = 2048;
 
 /// Kinds of entries: below `FUNCTION` those worked out from the start, from `MEMBERS`
@@ -59,7 +59,12 @@ impl Memory {
     }
 
     pub fn kind(&self, entry: usize) -> u16 {
-        self.links[3 * entry]
+        self.links[4 * entry]
+    }
+
+    /// The level of a variable or a function; 0 for all others.
+    pub fn level(&self, entry: usize) -> u16 {
+        self.links[4 * entry + 3]
     }
 
     pub fn key(&self, entry: usize) -> u64 {
@@ -81,7 +86,7 @@ impl Memory {
 
     /// The numbers of an entry's dependencies.
     pub fn dependencies(&self, entry: usize) -> Vec<usize> {
-        let links = self.links[3 * entry + 1..3 * entry + 3].iter();
+        let links = self.links[4 * entry + 1..4 * entry + 3].iter();
         links.filter(|link| **link > 0).map(|link| usize::from(*link) - 1).collect()
     }
 
@@ -97,12 +102,13 @@ impl Memory {
 
     fn form(&self, entry: usize) -> Form {
         let key = self.key(entry);
+        let variable = || Variable { name: name(key), level: self.level(entry).into() };
         match self.kind(entry) {
             NUMBER => Form::Number((key as i64 - (1 << 31)) as i32),
-            VARIABLE => Form::Variable(name(key)),
+            VARIABLE => Form::Variable(variable()),
             UNBOUND => Form::Unbound(name(key)),
             DATA => Form::Data,
-            FUNCTION => Form::Function(name(key), self.dependencies(entry)[0]),
+            FUNCTION => Form::Function(variable(), self.dependencies(entry)[0]),
             kind => Form::Member(member(kind).expect("a known kind"), self.dependencies(entry)),
         }
     }

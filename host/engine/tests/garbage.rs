@@ -8,7 +8,7 @@ use engine::cache::Cache;
 use engine::compare::Pair;
 use engine::damage::{damage, made_up, with_spare};
 use engine::judge::is_well_formed;
-use engine::memory::{FUNCTION, MEMBERS, Memory, first_unknown};
+use engine::memory::{FUNCTION, MEMBERS, Memory, VARIABLE, first_unknown, name};
 use plain::bind::bind;
 use plain::eval::Evaluation;
 use plain::form::{Form, Forms};
@@ -17,13 +17,14 @@ use plain::model::{Answer, Call};
 use plain::print;
 use plain::random::formula::{formula, join};
 use plain::random::limit::wide;
+use plain::random::pasted::pasted;
 use plain::random::rng::Rng;
 use plain::random::{are_affordable, bytes_to_lend, session};
-use plain::refusal::{NO_SUCH_ENTRY, TABLE_FULL};
+use plain::refusal::{NO_SUCH_ENTRY, OTHER_FORM, TABLE_FULL};
 use plain::samples::{ALL, RECORDING, edit, open, preview};
 use plain::shown::Shown;
 use plain::syntax::parse;
-use plain::tally::{ROUNDED_BELOW_0, Tally};
+use plain::tally::{DELAYED_TWICE, ROUNDED_BELOW_0, Tally};
 
 const ILL_FORMED: Answer = Answer::Refused { number: 4, place: 0 };
 
@@ -148,7 +149,11 @@ fn check_print(memory: &Memory, entry: u32, bytes: Vec<u8>) -> Answer {
 fn check(rng: &mut Rng, memory: &Memory, tally: &mut Tally) {
     let memory = &if rng.one_in(4) { with_spare(rng, memory) } else { memory.clone() };
     let tokens = formula(rng);
-    let text = if rng.one_in(4) { wide(rng) } else { join(rng, &tokens) };
+    let text = match rng.below(4) {
+        0 => wide(rng),
+        1 => pasted(rng),
+        _ => join(rng, &tokens),
+    };
     tally.count(&check_edit(memory, &text));
     let held = memory.heads[0];
     let entry = match rng.below(8) {
@@ -186,6 +191,31 @@ fn damaged_caches() {
     tally.check(&["printed", "refused 15", "refused 16"], 100);
 }
 
+/// Each level that a session leaves, changed to the other one and to one too high, and a level
+/// where there is none.
+#[test]
+fn changed_levels() {
+    let mut tally = Tally::default();
+    for seed in 0..40 {
+        let mut rng = Rng::new(seed);
+        let mut pair = Pair::new(seed);
+        session(4_000_000 + seed, 40).iter().for_each(|call| drop(pair.call(call)));
+        let memory = pair.cache.memory();
+        for entry in 0..memory.entries() {
+            let has_level = [VARIABLE, FUNCTION].contains(&memory.kind(entry));
+            let mut changed = memory.clone();
+            changed.links[4 * entry + 3] ^= 1;
+            if has_level {
+                check(&mut rng, &changed, &mut tally);
+                changed.links[4 * entry + 3] = 2 + rng.below(65_534) as u16;
+            }
+            assert_eq!(check_edit(&changed, b"data"), ILL_FORMED);
+        }
+    }
+    tally.check(&["refused 4", "edited", "printed"], 100);
+    tally.check(&["refused 16", "delayed 1"], 30);
+}
+
 #[test]
 fn made_up_caches() {
     let mut tally = Tally::default();
@@ -196,6 +226,7 @@ fn made_up_caches() {
     }
     tally.check(&["refused 4", "refused 14", "edited", "not yet", "number", "window"], 100);
     tally.check(&["function", "delayed 1", "delayed 2", "missing 1", "missing 2"], 5);
+    tally.check(&[DELAYED_TWICE], 5);
     tally.check(&["printed", "refused 15", "refused 16"], 100);
     tally.check_rules(&[("bestSum", "number"), ("bestAt", "number")], 5);
     tally.check_rules(&[("bestSum", "missing 4"), ("bestSum", "missing 5")], 5);
@@ -241,21 +272,22 @@ fn counts_beyond_the_limits() {
     }
 }
 
-/// Entries 0 data, 1 number, 2 `data.skip(1)`, 3 variable b, 4 variable a, 5 `b.add(a)`,
-/// 6 and 7 the functions around it, 8 `data.sumBy(7)`, 9 an unbound name. All are
-/// worked out, and behind them stands the entry 10, `data.count()`, which is not.
+/// Entries 0 data, 1 number, 2 `data.skip(1)`, 3 and 4 variables b of level 0 and 1, which
+/// differ in that alone, 5 `b.add(x)` of the two, 6 and 7 the functions around it, 8
+/// `data.sumBy(7)`, 9 an unbound name. All are worked out, and behind them stands the entry
+/// 10, `data.count()`, which is not.
 fn used() -> Cache {
     let mut cache = Cache::new(&Memory::filled(|| 0));
     cache.call(&open(&RECORDING));
     cache.call(&edit("data.skip(1)"));
-    cache.call(&edit("data.sumBy(\\a -> \\b -> b.add(a))"));
+    cache.call(&edit("data.sumBy(\\b -> let x = b in \\b -> b.add(x))"));
     cache.call(&preview(8, ALL));
     cache.call(&edit("nobody"));
     cache.call(&edit("data.count()"));
     cache
 }
 
-/// A change of one cell: in `links` at 3 x entry + at, or in `cells` at 4 x entry + at.
+/// A change of one cell: in `links` or in `cells`, at 4 x entry + at.
 #[derive(Clone, Copy)]
 enum Change {
     Link(usize, usize, u16),
@@ -265,7 +297,7 @@ enum Change {
 fn changed(change: Change) -> Memory {
     let mut memory = used().memory();
     match change {
-        Change::Link(entry, at, value) => memory.links[3 * entry + at] = value,
+        Change::Link(entry, at, value) => memory.links[4 * entry + at] = value,
         Change::Cell(entry, at, value) => memory.cells[4 * entry + at] = value,
     }
     memory
@@ -298,7 +330,17 @@ fn clauses_of_refusal_4() {
         ("depends on itself", Link(10, 1, 11)),
         ("depends on a higher entry", Link(2, 1, 9)),
         ("depends on no entry", Link(10, 1, u16::MAX)),
-        ("equal entries twice", Cell(4, 0, 0x62)),
+        ("equal entries twice, of level 0", Link(4, 3, 0)),
+        ("equal entries twice, of level 1", Link(3, 3, 1)),
+        ("a variable of level 2", Link(4, 3, 2)),
+        ("a variable far over level 1", Link(3, 3, u16::MAX)),
+        ("a function of level 2", Link(6, 3, 2)),
+        ("a function far over level 1", Link(7, 3, 256)),
+        ("a number with a level", Link(1, 3, 1)),
+        ("an unbound name with a level", Link(9, 3, 1)),
+        ("the recording with a level", Link(0, 3, 1)),
+        ("a member with a level", Link(2, 3, 1)),
+        ("a member with a level over 1", Link(10, 3, 2)),
         ("a kept number beyond 32 bits", Cell(2, 1, (1 << 32) + 1)),
         ("a kept window beyond the recording", Cell(2, 1, (1 << 33) + 65_536 + 5)),
         ("a kept window from beyond the recording", Cell(2, 1, (1 << 33) + 6 * 65_536)),
@@ -355,17 +397,21 @@ fn kinds_of_members() {
     }
 }
 
-/// An entry that awaits three names, by a third variable that is added to two others.
+/// An entry that awaits three names, by a third variable that is added to two others. Names
+/// are counted with their levels: the first two have one spelling.
 #[test]
 fn three_awaited_names_are_refused() {
     let mut memory = used().memory();
     memory.heads[0] = 13;
-    memory.links[33..39].copy_from_slice(&[1, 0, 0, 5, 6, 12]);
+    memory.links[44..52].copy_from_slice(&[VARIABLE, 0, 0, 0, MEMBERS, 6, 12, 0]);
     memory.cells[44..52].copy_from_slice(&[0x63, 0, 0, 0, 0, 0, 0, 0]);
-    assert!(!is_well_formed(&memory));
-    assert_eq!(check_edit(&memory, b"data"), ILL_FORMED);
-    assert_eq!(check_print(&memory, 0, vec![0; 4]), ILL_FORMED);
-    memory.links[37] = 4;
+    for level in [0, 1] {
+        memory.links[47] = level;
+        assert!(!is_well_formed(&memory));
+        assert_eq!(check_edit(&memory, b"data"), ILL_FORMED);
+        assert_eq!(check_print(&memory, 0, vec![0; 4]), ILL_FORMED);
+    }
+    memory.links[49] = 4;
     assert!(is_well_formed(&memory));
     check_print(&memory, 12, vec![0; 100]);
     assert!(matches!(check_edit(&memory, b"data"), Answer::Edited { whole: 0, new: 0, .. }));
@@ -374,7 +420,7 @@ fn three_awaited_names_are_refused() {
 /// Contents at the limits that are not refused.
 #[test]
 fn good_contents_at_the_limits() {
-    use Change::Cell;
+    use Change::{Cell, Link};
     let contents = [
         Cell(0, 0, 0),
         Cell(1, 0, (1 << 32) - 1),
@@ -392,6 +438,10 @@ fn good_contents_at_the_limits() {
         Cell(6, 2, 0x7a),
         Cell(6, 3, 0x7a),
         Cell(8, 1, 0),
+        Link(6, 3, 0),
+        Link(7, 3, 1),
+        Cell(3, 0, 0x61),
+        Cell(4, 0, 0x61),
     ];
     for change in contents {
         let memory = changed(change);
@@ -413,8 +463,8 @@ fn tower(kind: u16, key: u64, links: usize) -> Memory {
     memory.heads[0] = 512;
     memory.cells[0] = (1 << 31) + 1;
     for entry in 1..512 {
-        memory.links[3 * entry] = kind;
-        memory.links[3 * entry + 1..3 * entry + 1 + links].fill(entry as u16);
+        memory.links[4 * entry] = kind;
+        memory.links[4 * entry + 1..4 * entry + 1 + links].fill(entry as u16);
         memory.cells[4 * entry] = key;
     }
     assert!(is_well_formed(&memory));
@@ -440,5 +490,49 @@ fn prints_of_towers() {
             }
         }
         check_print(&memory, 512, vec![0; 4096]);
+    }
+}
+
+/// Two entries that differ in level only are two: a function of level 0 around one of level 1
+/// is printed, and one of level 0 around one of level 0, or 1 around 1, is not.
+#[test]
+fn levels_of_functions_in_one_another() {
+    for (inner, outer) in [(0, 0), (0, 1), (1, 0), (1, 1)] {
+        let mut memory = tower(FUNCTION, 0x61, 1);
+        memory.heads[0] = 3;
+        memory.links[7] = inner;
+        memory.links[11] = outer;
+        assert!(is_well_formed(&memory));
+        let printed = |text: &str| Answer::Printed { text: text.into() };
+        let other = Answer::Refused { number: OTHER_FORM, place: 0 };
+        let alone = if inner == 0 { printed("\\a -> 1") } else { other.clone() };
+        assert_eq!(check_print(&memory, 1, vec![0; 100]), alone);
+        let both = if (inner, outer) == (1, 0) { printed("\\a -> \\a -> 1") } else { other };
+        assert_eq!(check_print(&memory, 2, vec![0; 100]), both);
+        let (new, whole) = if (inner, outer) == (1, 0) { (0, 2) } else { (2 - inner, 4 - inner) };
+        let answer = check_edit(&memory, b"\\a -> \\a -> 1");
+        let expected = (u32::from(new), u32::from(whole));
+        assert!(
+            matches!(answer, Answer::Edited { new, whole, .. } if (new, whole) == expected),
+            "{answer:?}"
+        );
+    }
+}
+
+/// A function awaits all variables of its body but its own, by name and level: entry 6 is that
+/// of one of the two, and entry 7 that of the other or of the same.
+#[test]
+fn a_function_puts_its_own_variable_alone() {
+    for (level, is_own) in [(0, false), (1, true)] {
+        let mut memory = used().memory();
+        memory.links[27] = level;
+        memory.cells[25..28].fill(0);
+        (7..9).for_each(|entry| memory.cells[4 * entry + 1..4 * entry + 4].fill(0));
+        assert!(is_well_formed(&memory));
+        let delayed = Shown::Delayed(vec![name(0x62)]);
+        let expected = Answer::Finished { worked: 1, shown: delayed.clone() };
+        assert_eq!(check_preview(&memory, 6, ALL), expected);
+        let shown = if is_own { Shown::Function(name(0x62)) } else { delayed };
+        assert_eq!(check_preview(&memory, 7, ALL), Answer::Finished { worked: 2, shown });
     }
 }

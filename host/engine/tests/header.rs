@@ -31,7 +31,7 @@ fn layout() -> Vec<(&'static str, usize)> {
         ("sizeof formula_edit_answer", size_of::<EditAnswer>()),
         ("sizeof formula_preview_answer", size_of::<PreviewAnswer>()),
         ("sizeof formula_print_answer", size_of::<PrintAnswer>()),
-        ("sizeof formula_cache", 23_560),
+        ("sizeof formula_cache", 24_584),
         ("formula_edit_answer.refusal", offset_of!(EditAnswer, refusal)),
         ("formula_edit_answer.place", offset_of!(EditAnswer, place)),
         ("formula_edit_answer.whole", offset_of!(EditAnswer, whole)),
@@ -186,7 +186,8 @@ fn the_assertions_refuse_other_sizes() {
     let folder = folder("asserts");
     let changes = [
         ("FORMULA_TABLE_ENTRIES 512", "FORMULA_TABLE_ENTRIES 511"),
-        ("FORMULA_CACHE_BYTES 23560", "FORMULA_CACHE_BYTES 23568"),
+        ("FORMULA_CACHE_BYTES 24584", "FORMULA_CACHE_BYTES 23560"),
+        ("FORMULA_LINKS_CELLS 2048", "FORMULA_LINKS_CELLS 1536"),
         ("FORMULA_HEADS_CELLS 2", "FORMULA_HEADS_CELLS 4"),
         ("uint32_t added;", "uint64_t added;"),
         ("int32_t first;", "int64_t first;"),
@@ -252,7 +253,7 @@ fn calls_from_c() {
         preview 0 1 1 5 5 0 [] []\n\
         edit 0 0 38 3 2: 37 38 0\n\
         preview 0 1 1 1 -4 0 [] []\n\
-        edit 0 0 42 5 4: 42 41 39 40 7\n\
+        edit 0 0 43 5 5: 43 42 39 41 40\n\
         preview 0 1 1 4 0 0 [abcdefgi] [abcdefgh]\n\
         edit 7 13 0 0 0:\n\
         edit 9 5 0 0 0:\n\
@@ -268,12 +269,20 @@ fn calls_from_c() {
         print 0 127 [data.sumBy(\\b -> data.take(b).longestRun(\\c -> c))\
             .add(data.countWhere(\\b -> data.take(b).longestRun(\\c -> c))).add(data.sum())##]\n\
         print 14 0 [##]\n\
-        edit 0 0 46 7 4: 46 44 43 44 46 45 44\n\
+        edit 0 0 47 7 4: 47 45 44 45 47 46 45\n\
         print 0 7 [\\a -> a##]\n\
-        print 15 0 [##]\n\
-        print 15 0 [##]\n\
-        edit 0 0 47 3 1: 44 43 47\n\
+        print 16 0 [##]\n\
+        print 16 0 [##]\n\
+        edit 0 0 48 3 1: 45 44 48\n\
         print 0 17 [(\\a -> a).count()##]\n\
+        edit 0 0 52 5 4: 52 1 51 50 49\n\
+        print 16 0 [##]\n\
+        print 0 25 [\\b -> data.sumBy(\\a -> a)##]\n\
+        edit 0 0 55 7 3: 55 54 44 54 44 53 49\n\
+        preview 0 1 1 4 0 0 [a] [a]\n\
+        preview 0 1 1 4 0 0 [a] []\n\
+        preview 0 1 1 3 0 0 [a] []\n\
+        depth 0\ndepth 1\n\
         depth 0\ndepth 0\n";
     assert_eq!(said("calls"), expected);
 }

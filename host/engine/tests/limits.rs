@@ -60,6 +60,8 @@ fn open_marks_of_a_text() {
 #[test]
 fn open_lambdas_of_a_text() {
     assert_eq!(parts("\\a -> \\b -> a.add(b)"), Ok(5));
+    assert_eq!(parts("\\a -> \\a -> a.add(a)"), Ok(5));
+    assert_eq!(parts("\\a -> \\a -> \\a -> 1"), Err((10, 12)));
     assert_eq!(parts("\\a -> \\b -> \\c -> 1"), Err((10, 12)));
 }
 

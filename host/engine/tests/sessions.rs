@@ -9,12 +9,13 @@ use plain::model::Answer;
 use plain::random::formula::{formula, join};
 use plain::random::limit::{grown, wide};
 use plain::random::nested::nested;
+use plain::random::pasted::pasted;
 use plain::random::rng::Rng;
 use plain::random::single::single;
 use plain::random::{is_affordable, session};
 use plain::refusal::TABLE_FULL;
 use plain::samples::{edit, open, preview, print};
-use plain::tally::{ROUNDED_BELOW_0, Tally};
+use plain::tally::{DELAYED_TWICE, OTHER_LEVELS, ROUNDED_BELOW_0, Tally};
 use std::thread;
 
 const CALLS_OF_SESSION: usize = 80;
@@ -208,12 +209,17 @@ fn extreme_recordings() {
             show(&mut pair, recording, text.as_bytes(), [1, 2, u32::MAX][at % 3]);
         }
         for _ in 0..150 {
-            let tokens = match rng.below(5) {
-                0 | 1 => formula(&mut rng),
-                2 | 3 => nested(&mut rng),
-                _ => single(&mut rng),
+            let text = match rng.below(6) {
+                5 => pasted(&mut rng),
+                kind => {
+                    let tokens = match kind {
+                        0 | 1 => formula(&mut rng),
+                        2 | 3 => nested(&mut rng),
+                        _ => single(&mut rng),
+                    };
+                    join(&mut rng, &tokens)
+                }
             };
-            let text = join(&mut rng, &tokens);
             if is_affordable(&text, recording.len()) {
                 show(&mut pair, recording, &text, 1);
             }
@@ -294,6 +300,7 @@ fn printed_texts_are_read_as_their_entries() {
         session(3_000_000 + seed, 40).iter().for_each(|call| drop(pair.call(call)));
         for _ in 0..20 {
             pair.call(&edit(grown(&mut rng)));
+            pair.call(&edit(pasted(&mut rng)));
         }
         for entry in 0..pair.model.forms().list.len() as u32 {
             let call = print(entry, TEXT_BYTES);
@@ -303,7 +310,43 @@ fn printed_texts_are_read_as_their_entries() {
         pair.check_state();
     }
     tally.check(&["printed", "refused 15", "refused 16"], 500);
-    tally.check_prints(&["Declined(1)", "Declined(10)", "Declined(11)", "Declined(12)"], 50);
+    tally.check_prints(&["Declined(1)", "Declined(10)", "Declined(12)", OTHER_LEVELS], 50);
+    tally.check_never();
+}
+
+/// Formulas pasted inside one another: every part is previewed, in the order of places or
+/// against it, and printed. No text is refused with 11.
+#[test]
+fn pasted_formulas() {
+    let mut tally = Tally::default();
+    for seed in 0..150 {
+        let mut rng = Rng::new(seed);
+        let recording: Vec<i32> = (0..rng.below(6)).map(|_| rng.reading()).collect();
+        let mut pair = Pair::new(seed);
+        pair.call(&open(&recording));
+        for _ in 0..40 {
+            let text = pasted(&mut rng);
+            if !is_affordable(&text, recording.len()) {
+                continue;
+            }
+            let answer = pair.call(&edit(&text));
+            tally.count(&answer);
+            let Answer::Edited { mut places, .. } = answer else { continue };
+            if rng.one_in(2) {
+                places.reverse();
+            }
+            for place in places {
+                tally.count(&pair.call(&preview(place, u32::MAX)));
+                tally.count_print(&pair.model, &print(place, TEXT_BYTES));
+                print_and_read(&mut pair, place);
+            }
+        }
+        pair.check_state();
+    }
+    tally.check(&["edited", "function", "delayed 1", "number", DELAYED_TWICE], 500);
+    tally.check(&["delayed 2", "refused 10"], 50);
+    tally.check_prints(&["bytes left", "OtherForm", OTHER_LEVELS], 500);
+    tally.check_never();
 }
 
 #[test]

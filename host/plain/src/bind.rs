@@ -4,10 +4,11 @@
 //! meaning. A let's value is bound once, in the scope where the let stands, and each
 //! use of the let's name means that form. So a name in the value means what it meant
 //! there, and is marked unbound there: no lambda around a use can capture it. This is
-//! the capture-avoiding substitution of 01.
+//! the capture-avoiding substitution of 01. Likewise a lambda in the value has the level
+//! of the place where it is written, wherever the let's name is used (02, T-05).
 
 use crate::form::{Form, Forms};
-use crate::name::Name;
+use crate::name::{Name, Variable};
 use crate::syntax::{DATA, Expression, Text};
 
 /// What a name in scope means.
@@ -15,7 +16,7 @@ enum Meaning {
     /// A let's name: the form of its value.
     Value(usize),
     /// A lambda's name: its variable.
-    Variable,
+    Variable(Variable),
 }
 
 /// A bound text: the whole text's form and each part's form, by number.
@@ -29,7 +30,8 @@ pub struct Bound {
 /// receiver before arguments, dependencies before what uses them, a variable at
 /// first use.
 pub fn bind(text: &Text, forms: &mut Forms) -> Bound {
-    let mut binder = Binder { forms, scope: Vec::new(), places: vec![None; text.parts] };
+    let places = vec![None; text.parts];
+    let mut binder = Binder { forms, scope: Vec::new(), lambdas: 0, places };
     let whole = binder.bind(&text.tree);
     let bound_all = "each part has its place";
     let places = binder.places.into_iter().map(|place| place.expect(bound_all)).collect();
@@ -40,6 +42,8 @@ struct Binder<'a> {
     forms: &'a mut Forms,
     /// Names in scope, the innermost last.
     scope: Vec<(Name, Meaning)>,
+    /// How many lambdas are written around this point.
+    lambdas: usize,
     places: Vec<Option<usize>>,
 }
 
@@ -63,8 +67,11 @@ impl Binder<'_> {
                 self.note(*part, number)
             }
             Expression::Lambda { part, name, body } => {
-                let body = self.bind_in_scope(*name, Meaning::Variable, body);
-                let number = self.forms.number(Form::Function(*name, body));
+                let variable = Variable { name: *name, level: self.lambdas };
+                self.lambdas += 1;
+                let body = self.bind_in_scope(*name, Meaning::Variable(variable), body);
+                self.lambdas -= 1;
+                let number = self.forms.number(Form::Function(variable, body));
                 self.note(*part, number)
             }
             Expression::Call { part, member, operands } => {
@@ -90,7 +97,7 @@ impl Binder<'_> {
         }
         match self.scope.iter().rev().find(|(bound, _)| *bound == name) {
             Some((_, Meaning::Value(number))) => *number,
-            Some((_, Meaning::Variable)) => self.forms.number(Form::Variable(name)),
+            Some((_, Meaning::Variable(variable))) => self.forms.number(Form::Variable(*variable)),
             None => self.forms.number(Form::Unbound(name)),
         }
     }

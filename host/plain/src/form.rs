@@ -1,26 +1,26 @@
 //! Let-free forms, numbered from 0.
 //!
 //! A form names its dependencies by number. Equal forms have one number, so two
-//! forms are equal exactly if their kinds, names and dependencies' numbers are.
+//! forms are equal exactly if their kinds, names, levels and dependencies' numbers are.
 //! A form that occurs in many places of a let-free text is held once.
 
 use crate::member::Member;
-use crate::name::Name;
+use crate::name::{Name, Variable};
 use std::collections::BTreeSet;
 
 /// A let-free form (01: an entry).
 #[derive(Clone, PartialEq, Eq, Debug)]
 pub enum Form {
     Number(i32),
-    /// A lambda variable by name.
-    Variable(Name),
+    /// A lambda variable by name and level.
+    Variable(Variable),
     /// A name that no let or lambda around it binds.
     Unbound(Name),
     Data,
     /// A member with its dependencies, receiver first.
     Member(Member, Vec<usize>),
-    /// A function with its name and its body.
-    Function(Name, usize),
+    /// A function with its variable, whose name and level are its own, and its body.
+    Function(Variable, usize),
 }
 
 impl Form {

@@ -1,7 +1,7 @@
 //! The reference model of the formula engine (01: the plain book).
 //!
 //! It answers the calls open, edit and preview as document 01 says, and print, with
-//! requests T-01, T-02 and T-04 of 02, by plain recursion and without speed in mind, so
+//! requests T-01, T-02, T-04 and T-05 of 02, by plain recursion and without speed in mind, so
 //! that the engine can be compared with it call by call. One edit passes through the
 //! modules in this order: `token` cuts the text into tokens, `syntax` reads them or
 //! refuses one, `bind` turns the tree into let-free forms, `form` numbers them. One

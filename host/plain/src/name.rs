@@ -1,4 +1,5 @@
-//! Names: words of at most eight bytes. Names are compared here and nowhere else.
+//! Names: words of at most eight bytes, and lambda variables. Names are compared here and
+//! nowhere else.
 
 use crate::limits::NAME_BYTES;
 use std::fmt;
@@ -26,5 +27,19 @@ impl Name {
 impl fmt::Debug for Name {
     fn fmt(&self, out: &mut fmt::Formatter) -> fmt::Result {
         write!(out, "{}", self.word())
+    }
+}
+
+/// A lambda variable (02, T-05): its name, and its level, the count of lambdas written
+/// around its own lambda.
+#[derive(Clone, Copy, PartialEq, Eq, PartialOrd, Ord, Hash)]
+pub struct Variable {
+    pub name: Name,
+    pub level: usize,
+}
+
+impl fmt::Debug for Variable {
+    fn fmt(&self, out: &mut fmt::Formatter) -> fmt::Result {
+        write!(out, "{:?} of level {}", self.name, self.level)
     }
 }

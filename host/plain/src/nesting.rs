@@ -3,7 +3,7 @@
 
 use crate::form::{Form, Forms};
 use crate::member::Kind;
-use crate::name::Name;
+use crate::name::Variable;
 use std::collections::BTreeSet;
 
 /// For each form, the most runs that are under way at once when it is worked out
@@ -13,8 +13,8 @@ pub fn nesting(forms: &Forms) -> Vec<u32> {
     let awaited = awaited(forms);
     let mut nested: Vec<u32> = Vec::new();
     for form in &forms.list {
-        let inner = function_run(form, forms).map(|(name, body)| {
-            let again = worked_again(forms, &awaited, name, body);
+        let inner = function_run(form, forms).map(|(variable, body)| {
+            let again = worked_again(forms, &awaited, variable, body);
             1 + again.into_iter().map(|number| nested[number]).max().unwrap_or(0)
         });
         nested.push(inner.unwrap_or(0));
@@ -22,14 +22,14 @@ pub fn nesting(forms: &Forms) -> Vec<u32> {
     nested
 }
 
-/// The name and body of the function that a form runs over a window.
-fn function_run(form: &Form, forms: &Forms) -> Option<(Name, usize)> {
+/// The variable and body of the function that a form runs over a window.
+fn function_run(form: &Form, forms: &Forms) -> Option<(Variable, usize)> {
     let Form::Member(member, operands) = form else { return None };
     let is_run = member.argument() == Some(Kind::Function);
     match operands[..] {
         [receiver, argument] if is_run && is_window(&forms.list[receiver]) => {
             match forms.list[argument] {
-                Form::Function(name, body) => Some((name, body)),
+                Form::Function(variable, body) => Some((variable, body)),
                 _ => None,
             }
         }
@@ -46,18 +46,18 @@ fn is_window(form: &Form) -> bool {
     }
 }
 
-/// The names that each form awaits.
-fn awaited(forms: &Forms) -> Vec<BTreeSet<Name>> {
-    let mut awaited: Vec<BTreeSet<Name>> = Vec::new();
+/// The variables that each form awaits.
+fn awaited(forms: &Forms) -> Vec<BTreeSet<Variable>> {
+    let mut awaited: Vec<BTreeSet<Variable>> = Vec::new();
     for form in &forms.list {
         let below = form.dependencies().into_iter().flat_map(|number| awaited[number].clone());
-        let mut names: BTreeSet<Name> = below.collect();
+        let mut variables: BTreeSet<Variable> = below.collect();
         match form {
-            Form::Variable(name) => names.extend([*name]),
-            Form::Function(name, _) => names.retain(|awaited| awaited != name),
+            Form::Variable(variable) => variables.extend([*variable]),
+            Form::Function(own, _) => variables.retain(|variable| variable != own),
             _ => (),
         }
-        awaited.push(names);
+        awaited.push(variables);
     }
     awaited
 }
@@ -66,8 +66,8 @@ fn awaited(forms: &Forms) -> Vec<BTreeSet<Name>> {
 /// forms that await the variable.
 fn worked_again(
     forms: &Forms,
-    awaited: &[BTreeSet<Name>],
-    variable: Name,
+    awaited: &[BTreeSet<Variable>],
+    variable: Variable,
     body: usize,
 ) -> BTreeSet<usize> {
     let mut reached = BTreeSet::new();

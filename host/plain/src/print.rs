@@ -3,7 +3,9 @@
 //! A printed text has no blanks but one on either side of `->`. Brackets stand around a
 //! function that is a receiver, where the grammar wants an atom, and nowhere else. The
 //! text is read again by itself: it is given only where it means the very form that it
-//! was written for.
+//! was written for. Levels are part of a form (02, T-05), so a function that was written
+//! inside another lambda is not given by itself, nor one under a lambda that it was not
+//! written in.
 
 use crate::bind::bind;
 use crate::form::{Form, Forms};
@@ -72,10 +74,11 @@ impl Writer<'_> {
         let forms = self.forms;
         match &forms.list[number] {
             Form::Number(value) => self.put(&value.to_string()),
-            Form::Variable(name) | Form::Unbound(name) => self.put(&name.word()),
+            Form::Variable(variable) => self.put(&variable.name.word()),
+            Form::Unbound(name) => self.put(&name.word()),
             Form::Data => self.put(DATA),
-            Form::Function(name, body) => {
-                self.put(&format!("\\{} -> ", name.word()))?;
+            Form::Function(variable, body) => {
+                self.put(&format!("\\{} -> ", variable.name.word()))?;
                 self.form(*body)
             }
             Form::Member(member, operands) => self.call(*member, operands),

@@ -5,6 +5,7 @@ pub mod damage;
 pub mod formula;
 pub mod limit;
 pub mod nested;
+pub mod pasted;
 pub mod rng;
 pub mod single;
 
@@ -19,6 +20,7 @@ use damage::{damaged, token_soup};
 use formula::{formula, join};
 use limit::{deep, grown, wide};
 use nested::nested;
+use pasted::pasted;
 use rng::Rng;
 use single::single;
 
@@ -46,8 +48,9 @@ struct Generator {
     model: Model,
     /// The texts accepted so far.
     texts: Vec<Vec<u8>>,
-    /// The last whole text's entry.
+    /// The last whole text's entry, and those of its parts.
     last_whole: u32,
+    last_places: Vec<u32>,
     /// Whether the session fills the table: it opens no other recording and has many
     /// long texts.
     is_filling: bool,
@@ -57,13 +60,15 @@ impl Generator {
     fn new(seed: u64) -> Generator {
         let mut rng = Rng::new(seed);
         let is_filling = rng.one_in(4);
-        Generator { rng, model: Model::new(), texts: Vec::new(), last_whole: 0, is_filling }
+        let (model, texts, last_places) = (Model::new(), Vec::new(), vec![0]);
+        Generator { rng, model, texts, last_whole: 0, last_places, is_filling }
     }
 
     fn follow(&mut self, call: &Call) {
         let answer = self.model.call(call);
-        if let (Call::Edit { text, .. }, Answer::Edited { whole, .. }) = (call, answer) {
+        if let (Call::Edit { text, .. }, Answer::Edited { whole, places, .. }) = (call, answer) {
             self.last_whole = whole;
+            self.last_places = places;
             self.texts.push(text.clone());
         }
     }
@@ -116,7 +121,8 @@ impl Generator {
         let held = self.model.forms().list.len() as u32;
         match self.rng.below(16) {
             0 => self.rng.pick(&[held, held + 1, 511, 512, 65_535, 65_536, u32::MAX]),
-            1..=7 if held > 0 => self.rng.below(u64::from(held)) as u32,
+            1..=4 if held > 0 => self.rng.below(u64::from(held)) as u32,
+            5..=8 => self.rng.pick(&self.last_places),
             _ => self.last_whole,
         }
     }
@@ -137,7 +143,7 @@ impl Generator {
         if self.is_filling && self.rng.one_in(3) {
             return wide(&mut self.rng);
         }
-        match self.rng.below(31) {
+        match self.rng.below(40) {
             0..=7 => {
                 let tokens = formula(&mut self.rng);
                 join(&mut self.rng, &tokens)
@@ -154,11 +160,12 @@ impl Generator {
             19 => deep(&mut self.rng),
             20 => token_soup(&mut self.rng),
             21 => self.padded_text(),
-            22..=25 => {
+            22..=27 => {
                 let tokens = single(&mut self.rng);
                 join(&mut self.rng, &tokens)
             }
-            26..=28 => grown(&mut self.rng),
+            28..=30 => grown(&mut self.rng),
+            31..=37 => pasted(&mut self.rng),
             _ => self.changed_text(),
         }
     }

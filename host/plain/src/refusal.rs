@@ -21,7 +21,8 @@ pub const DATA_BOUND: u8 = 8;
 pub const WRONG_CALL: u8 = 9;
 /// 10: third open `\`.
 pub const THIRD_LAMBDA: u8 = 10;
-/// 11: lambda name of an enclosing lambda.
+/// 11: never occurs. It was a lambda name of an enclosing lambda; since 02, T-05 an inner
+/// lambda hides an outer one of its name.
 pub const LAMBDA_NAME_REPEATED: u8 = 11;
 /// 12: 17th open mark or 129th part.
 pub const TEXT_LIMIT: u8 = 12;

@@ -7,6 +7,7 @@ pub mod refused;
 pub mod taken;
 
 use crate::model::{Answer, Call};
+use crate::name::Name;
 use crate::shown::{Shown, Window};
 
 /// A call and the answer it must get.
@@ -108,9 +109,13 @@ fn missing(reason: u8) -> Shown {
     Shown::Missing(reason)
 }
 
+fn named(word: &str) -> Name {
+    Name::new(word).expect("a name has at most 8 bytes")
+}
+
 /// All sample previews: those of 01, then those that 02 adds.
 pub fn previews() -> Vec<Sample> {
-    let added = stretch_previews().into_iter().chain(division_previews());
+    let added = stretch_previews().into_iter().chain(division_previews()).chain(level_previews());
     scope_previews().into_iter().chain(added).collect()
 }
 
@@ -170,5 +175,28 @@ fn division_previews() -> Vec<Sample> {
         sample("7.div(-2)", one_call, 1, number(-4)),
         sample("-7.div(-2)", one_call, 1, number(3)),
         sample("-6.div(3)", one_call, 1, number(-2)),
+    ]
+}
+
+/// Lambdas and their levels (02, T-05): the inner function of the second text is not the
+/// entry of its twin in the first, and an inner lambda hides an outer one of its name.
+fn level_previews() -> Vec<Sample> {
+    let outer: Figures = (4, 3, &[0, 3, 2, 1]);
+    let inner: Figures = (4, 7, &[7, 0, 6, 5, 4]);
+    let hidden: Figures = (3, 2, &[2, 1, 0]);
+    let between: Figures = (5, 4, &[4, 3, 0, 3, 0, 2, 1]);
+    let runs: Figures = (10, 9, &[0, 9, 8, 7, 1, 0, 7, 6, 1, 3, 2, 5, 4]);
+    let function = |word: &str| Shown::Function(named(word));
+    vec![
+        sample("data.sumBy(\\a -> a)", outer, 2, number(755)),
+        sample("\\b -> data.sumBy(\\a -> a)", inner, 3, function("b")).following(),
+        sample("\\a -> \\a -> a", hidden, 2, function("a")),
+        sample("\\a -> let x = a in \\a -> x.add(a)", between, 3, function("a")),
+        sample(
+            "data.sumBy(\\a -> let x = a in data.sumBy(\\a -> x.mul(2).sub(a)))",
+            runs,
+            6,
+            number(3775),
+        ),
     ]
 }

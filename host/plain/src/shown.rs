@@ -31,7 +31,8 @@ pub enum Shown {
     Window(Window),
     /// A function shows its name.
     Function(Name),
-    /// The awaited names by first occurrence in the let-free form.
+    /// The awaited names by first occurrence in the let-free form: one name twice where two
+    /// variables of that spelling are awaited (02, T-05).
     Delayed(Vec<Name>),
     Missing(Reason),
 }

@@ -62,8 +62,7 @@ pub struct Text {
 
 /// Reads a text, or gives its refusal under 5 to 12.
 pub fn parse(text: &[u8]) -> Result<Text, Refusal> {
-    let mut parser =
-        Parser { tokens: tokens(text), next: 0, parts: 0, open: 0, lambdas: Vec::new() };
+    let mut parser = Parser { tokens: tokens(text), next: 0, parts: 0, open: 0, lambdas: 0 };
     let tree = parser.expression(Position::Expression, Follow::End)?;
     Ok(Text { tree, parts: parser.parts })
 }
@@ -76,8 +75,8 @@ struct Parser {
     parts: usize,
     /// The open marks: `let`, `\` and `(`.
     open: usize,
-    /// The names of the open lambdas, the outer first.
-    lambdas: Vec<Name>,
+    /// The open lambdas.
+    lambdas: usize,
 }
 
 impl Parser {
@@ -88,27 +87,20 @@ impl Parser {
             _ => "",
         };
         let is_member = position == Position::MemberName;
-        let is_lambda_name = position == Position::LambdaName;
-        let is_bound = is_lambda_name || position == Position::LetName;
+        let is_bound = matches!(position, Position::LetName | Position::LambdaName);
         match number {
             UNGRAMMATICAL => !position.allows(kind),
             NUMBER_OUTSIDE => *kind == Kind::Number(None),
             NAME_TOO_LONG => !is_member && word.len() > NAME_BYTES,
             DATA_BOUND => is_bound && word == DATA,
             WRONG_CALL => is_wrong_call(position, kind),
-            THIRD_LAMBDA => *kind == Kind::Backslash && self.lambdas.len() == OPEN_LAMBDAS,
-            LAMBDA_NAME_REPEATED => is_lambda_name && self.is_enclosing_lambda(word),
+            THIRD_LAMBDA => *kind == Kind::Backslash && self.lambdas == OPEN_LAMBDAS,
             TEXT_LIMIT => {
                 opens_mark(kind) && self.open == OPEN_MARKS
                     || makes_part(position, kind) && self.parts == TEXT_PARTS
             }
             _ => false,
         }
-    }
-
-    /// Whether an open lambda has this name, hidden by a let or not.
-    fn is_enclosing_lambda(&self, word: &str) -> bool {
-        Name::new(word).is_some_and(|name| self.lambdas.contains(&name))
     }
 
     /// Tests the next token without taking it, and gives its kind.
@@ -168,10 +160,10 @@ impl Parser {
         let part = self.new_part();
         self.open += 1;
         let name = self.take_bound_name(Position::LambdaName)?;
-        self.lambdas.push(name);
+        self.lambdas += 1;
         self.take(Position::Arrow)?;
         let body = Box::new(self.expression(Position::Expression, follow)?);
-        self.lambdas.pop();
+        self.lambdas -= 1;
         self.open -= 1;
         Ok(Expression::Lambda { part, name, body })
     }

@@ -1,17 +1,20 @@
 //! How often each kind of answer came, what each member's rule came to and why texts were
 //! not printed, so that tests over random calls can ask for enough of each.
 
+use crate::bind::bind;
 use crate::eval::Evaluation;
-use crate::form::Form;
+use crate::form::{Form, Forms};
+use crate::limits::TEXT_BYTES;
 use crate::member::{Kind, Member};
 use crate::model::{Answer, Call, Model};
-use crate::print::print;
-use crate::refusal::{OTHER_FORM, TEXT_TOO_LONG};
+use crate::print::{Fault, print, written};
+use crate::refusal::{LAMBDA_NAME_REPEATED, OTHER_FORM, TEXT_TOO_LONG};
 use crate::shown::{OUTSIDE_WINDOW, Shown, UNBOUND_NAME};
+use crate::syntax::parse;
 use std::collections::BTreeMap;
 
-/// Number 4, an ill-formed cache, never comes up in a session.
-const ILL_FORMED: u8 = 4;
+/// Numbers that never come up in a session: 4, an ill-formed cache, and 11.
+const NEVER: [u8; 2] = [4, LAMBDA_NAME_REPEATED];
 
 type Counts<Key> = BTreeMap<Key, usize>;
 
@@ -21,7 +24,7 @@ pub struct Tally {
     answers: Counts<String>,
     /// Results of rules, by the member's name.
     rules: Counts<(&'static str, String)>,
-    /// What printing a form came to, as `Room` or `Declined(11)`.
+    /// What printing a form came to, as `Room` or `Declined(12)`.
     prints: Counts<String>,
 }
 
@@ -65,6 +68,9 @@ impl Tally {
             let label = match print(model.forms(), *entry as usize, bytes.len()) {
                 Ok(text) if text.len() == bytes.len() => "no byte left".into(),
                 Ok(_) => "bytes left".into(),
+                Err(Fault::OtherForm) if differs_in_levels(model.forms(), *entry as usize) => {
+                    OTHER_LEVELS.into()
+                }
                 Err(fault) => format!("{fault:?}"),
             };
             *self.prints.entry(label).or_default() += 1;
@@ -106,18 +112,27 @@ impl Tally {
         }
     }
 
+    /// That numbers which never come up did not.
+    pub fn check_never(&self) {
+        for number in NEVER {
+            assert_eq!(self.answers.get(&format!("refused {number}")), None);
+            assert_eq!(self.prints.get(&format!("Declined({number})")), None);
+        }
+    }
+
     /// That each answer to a session's calls came at least `least` times, and so did each
     /// result of printing; and each result of a member at least `least_rules` times: a
     /// number or a window, and those in the list.
     pub fn check_all(&self, least: usize, least_rules: usize) {
-        let refused = (TEXT_TOO_LONG..=OTHER_FORM).filter(|number| *number != ILL_FORMED);
+        self.check_never();
+        let refused = (TEXT_TOO_LONG..=OTHER_FORM).filter(|number| !NEVER.contains(number));
         let refused = refused.map(|number| format!("refused {number}"));
         let missing = (UNBOUND_NAME..=OUTSIDE_WINDOW).map(|reason| format!("missing {reason}"));
         for label in refused.chain(missing) {
             self.check(&[&label], least);
         }
         self.check(&["opened", "edited", "not yet", "number", "window", "function"], least);
-        self.check(&["delayed 1", "delayed 2", "printed"], least);
+        self.check(&["delayed 1", "delayed 2", DELAYED_TWICE, "printed"], least);
         self.check_prints(PRINTS, least);
         for member in Member::all() {
             let is_window = member.result() == Kind::Window;
@@ -147,16 +162,23 @@ const RESULTS: &[(&str, &str)] = &[
     ("bestAt", "missing 5"),
 ];
 
-/// What printing a form can come to. The reader declines no printed text with 5 to 9.
+/// Not printed, for levels alone: by their names the text would be read as the form.
+pub const OTHER_LEVELS: &str = "OtherForm in levels";
+
+/// Awaiting two variables of one name.
+pub const DELAYED_TWICE: &str = "delayed 2 of one name";
+
+/// What printing a form can come to. The reader declines no printed text with 5 to 9, or
+/// with 11.
 pub const PRINTS: &[&str] = &[
     "no byte left",
     "bytes left",
     "Room",
     "Declined(1)",
     "Declined(10)",
-    "Declined(11)",
     "Declined(12)",
     "OtherForm",
+    OTHER_LEVELS,
 ];
 
 fn add<Key: Ord>(counts: &mut Counts<Key>, others: Counts<Key>) {
@@ -193,7 +215,29 @@ fn shown_label(shown: &Shown) -> String {
         Shown::Number(_) => "number".into(),
         Shown::Window(_) => "window".into(),
         Shown::Function(_) => "function".into(),
+        Shown::Delayed(names) if names.len() == 2 && names[0] == names[1] => DELAYED_TWICE.into(),
         Shown::Delayed(names) => format!("delayed {}", names.len()),
         Shown::Missing(reason) => format!("missing {reason}"),
     }
+}
+
+/// Whether the text of a form, read by itself, has the same form but for its levels.
+fn differs_in_levels(forms: &Forms, number: usize) -> bool {
+    let text = written(forms, number, TEXT_BYTES).expect("a text that was read");
+    let read = parse(text.as_bytes()).expect("a text that was read");
+    let mut forms = forms.clone();
+    let other = bind(&read, &mut forms).whole;
+    is_same_by_names(&forms, number, other)
+}
+
+fn is_same_by_names(forms: &Forms, one: usize, other: usize) -> bool {
+    let (first, second) = (&forms.list[one], &forms.list[other]);
+    let are_alike = match (first, second) {
+        (Form::Variable(first), Form::Variable(second)) => first.name == second.name,
+        (Form::Function(first, _), Form::Function(second, _)) => first.name == second.name,
+        (Form::Member(first, _), Form::Member(second, _)) => first == second,
+        _ => first == second,
+    };
+    let below = first.dependencies().into_iter().zip(second.dependencies());
+    are_alike && below.into_iter().all(|(one, other)| is_same_by_names(forms, one, other))
 }

@@ -2,7 +2,7 @@
 
 mod common;
 
-use common::{edited, name, opened};
+use common::{edited, name, opened, variable};
 use plain::form::Form;
 use plain::member::Member;
 use plain::model::Model;
@@ -33,10 +33,10 @@ fn forms_are_numbered_in_the_order_of_binding() {
         Form::Number(2),
         Form::Data,
         Form::Unbound(name("y")),
-        Form::Variable(name("b")),
+        Form::Variable(variable("b", 0)),
         member("sub", &[2, 3]),
         member("add", &[4, 0]),
-        Form::Function(name("b"), 5),
+        Form::Function(variable("b", 0), 5),
         member("sumBy", &[1, 6]),
     ];
     assert_eq!(model.forms().list, expected);
@@ -128,7 +128,7 @@ fn an_unbound_name_is_no_lambda_variable() {
     let mut model = opened(&RECORDING);
     assert_eq!(edited(&mut model, "let y = b in \\b -> y.add(b)").2, [3, 0, 3, 0, 2, 1]);
     assert_eq!(model.forms().list[0], Form::Unbound(name("b")));
-    assert_eq!(model.forms().list[1], Form::Variable(name("b")));
+    assert_eq!(model.forms().list[1], Form::Variable(variable("b", 0)));
     assert_eq!(edited(&mut model, "b").2, [0]);
     assert_eq!(edited(&mut model, "(\\b -> 1).add(b)").2[3], 0);
 }
@@ -163,7 +163,86 @@ fn the_inner_binding_hides_the_outer_one() {
 fn lets_may_put_a_lambda_under_its_twin() {
     let mut model = opened(&RECORDING);
     edited(&mut model, "let f = \\a -> a in \\a -> f");
-    let expected =
-        [Form::Variable(name("a")), Form::Function(name("a"), 0), Form::Function(name("a"), 1)];
+    let own = variable("a", 0);
+    let expected = [Form::Variable(own), Form::Function(own, 0), Form::Function(own, 1)];
     assert_eq!(model.forms().list, expected);
+}
+
+/// A level is the count of lambdas written around a lambda (02, T-05), so a function inside
+/// another is not the entry of its twin outside of any.
+#[test]
+fn a_function_inside_another_is_not_its_twin() {
+    let mut model = opened(&RECORDING);
+    edited(&mut model, "data.sumBy(\\a -> a)");
+    edited(&mut model, "\\b -> data.sumBy(\\a -> a)");
+    let expected = [
+        Form::Data,
+        Form::Variable(variable("a", 0)),
+        Form::Function(variable("a", 0), 1),
+        member("sumBy", &[0, 2]),
+        Form::Variable(variable("a", 1)),
+        Form::Function(variable("a", 1), 4),
+        member("sumBy", &[0, 5]),
+        Form::Function(variable("b", 0), 6),
+    ];
+    assert_eq!(model.forms().list, expected);
+    let inner = whole(&mut model, "\\b -> \\a -> a");
+    assert_eq!(model.form(inner), Some(&Form::Function(variable("b", 0), 5)));
+    let mut entries = |text: &str, place: usize| edited(&mut model, text).2[place];
+    for text in ["\\c -> \\a -> a", "\\a -> \\a -> a", "\\c -> (\\a -> a).add(1)"] {
+        assert_eq!(entries(text, 1), 5, "{text}");
+    }
+    for text in ["\\a -> a", "(\\a -> a).add(1)", "let x = \\a -> a in x"] {
+        assert!(edited(&mut model, text).2.contains(&2), "{text}");
+    }
+}
+
+/// Brackets, calls and lets around a lambda do not count.
+#[test]
+fn only_lambdas_around_a_lambda_count() {
+    let mut model = opened(&RECORDING);
+    let outer = whole(&mut model, "\\a -> a");
+    for (text, place) in [
+        ("((\\a -> a))", 0),
+        ("let x = 1 in let y = 2 in \\a -> a", 4),
+        ("data.sumBy(data.sumBy(\\a -> a))", 4),
+        ("(\\b -> 1).add(\\a -> a)", 3),
+        ("let f = \\b -> 1 in \\a -> a", 3),
+    ] {
+        assert_eq!(edited(&mut model, text).2[place], outer, "{text}");
+    }
+}
+
+/// A let's value has the levels of the place where it is written, wherever its name is used.
+#[test]
+fn a_value_has_the_levels_of_where_it_is_written() {
+    let mut model = opened(&RECORDING);
+    let outer = whole(&mut model, "\\a -> a");
+    let inner = edited(&mut model, "\\b -> \\a -> a").2[1];
+    assert_ne!(outer, inner);
+    assert_eq!(edited(&mut model, "let f = \\a -> a in \\b -> f").2[4], outer);
+    assert_eq!(edited(&mut model, "let f = \\a -> a in \\b -> let g = f in g").2[6], outer);
+    assert_eq!(edited(&mut model, "\\b -> let f = \\a -> a in f").2[4], inner);
+    let both = edited(&mut model, "let f = \\a -> a in \\b -> f.eq(\\a -> a)").2;
+    assert_eq!((both[4], both[6]), (outer, inner));
+}
+
+/// Each name in use is the innermost lambda's of that name, or what a let between them means.
+#[test]
+fn an_inner_lambda_hides_an_outer_one() {
+    let mut model = opened(&RECORDING);
+    edited(&mut model, "\\a -> let x = a in \\a -> x.add(a)");
+    let (outer, inner) = (variable("a", 0), variable("a", 1));
+    let expected = [
+        Form::Variable(outer),
+        Form::Variable(inner),
+        member("add", &[0, 1]),
+        Form::Function(inner, 2),
+        Form::Function(outer, 3),
+    ];
+    assert_eq!(model.forms().list, expected);
+    assert_eq!(edited(&mut model, "\\a -> (\\a -> a).add(a)").2[2..], [1, 6, 0]);
+    assert_eq!(edited(&mut model, "\\a -> let a = a in \\b -> a").2[4], 0);
+    assert_eq!(edited(&mut model, "\\a -> let a = 1 in \\a -> a").2[4], 1);
+    assert_eq!(edited(&mut model, "\\a -> \\a -> let a = a in a").2[4], 1);
 }

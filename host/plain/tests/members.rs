@@ -349,7 +349,7 @@ fn functions_show_their_names() {
 /// The places of a text show their own parts.
 #[test]
 fn delayed_names_stand_by_first_occurrence() {
-    let rows: [(&str, usize, &[&str]); 8] = [
+    let rows: [(&str, usize, &[&str]); 14] = [
         ("\\a -> a", 1, &["a"]),
         ("\\a -> \\b -> a.add(b)", 3, &["a", "b"]),
         ("\\a -> \\b -> b.add(a)", 3, &["b", "a"]),
@@ -358,6 +358,13 @@ fn delayed_names_stand_by_first_occurrence() {
         ("\\a -> \\b -> 1.add(b).add(b.add(a))", 6, &["b"]),
         ("\\a -> \\b -> 1.add(b).add(a.add(b))", 5, &["b", "a"]),
         ("\\a -> data.sumBy(\\b -> b.add(a)).add(a)", 2, &["a"]),
+        // two variables of one spelling are two (02, T-05)
+        ("\\a -> let x = a in \\a -> x.add(a)", 5, &["a", "a"]),
+        ("\\a -> let x = a in \\a -> x.add(a)", 3, &["a"]),
+        ("\\a -> let x = a in \\a -> x.add(a).add(x)", 7, &["a", "a"]),
+        ("\\a -> let x = a in \\a -> a.add(a)", 5, &["a"]),
+        ("\\a -> \\a -> a", 2, &["a"]),
+        ("\\a -> data.sumBy(\\a -> a).add(a)", 5, &["a"]),
     ];
     for (text, place, names) in rows {
         let mut model = common::opened(&[1, 2]);
@@ -395,6 +402,24 @@ fn a_function_keeps_its_own_variable_under_a_run_of_its_twin() {
     assert_eq!(shown(&[0, 2, 3], text), number(5));
     let twin = "let f = \\a -> a.mul(10) in data.sumBy(\\a -> data.take(a).sumBy(f))";
     assert_eq!(shown(&[1, 2], twin), number(10 + 30));
+}
+
+/// A run puts its number for its own variable, by name and level.
+#[test]
+fn an_inner_lambda_hides_an_outer_one_in_runs() {
+    for (text, expected) in [
+        ("data.sumBy(\\a -> data.sumBy(\\a -> a))", number(6)),
+        ("data.sumBy(\\a -> data.sumBy(\\a -> a).mul(a))", number(9)),
+        ("data.sumBy(\\a -> a.mul(10).add(data.sumBy(\\a -> a)))", number(36)),
+        ("data.sumBy(\\a -> let x = a in data.sumBy(\\a -> x.mul(10).add(a)))", number(66)),
+        ("data.sumBy(\\a -> let x = a in data.take(x).sumBy(\\a -> x.mul(10).add(a)))", number(54)),
+        ("data.sumBy(\\a -> let a = 5 in data.sumBy(\\a -> a))", number(6)),
+        ("data.sumBy(\\a -> let f = \\a -> a in data.take(a).sumBy(f))", number(4)),
+        ("\\a -> let x = a in \\a -> x.add(a)", function("a")),
+        ("\\a -> \\a -> y", missing(1)),
+    ] {
+        assert_eq!(shown(&[1, 2], text), expected, "{text}");
+    }
 }
 
 #[test]

@@ -8,10 +8,11 @@ use plain::form::{Form, Forms};
 use plain::limits::{TABLE_ENTRIES, TEXT_BYTES};
 use plain::member::Member;
 use plain::model::{Answer, Call, Model};
-use plain::name::Name;
+use plain::name::Variable;
 use plain::print::{Fault, print, written};
 use plain::random::formula::{formula, join};
 use plain::random::limit::grown;
+use plain::random::pasted::pasted;
 use plain::random::rng::Rng;
 use plain::random::session;
 use plain::refusal::{NO_SUCH_ENTRY, OTHER_FORM, TEXT_UNFIT};
@@ -161,15 +162,18 @@ fn forms_too_large_to_be_written() {
     assert_eq!(print(&forms, 1, ROOM).as_deref(), Ok("data.add(data)"));
 }
 
-/// Whether a form's text means another form by itself: a lambda variable that no function
-/// around it has, or an unbound name that one does have.
-fn is_other_by_itself(forms: &Forms, number: usize, around: &mut Vec<Name>) -> bool {
+/// Whether a form's text means another form by itself: a function whose level is not the
+/// count of those around it, a lambda variable that is not that of the innermost function
+/// around it with its name, or an unbound name that a function around it has.
+fn is_other_by_itself(forms: &Forms, number: usize, around: &mut Vec<Variable>) -> bool {
+    let innermost = |name| around.iter().rev().find(|variable| variable.name == name);
     match &forms.list[number] {
         Form::Number(_) | Form::Data => false,
-        Form::Variable(name) => !around.contains(name),
-        Form::Unbound(name) => around.contains(name),
-        Form::Function(name, body) => {
-            around.push(*name);
+        Form::Variable(variable) => innermost(variable.name) != Some(variable),
+        Form::Unbound(name) => innermost(*name).is_some(),
+        Form::Function(variable, _) if variable.level != around.len() => true,
+        Form::Function(variable, body) => {
+            around.push(*variable);
             let is_other = is_other_by_itself(forms, *body, around);
             around.pop();
             is_other
@@ -222,13 +226,37 @@ fn round_trips_of_random_texts() {
         let mut rng = Rng::new(seed);
         for _ in 0..10 {
             let tokens = formula(&mut rng);
-            for text in [join(&mut rng, &tokens), grown(&mut rng)] {
+            for text in [join(&mut rng, &tokens), grown(&mut rng), pasted(&mut rng)] {
                 model.call(&samples::edit(text));
             }
         }
         for entry in 0..model.forms().list.len() as u32 {
             check_round_trip(&mut model, entry);
         }
+    }
+}
+
+/// Number 16 judges by levels too (02, T-05), where the names alone would be read as the form.
+#[test]
+fn levels_of_printed_functions() {
+    for (text, place, expected) in [
+        ("\\a -> a", 0, Ok("\\a -> a")),
+        ("\\b -> \\a -> a", 0, Ok("\\b -> \\a -> a")),
+        ("\\b -> \\a -> a", 1, Err(OTHER_FORM)),
+        ("\\b -> \\a -> 1", 1, Err(OTHER_FORM)),
+        ("\\b -> data.sumBy(\\a -> a)", 2, Err(OTHER_FORM)),
+        ("let f = \\a -> a in \\b -> f", 3, Err(OTHER_FORM)),
+        ("let f = \\a -> 1 in \\a -> f", 3, Err(OTHER_FORM)),
+        ("let f = \\a -> a in data.sumBy(f)", 4, Ok("data.sumBy(\\a -> a)")),
+        ("\\a -> let x = a in \\b -> x.add(b)", 0, Ok("\\a -> \\b -> a.add(b)")),
+        ("\\a -> let x = a in \\a -> x.add(a)", 0, Err(OTHER_FORM)),
+        ("\\a -> let x = a in \\a -> x", 0, Err(OTHER_FORM)),
+        ("\\a -> let x = a in \\a -> a", 0, Ok("\\a -> \\a -> a")),
+    ] {
+        let mut model = opened(&RECORDING);
+        let (_, _, places) = edited(&mut model, text);
+        let expected = expected.map_or_else(refused, printed);
+        assert_eq!(model.print(places[place], ROOM, true), expected, "{text} at {place}");
     }
 }
 

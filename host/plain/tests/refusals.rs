@@ -4,11 +4,18 @@ mod common;
 
 use common::opened;
 use plain::model::Answer;
-use plain::refusal::Refusal;
+use plain::name::Name;
+use plain::random::damage::{damaged, token_soup};
+use plain::random::formula::{formula, join};
+use plain::random::limit::{deep, grown, wide};
+use plain::random::nested::nested;
+use plain::random::pasted::pasted;
+use plain::random::rng::Rng;
+use plain::refusal::{LAMBDA_NAME_REPEATED, Refusal};
 use plain::samples::refused::{RefusedText, refused_texts, table};
 use plain::samples::taken::taken_texts;
 use plain::samples::{RECORDING, edit};
-use plain::syntax::parse;
+use plain::syntax::{Expression, parse};
 use plain::token::tokens;
 use std::collections::BTreeSet;
 
@@ -25,7 +32,7 @@ fn check(refused: &RefusedText) {
 #[test]
 fn examples_of_the_table() {
     let numbers: Vec<u8> = table().iter().map(|refused| refused.number).collect();
-    assert_eq!(numbers, [5, 6, 7, 8, 9, 10, 11, 12]);
+    assert_eq!(numbers, [5, 6, 7, 8, 9, 10, 12]);
     table().iter().for_each(check);
 }
 
@@ -67,4 +74,52 @@ fn texts_at_the_limits_are_taken() {
         let (_, _, places) = common::edited(&mut model, &text);
         assert_eq!(places.len() as u32, taken.parts, "{text}");
     }
+}
+
+/// Whether a lambda stands within another of its name; `around` has those around.
+fn has_hidden(expression: &Expression, around: &[Name]) -> bool {
+    match expression {
+        Expression::Lambda { name, body, .. } => {
+            around.contains(name) || has_hidden(body, &[around, &[*name]].concat())
+        }
+        Expression::Let { value, body, .. } => {
+            has_hidden(value, around) || has_hidden(body, around)
+        }
+        Expression::Call { operands, .. } => {
+            operands.iter().any(|operand| has_hidden(operand, around))
+        }
+        Expression::Brackets(inner) => has_hidden(inner, around),
+        Expression::Name { .. } | Expression::Number { .. } => false,
+    }
+}
+
+fn any_text(rng: &mut Rng) -> Vec<u8> {
+    match rng.below(9) {
+        0 => wide(rng),
+        1 => deep(rng),
+        2 => grown(rng),
+        3 => token_soup(rng),
+        4 | 5 => pasted(rng),
+        kind => {
+            let tokens = if kind == 6 { nested(rng) } else { formula(rng) };
+            if kind == 8 { damaged(rng, tokens) } else { join(rng, &tokens) }
+        }
+    }
+}
+
+/// Number 11 (02, T-05): no text is refused with it, though many have a lambda within another
+/// of its name.
+#[test]
+fn number_11_never_occurs() {
+    let mut rng = Rng::new(11);
+    let mut hidden = 0;
+    for _ in 0..40_000 {
+        let text = any_text(&mut rng);
+        match parse(&text) {
+            Ok(text) => hidden += usize::from(has_hidden(&text.tree, &[])),
+            Err(refusal) => assert_ne!(refusal.number, LAMBDA_NAME_REPEATED),
+        }
+    }
+    assert!(hidden > 4000, "{hidden}");
+    assert!(refused_texts().iter().all(|refused| refused.number != LAMBDA_NAME_REPEATED));
 }

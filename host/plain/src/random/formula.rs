@@ -7,6 +7,8 @@ use crate::member::{Kind, Member};
 const KINDS: [Kind; 3] = [Kind::Number, Kind::Window, Kind::Function];
 pub(super) const NAMES: [&str; 12] =
     ["a", "b", "x", "y", "h", "x1", "abcdefgh", "abcdefgi", "bbcdefgh", "dat", "inn", "let1"];
+/// Names that are bound more often, so that they hide one another.
+const FEW: [&str; 2] = ["a", "b"];
 const NUMBERS: [&str; 12] =
     ["0", "1", "2", "3", "5", "-1", "-7", "007", "150", "2147483647", "-2147483648", "-0"];
 
@@ -68,15 +70,33 @@ impl Writer<'_> {
 
     /// A name to bind, seldom one that cannot be bound.
     fn name_to_bind(&mut self) -> &'static str {
-        let is_usual = !self.rng.one_in(80);
-        if is_usual { self.rng.pick(&NAMES) } else { self.rng.pick(&["data", "heartrate", "in"]) }
+        match self.rng.below(80) {
+            0 => self.rng.pick(&["data", "heartrate", "in"]),
+            1..=40 => self.rng.pick(&FEW),
+            _ => self.rng.pick(&NAMES),
+        }
     }
 
+    /// The name of a lambda. Within another it often has that one's, which it hides.
+    pub(super) fn name_of_lambda(&mut self) -> &'static str {
+        match self.lambdas.last() {
+            Some(outer) if self.rng.one_in(2) => outer,
+            _ => self.name_to_bind(),
+        }
+    }
+
+    /// A let. Within a lambda its value often is a variable, which a lambda in its body may
+    /// hide.
     fn let_expression(&mut self, kind: Kind, depth: u32) {
         let name = self.name_to_bind();
-        let value_kind = self.rng.pick(&KINDS);
+        let is_variable = !self.lambdas.is_empty() && self.rng.one_in(3);
+        let value_kind = if is_variable { Kind::Number } else { self.rng.pick(&KINDS) };
         self.put(&["let", name, "="]);
-        self.expression(value_kind, depth);
+        if is_variable {
+            self.name_or(Kind::Number, "1");
+        } else {
+            self.expression(value_kind, depth);
+        }
         self.put(&["in"]);
         self.scope.push((name, value_kind));
         self.expression(kind, depth);
@@ -88,10 +108,7 @@ impl Writer<'_> {
         if self.lambdas.len() == 2 && !self.rng.one_in(4) {
             return self.name_or(Kind::Function, "0");
         }
-        let name = self.name_to_bind();
-        if self.lambdas.contains(&name) && !self.rng.one_in(4) {
-            return self.lambda(depth);
-        }
+        let name = self.name_of_lambda();
         let body_kind = if self.rng.one_in(12) { self.rng.pick(&KINDS) } else { Kind::Number };
         self.put(&["\\", name, "->"]);
         self.lambdas.push(name);

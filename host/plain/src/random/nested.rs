@@ -42,12 +42,14 @@ impl Writer<'_> {
 
     /// A lambda that mostly gives numbers, by a run inside it if levels are left.
     fn nested_lambda(&mut self, levels: u32) {
-        let outer = self.lambdas.clone();
-        let free: Vec<&str> = NAMES.into_iter().filter(|name| !outer.contains(name)).collect();
-        let name = self.rng.pick(&free);
+        let held = self.scope.len();
+        let name = self.name_of_lambda();
         self.put(&["\\", name, "->"]);
         self.lambdas.push(name);
         self.scope.push((name, Kind::Number));
+        if levels > 0 && self.rng.one_in(3) {
+            self.let_variable(name);
+        }
         if levels > 0 && !self.rng.one_in(4) {
             self.nested_run(levels);
         } else if self.rng.one_in(4) {
@@ -59,8 +61,15 @@ impl Writer<'_> {
         self.put(&[".", member.name(), "("]);
         self.name_or(Kind::Number, "150");
         self.put(&[")"]);
-        self.scope.pop();
+        self.scope.truncate(held);
         self.lambdas.pop();
+    }
+
+    /// A let's name for a variable, which a lambda inside may hide.
+    fn let_variable(&mut self, variable: &'static str) {
+        let name = self.rng.pick(&NAMES);
+        self.put(&["let", name, "=", variable, "in"]);
+        self.scope.push((name, Kind::Number));
     }
 
     /// A member of the recording and a number, which mostly is a lambda's variable.

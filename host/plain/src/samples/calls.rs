@@ -1,7 +1,7 @@
 //! Lists of calls about the refusals that no text decides alone: 1, 2, 3, 13 to 16.
 
 use super::taken::forms_128;
-use super::{ALL, RECORDING, Step, edit, open, preview, print};
+use super::{ALL, RECORDING, Step, edit, named, open, preview, print};
 use crate::model::{Answer, Call};
 use crate::shown::Shown;
 
@@ -41,6 +41,7 @@ pub fn sessions() -> Vec<(&'static str, Vec<Step>)> {
         ("sizes of texts", texts()),
         ("entry numbers", entries()),
         ("bytes for a printed text", prints()),
+        ("levels of lambdas", levels()),
         ("a full table", full_table()),
         ("prints from a full table", full_table_prints()),
         ("an open clears", clearing()),
@@ -136,6 +137,39 @@ fn prints() -> Vec<Step> {
         (print(6, 8), refused(16)),
         (print(6, 7), refused(15)),
         (print(7, 13), refused(15)),
+    ]
+}
+
+/// One function outside of any lambda and inside another: two entries, which are both worked
+/// out, and of which one is printed. A part that awaits two variables of one name.
+fn levels() -> Vec<Step> {
+    let shown = |worked: u32, shown: Shown| Answer::Finished { worked, shown };
+    let delayed = |words: &[&str]| Shown::Delayed(words.iter().map(|word| named(word)).collect());
+    vec![
+        (open(&RECORDING), Answer::Opened),
+        (edit("data.sumBy(\\a -> a)"), edited(3, 4, &[0, 3, 2, 1])),
+        (edit("\\b -> data.sumBy(\\a -> a)"), edited(7, 4, &[7, 0, 6, 5, 4])),
+        (preview(1, 0), shown(0, delayed(&["a"]))),
+        (preview(4, 0), shown(0, delayed(&["a"]))),
+        (preview(3, ALL), finished(2, 755)),
+        (preview(6, 0), Answer::NotYet { worked: 0 }),
+        (preview(6, ALL), finished(2, 755)),
+        (print(2, 7), printed("\\a -> a")),
+        (print(3, 19), printed("data.sumBy(\\a -> a)")),
+        (print(5, 7), refused(16)),
+        (print(5, 6), refused(15)),
+        (print(6, 1024), refused(16)),
+        (print(7, 25), printed("\\b -> data.sumBy(\\a -> a)")),
+        (edit("\\a -> let x = a in \\a -> x.add(a)"), edited(10, 3, &[10, 9, 1, 9, 1, 8, 4])),
+        (preview(8, ALL), shown(1, delayed(&["a", "a"]))),
+        (preview(9, ALL), shown(1, delayed(&["a"]))),
+        (preview(10, ALL), shown(1, Shown::Function(named("a")))),
+        (print(8, 1024), refused(16)),
+        (print(9, 1024), refused(16)),
+        (print(10, 1024), refused(16)),
+        (edit("\\a -> \\a -> a.add(a)"), edited(13, 3, &[13, 12, 4, 11, 4])),
+        (preview(11, ALL), shown(1, delayed(&["a"]))),
+        (print(13, 20), printed("\\a -> \\a -> a.add(a)")),
     ]
 }
 

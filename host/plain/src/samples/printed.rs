@@ -63,6 +63,9 @@ const FUNCTIONS: &[(&str, &str)] = &[
     ("(\\a -> a).add((\\a -> a))", "(\\a -> a).add(\\a -> a)"),
     ("(\\a -> (\\b -> b.add(a)).sum()).max()", "(\\a -> (\\b -> b.add(a)).sum()).max()"),
     ("(\\a -> \\b -> a).add(\\b -> \\a -> b)", "(\\a -> \\b -> a).add(\\b -> \\a -> b)"),
+    ("\\a->\\a->a", "\\a -> \\a -> a"),
+    ("\\a -> (\\a -> a).add(a)", "\\a -> (\\a -> a).add(a)"),
+    ("data.sumBy(\\a -> data.sumBy(\\a -> a))", "data.sumBy(\\a -> data.sumBy(\\a -> a))"),
     ("data.sumBy((\\b -> b))", "data.sumBy(\\b -> b)"),
     (
         "data.sumBy(\\p -> data.countWhere(\\q -> q.gt(p)))",
@@ -85,7 +88,11 @@ const LETS: &[(&str, &str)] = &[
     ("data.sumBy(let f = \\a -> a in f)", "data.sumBy(\\a -> a)"),
     ("let f = \\a -> a in f.count()", "(\\a -> a).count()"),
     ("let f = \\a -> a in f.add(f)", "(\\a -> a).add(\\a -> a)"),
-    ("let f = \\a -> a in \\b -> f", "\\b -> \\a -> a"),
+    ("\\b -> let f = \\a -> a in f", "\\b -> \\a -> a"),
+    ("\\a -> let f = \\a -> a in data.sumBy(f)", "\\a -> data.sumBy(\\a -> a)"),
+    ("\\a -> let a = 1 in \\a -> a", "\\a -> \\a -> a"),
+    ("\\a -> let x = a in \\b -> x.add(b)", "\\a -> \\b -> a.add(b)"),
+    ("let f = \\a -> \\a -> a in f.add(f)", "(\\a -> \\a -> a).add(\\a -> \\a -> a)"),
     ("\\a -> let a = 3 in a", "\\a -> 3"),
     ("let y = b in \\a -> y", "\\a -> b"),
     (
@@ -100,7 +107,8 @@ const LETS: &[(&str, &str)] = &[
 
 /// Parts of texts. One with a variable of a lambda around it is turned away with 16: by
 /// itself the variable would be an unbound name. So is an unbound name under a lambda of
-/// its spelling, which would be that lambda's variable.
+/// its spelling, which would be that lambda's variable. And so is a function that would be
+/// read at another level than it was written at (02, T-05).
 pub const PARTS: &[Prints] = &[
     Prints {
         text: "let x = 2 in data.skip(1).take(x)",
@@ -136,11 +144,56 @@ pub const PARTS: &[Prints] = &[
     },
     Prints {
         text: "\\a -> data.countWhere(\\b -> b)",
+        parts: &[Ok("\\a -> data.countWhere(\\b -> b)"), Ok("data"), Err(16), Err(16), Err(16)],
+    },
+    // The twin outside of any lambda is printed, and the one inside another is not.
+    Prints {
+        text: "data.sumBy(\\a -> a).add(data.sumBy(\\b -> data.sumBy(\\a -> a)))",
         parts: &[
-            Ok("\\a -> data.countWhere(\\b -> b)"),
             Ok("data"),
-            Ok("data.countWhere(\\b -> b)"),
-            Ok("\\b -> b"),
+            Ok("data.sumBy(\\a -> a)"),
+            Ok("\\a -> a"),
+            Err(16),
+            Ok("data.sumBy(\\a -> a).add(data.sumBy(\\b -> data.sumBy(\\a -> a)))"),
+            Ok("data"),
+            Ok("data.sumBy(\\b -> data.sumBy(\\a -> a))"),
+            Ok("\\b -> data.sumBy(\\a -> a)"),
+            Ok("data"),
+            Err(16),
+            Err(16),
+            Err(16),
+        ],
+    },
+    Prints { text: "\\a -> \\a -> a", parts: &[Ok("\\a -> \\a -> a"), Err(16), Err(16)] },
+    Prints { text: "\\a -> \\a -> 1", parts: &[Ok("\\a -> \\a -> 1"), Err(16), Ok("1")] },
+    // By itself the whole would be `\a -> \a -> a.add(a)`, which adds the inner a to itself.
+    Prints {
+        text: "\\a -> let x = a in \\a -> x.add(a)",
+        parts: &[Err(16), Err(16), Err(16), Err(16), Err(16), Err(16), Err(16)],
+    },
+    // A function that was written outside of the lambda in which it is used, and one inside.
+    Prints {
+        text: "let f = \\a -> a in \\b -> f",
+        parts: &[Err(16), Ok("\\a -> a"), Err(16), Err(16), Ok("\\a -> a")],
+    },
+    Prints {
+        text: "\\b -> let f = \\a -> a in f",
+        parts: &[Ok("\\b -> \\a -> a"), Err(16), Err(16), Err(16), Err(16)],
+    },
+    Prints {
+        text: "let f = \\a -> a in \\b -> data.sumBy(f).add(data.sumBy(\\a -> a))",
+        parts: &[
+            Err(16),
+            Ok("\\a -> a"),
+            Err(16),
+            Err(16),
+            Ok("data"),
+            Ok("data.sumBy(\\a -> a)"),
+            Ok("\\a -> a"),
+            Err(16),
+            Ok("data"),
+            Err(16),
+            Err(16),
             Err(16),
         ],
     },
@@ -153,33 +206,33 @@ pub const PARTS: &[Prints] = &[
         text: "let y = x in (\\x -> y).add(\\z -> y)",
         parts: &[Err(16), Ok("x"), Err(16), Ok("x"), Err(16), Ok("\\z -> x"), Ok("x")],
     },
-    // The inner function is printed as it stands in no other; within one of its name the
-    // reader would decline it, with 11.
+    // The function is printed as it stands in no other. In the one of its name it would be
+    // read at another level.
     Prints {
         text: "let f = \\a -> a in \\a -> data.sumBy(f)",
         parts: &[
-            Err(15),
+            Err(16),
             Ok("\\a -> a"),
             Err(16),
-            Err(15),
+            Err(16),
             Ok("data"),
             Ok("data.sumBy(\\a -> a)"),
             Ok("\\a -> a"),
         ],
     },
-    // The part `\a -> data.sumBy(f)` awaits c as well, and 15 comes before 16.
+    // The whole would have three lambdas open, and 15 comes before 16.
     Prints {
         text: "\\c -> let f = \\a -> c in data.take(c).sumBy(\\a -> data.sumBy(f))",
         parts: &[
             Err(15),
-            Err(15),
+            Err(16),
             Err(16),
             Err(16),
             Ok("data"),
             Err(16),
             Err(16),
-            Err(15),
-            Err(15),
+            Err(16),
+            Err(16),
             Ok("data"),
             Err(16),
             Err(16),
@@ -229,9 +282,8 @@ pub fn declined() -> Vec<(String, u8)> {
         (of_marks(15), 12),
     ];
     let functions = [
-        ("let f = \\a -> a in \\a -> f", 11),
-        ("let f = \\a -> a in \\a -> data.sumBy(f)", 11),
-        ("let f = \\a -> \\b -> a in \\a -> f", 11),
+        ("let f = \\a -> \\b -> a in \\a -> f", 10),
+        ("let f = \\a -> \\a -> a in \\a -> f", 10),
         ("let f = \\a -> \\b -> a in \\b -> f", 10),
         ("let f = \\a -> \\b -> a in \\c -> f", 10),
         ("let f = \\a -> \\b -> a in (\\c -> f).count()", 10),

@@ -36,7 +36,7 @@ pub fn refused_texts() -> Vec<RefusedText> {
     lists.into_iter().flatten().collect()
 }
 
-/// The small examples of 01's table.
+/// The small examples of 01's table, but for that of 11, which never occurs (02, T-05).
 pub fn table() -> Vec<RefusedText> {
     let mut examples = list(&[
         ("data.", 5, 5),
@@ -45,7 +45,6 @@ pub fn table() -> Vec<RefusedText> {
         ("let data = 1 in 2", 8, 4),
         ("data.skip()", 9, 10),
         ("\\a -> \\b -> \\c -> 1", 10, 12),
-        ("\\a -> \\a -> 1", 11, 7),
     ]);
     examples.push(refused("(".repeat(17), 12, 16));
     examples
@@ -283,7 +282,7 @@ fn names() -> Vec<RefusedText> {
     ])
 }
 
-/// The third open lambda and repeated lambda names.
+/// The third open lambda. A lambda of an outer one's name is none of these.
 fn lambdas() -> Vec<RefusedText> {
     list(&[
         ("\\a -> \\b -> \\a -> 1", 10, 12),
@@ -291,12 +290,14 @@ fn lambdas() -> Vec<RefusedText> {
         ("\\a -> \\b -> data.sumBy(\\c -> 1)", 10, 23),
         ("\\a -> \\b -> data.count(\\c -> 1)", 9, 23),
         ("\\a -> let f = \\b -> \\c -> 1 in 2", 10, 20),
-        ("\\a -> let a = 1 in \\a -> a", 11, 20),
-        ("\\a -> let f = \\a -> a in 1", 11, 15),
-        ("\\a -> data.sumBy(\\a -> a)", 11, 18),
-        ("\\a -> data.sumBy((\\a -> a))", 11, 19),
+        ("\\a -> \\a -> \\a -> 1", 10, 12),
+        ("\\a -> let f = \\a -> \\a -> a in 1", 10, 20),
+        ("\\a -> \\a -> data.sumBy(\\a -> a)", 10, 23),
+        ("\\a -> data.sumBy(\\a -> let a = \\a -> a in a)", 10, 31),
+        ("\\a -> \\a 1", 5, 9),
+        ("\\a -> \\a -> ", 5, 12),
         ("\\a -> (\\b -> b).add(\\b -> \\c -> 1)", 10, 26),
-        ("\\abcdefgh -> \\abcdefgh -> 1", 11, 14),
+        ("\\abcdefgh -> \\abcdefgh -> heartrate", 7, 26),
         ("\\a -> \\heartrate -> 1", 7, 7),
     ])
 }

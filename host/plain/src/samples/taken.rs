@@ -109,6 +109,13 @@ fn names_and_scopes() -> Vec<TakenText> {
         taken("let a = \\a -> a in \\a -> a", 5),
         taken("data.sumBy(\\a -> 1).add(data.sumBy(\\a -> 2))", 9),
         taken("let a = a in a", 3),
+        taken("\\a -> \\a -> 1", 3),
+        taken("\\a -> let a = 1 in \\a -> a", 5),
+        taken("\\a -> let f = \\a -> a in 1", 5),
+        taken("\\a -> let x = a in \\a -> x.add(a)", 7),
+        taken("\\a -> data.sumBy(\\a -> a)", 5),
+        taken("\\a -> data.sumBy((\\a -> a))", 5),
+        taken("\\abcdefgh -> \\abcdefgh -> 1", 3),
     ]
 }
 

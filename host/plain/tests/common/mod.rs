@@ -2,7 +2,7 @@
 #![allow(dead_code)]
 
 use plain::model::{Answer, Model};
-use plain::name::Name;
+use plain::name::{Name, Variable};
 use plain::samples::{ALL, RECORDING, Step, edit, open, preview};
 use plain::shown::{Shown, Window};
 
@@ -50,6 +50,10 @@ pub fn check_shown(rows: &[(&str, Shown)]) {
 
 pub fn name(word: &str) -> Name {
     Name::new(word).expect("a name has at most 8 bytes")
+}
+
+pub fn variable(word: &str, level: usize) -> Variable {
+    Variable { name: name(word), level }
 }
 
 pub fn number(value: i32) -> Shown {

@@ -28,6 +28,9 @@ cast-t12 c = search needs
 cast-t15 : tie.Need-cast-t15
 cast-t15 c = search needs
 
+cast-t18 : tie.Need-cast-t18
+cast-t18 c = search needs
+
 returns : tie.Need-returns
 returns c = search (needs, binding)
 
@@ -43,4 +46,5 @@ record-at-spec =
     at64-requires-2
     cast-t12
     cast-t15
+    cast-t18
     returns)

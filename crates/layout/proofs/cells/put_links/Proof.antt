@@ -1,4 +1,4 @@
--- The three links that are written. Assumes nothing.
+-- The four links that are written. Assumes nothing.
 use mathlib.Core.Path.{refl}
 use native.Mathlib.Omega.{arith}
 use borrow.Author.Needs.{needs}
@@ -32,7 +32,16 @@ mul-links-3 : tie.Need-mul-links-3
 mul-links-3 c = search needs
 
 slice-write-links-3 : tie.Need-slice-write-links-3
-slice-write-links-3 c = search needs
+slice-write-links-3 c = simp length-set (omega arith)
+
+add-links-3 : tie.Need-add-links-3
+add-links-3 c = search needs
+
+mul-links-4 : tie.Need-mul-links-4
+mul-links-4 c = search needs
+
+slice-write-links-4 : tie.Need-slice-write-links-4
+slice-write-links-4 c = search needs
 
 same-length : tie.Need-same-length
 same-length c = search needs
@@ -54,5 +63,8 @@ put-links-spec =
     add-links-2
     mul-links-3
     slice-write-links-3
+    add-links-3
+    mul-links-4
+    slice-write-links-4
     same-length
     returns)

@@ -28,6 +28,9 @@ narrow-requires-2 c κs = search needs
 narrow-requires-3 : tie.Need-narrow-requires-3
 narrow-requires-3 c κs = search needs
 
+narrow-requires-4 : tie.Need-narrow-requires-4
+narrow-requires-4 c κs = search needs
+
 returns : tie.Need-returns
 returns c = search (needs, nodes)
 
@@ -43,4 +46,5 @@ fresh-at-spec =
     at64-requires-2
     narrow-requires-2
     narrow-requires-3
+    narrow-requires-4
     returns)

@@ -16,10 +16,19 @@ first-of-requires c κs = search needs
 second-of-requires : tie.Need-second-of-requires
 second-of-requires c κs = search needs
 
+level-of-requires : tie.Need-level-of-requires
+level-of-requires c κs = search needs
+
 returns : tie.Need-returns
 returns c = search (needs, nodes)
 
 pub node-at-spec : {M : Type 1} → statement M
 node-at-spec =
     tie.close
-    (tie.spec kind-of-requires key-of-requires first-of-requires second-of-requires returns)
+    (tie.spec
+    kind-of-requires
+    key-of-requires
+    first-of-requires
+    second-of-requires
+    level-of-requires
+    returns)

@@ -1,12 +1,11 @@
 -- Each path is a step of the walk over the entry's form. The measure is the entry, and in the loop over receivers the receiver. Assumes nothing.
-use mathlib.Core.Path.{refl, _∙_}
+use mathlib.Core.Path.{_∙_}
 use mathlib.Core.Logic.{⊎-elim}
 use Prim.Native.Nat.{ℕ, _<_}
 use native.Mathlib.Omega.{arith}
 use borrow.Author.Needs.{needs}
 use borrow.Fn.Kinds.{In}
 use borrow.Fn.PlainCycle.{Measures, is, falls, and}
-use Rattle.layout.specs.Nodes.{functionKind}
 use Rattle.layout.specs.Held.{shaped}
 use Rattle.printer.specs.Walking.{Walks}
 use Rattle.printer.specs.WalkingLaws as L
@@ -95,6 +94,7 @@ walk-walk-requires t c κs =
         L.argument-held _ _ _ _ _ _ (p .0) _ _ _ _ w m _ o (at-if2 .if2 .left) (at-if3 .if3 .taken) _ (c .entry-of .ensures),
         L.fewer _ _ _ _ _ _ (p .0) _ _ _ _ w m _ o (at-if2 .if2 .left),
         L.call-few _ _ _ _ _ _ (p .0) _ _ _ _ w m _ o,
+        p .4,
       ),
     )
 
@@ -135,10 +135,7 @@ walk-loop-again t c =
     (at-if3 .if3 .came)
 
 walk-open-function-requires : (t : ℕ) → walk-lts.Need-open-function-requires (walk-claims t) (walk-at t) walk.Post walk-Inv-loop walk-μ-loop
-walk-open-function-requires t c κs =
-    let at-loop = c .before .before .before .before in
-    let p = at-loop .before .before .before .before .pre .1 in
-    L.key-name _ functionKind (c .if4 .taken) (L.walks-key _ _ _ _ _ _ (p .0) _ _ _ _ (at-loop .loop .inv)) refl refl
+walk-open-function-requires t c κs = search needs
 
 walk-returns-2 : (t : ℕ) → walk-lts.Need-returns-2 (walk-claims t) (walk-at t) walk.Post walk-Inv-loop walk-μ-loop
 walk-returns-2 t c =
@@ -173,6 +170,7 @@ walk-walk-requires-2 t c κs =
         L.body-held _ _ _ _ _ _ (p .0) _ _ _ _ w k _ o (at-if5 .if5 .left) _ (c .entry-of3 .ensures),
         L.deeper _ _ _ _ _ _ (p .0) _ _ _ _ w k _ o (at-if5 .if5 .left),
         L.function-few _ _ _ _ _ _ (p .0) _ _ _ _ w k _ o,
+        (L.walks-level _ _ _ _ _ _ (p .0) _ _ _ _ w, p .4 .0),
       ),
     )
 
@@ -188,7 +186,8 @@ walk-walk-leaf-requires : (t : ℕ) → walk-lts.Need-walk-leaf-requires (walk-c
 walk-walk-leaf-requires t c κs =
     let at-loop = c .before .before .before .before in
     let p = at-loop .before .before .before .before .pre .1 in
-    L.walks-key _ _ _ _ _ _ (p .0) _ _ _ _ (at-loop .loop .inv)
+    let w = at-loop .loop .inv in
+    (L.walks-key _ _ _ _ _ _ (p .0) _ _ _ _ w, L.walks-level _ _ _ _ _ _ (p .0) _ _ _ _ w, p .4)
 
 walk-returns-4 : (t : ℕ) → walk-lts.Need-returns-4 (walk-claims t) (walk-at t) walk.Post walk-Inv-loop walk-μ-loop
 walk-returns-4 t c =

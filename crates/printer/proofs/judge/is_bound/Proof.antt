@@ -4,7 +4,7 @@ use Rattle.printer.proofs.judge.is_bound.Statement.{statement}
 use Rattle.printer.proofs.judge.is_bound.Tie as tie
 
 returns : tie.Need-returns
-returns c = bound-names _ _ (c .before .before .pre)
+returns c = let p = c .before .before .pre in bound-names _ _ (p .0) (p .1)
 
 pub is-bound-spec : {M : Type 1} → statement M
 is-bound-spec = tie.close (tie.spec returns)

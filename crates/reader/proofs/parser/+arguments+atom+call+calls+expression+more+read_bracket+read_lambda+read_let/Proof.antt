@@ -44,6 +44,7 @@ use Rattle.steps.proofs.cursor.at_comma.Reads as at-comma-reads
 use Rattle.steps.proofs.cursor.call_head.Reads as call-head-reads
 use Rattle.steps.proofs.cursor.judged.Reads as judged-reads
 use Rattle.steps.proofs.cursor.lambda_head.Reads as lambda-head-reads
+use Rattle.steps.proofs.cursor.lambdas_in.Reads as lambdas-in-reads
 use Rattle.steps.proofs.cursor.let_head.Reads as let-head-reads
 use Rattle.steps.proofs.cursor.need.Reads as need-reads
 use Rattle.steps.proofs.cursor.refused.Reads as refused-reads
@@ -578,30 +579,35 @@ read-bracket-returns-3 t c =
 
 abbrev read-lambda-claims : ℕ → read-lambda-lts.Claims
 read-lambda-claims t =
-    (lambda-head-reads.Asked, lambda-head-reads.Learnt, enter-reads.Asked, enter-reads.Learnt, expression-below t, expression.Post, put-reads.Asked, put-reads.Learnt)
+    (lambda-head-reads.Asked, lambda-head-reads.Learnt, lambdas-in-reads.Asked, lambdas-in-reads.Learnt, enter-reads.Asked, enter-reads.Learnt, expression-below t, expression.Post, put-reads.Asked, put-reads.Learnt)
 
 read-lambda-lambda-head-requires : (t : ℕ) → read-lambda-lts.Need-lambda-head-requires (read-lambda-claims t) (read-lambda-at t) read-lambda.Post
 read-lambda-lambda-head-requires t c κs = (c .before .before .pre .1 .fit .parts, omega (arith, c .before .before .pre .1 .fit .depth, c .before .before .pre .1 .fit .marks))
 
+read-lambda-lambdas-in-requires : (t : ℕ) → read-lambda-lts.Need-lambdas-in-requires (read-lambda-claims t) (read-lambda-at t) read-lambda.Post
+read-lambda-lambdas-in-requires t c κs =
+    let at-pre = c .before .before .before .before .before .before in
+    omega (arith, at-pre .pre .1 .fit .depth, at-pre .pre .1 .fit .marks)
+
 read-lambda-enter-requires : (t : ℕ) → read-lambda-lts.Need-enter-requires (read-lambda-claims t) (read-lambda-at t) read-lambda.Post
 read-lambda-enter-requires t c κs =
-    let at-if1 = c .before in
+    let at-if1 = c .before .before .before in
     let at-lambda-head = at-if1 .before .before in
     let at-pre = at-lambda-head .before .before .before in
     L.lambda-deep _ _ _ _ _ _ _ _ _ (at-pre .pre .1) (at-lambda-head .lambda-head .ensures) (at-if1 .if1 .taken)
 
 read-lambda-add-expression : (t : ℕ) → read-lambda-lts.Need-add-expression (read-lambda-claims t) (read-lambda-at t) read-lambda.Post
-read-lambda-add-expression t c = omega (arith, c .before .before .before .before .before .before .before .pre .1 .fit .marks)
+read-lambda-add-expression t c = omega (arith, c .before .before .before .before .before .before .before .before .before .pre .1 .fit .marks)
 
 read-lambda-add-expression-2 : (t : ℕ) → read-lambda-lts.Need-add-expression-2 (read-lambda-claims t) (read-lambda-at t) read-lambda.Post
 read-lambda-add-expression-2 t c =
-    let at-pre = c .before .before .before .before .before .before .before in
+    let at-pre = c .before .before .before .before .before .before .before .before .before in
     omega (arith, at-pre .pre .1 .fit .depth, at-pre .pre .1 .fit .marks)
 
 read-lambda-expression-requires : (t : ℕ) → read-lambda-lts.Need-expression-requires (read-lambda-claims t) (read-lambda-at t) read-lambda.Post
 read-lambda-expression-requires t c κs =
     let at-enter = c .before .before .before in
-    let at-if1 = at-enter .before .before in
+    let at-if1 = at-enter .before .before .before .before in
     let at-lambda-head = at-if1 .before .before in
     let at-pre = at-lambda-head .before .before .before in (
       omega (arith, at-pre .pre .0, L.lambda-less _ _ _ _ _ _ _ _ _ (at-pre .pre .1) (at-lambda-head .lambda-head .ensures) (at-if1 .if1 .taken)),
@@ -613,7 +619,7 @@ read-lambda-add-put t c =
     let at-if2 = c .before in
     let at-expression = at-if2 .before .before in
     let at-enter = at-expression .before .before .before .before in
-    let at-if1 = at-enter .before .before in
+    let at-if1 = at-enter .before .before .before .before in
     let at-lambda-head = at-if1 .before .before in
     let at-pre = at-lambda-head .before .before .before in
     omega (
@@ -627,7 +633,7 @@ read-lambda-put-requires t c κs =
     let at-if2 = c .before .before .before in
     let at-expression = at-if2 .before .before in
     let at-enter = at-expression .before .before .before .before in
-    let at-if1 = at-enter .before .before in
+    let at-if1 = at-enter .before .before .before .before in
     let at-lambda-head = at-if1 .before .before in
     let at-pre = at-lambda-head .before .before .before in
     L.lambda-room _ _ _ _ _ _ _ _ _ (at-pre .pre .1) (at-lambda-head .lambda-head .ensures) (at-if1 .if1 .taken) _ (at-enter .enter .ensures) _ _ _ _
@@ -638,17 +644,18 @@ read-lambda-returns t c =
     let at-if2 = c .before .before .before .before in
     let at-expression = at-if2 .before .before in
     let at-enter = at-expression .before .before .before .before in
-    let at-if1 = at-enter .before .before in
+    let at-lambdas-in = at-enter .before .before in
+    let at-if1 = at-lambdas-in .before .before in
     let at-lambda-head = at-if1 .before .before in
     let at-pre = at-lambda-head .before .before .before in
     L.lambda-read _ _ _ _ _ _ _ _ _ (at-pre .pre .1) (at-lambda-head .lambda-head .ensures) (at-if1 .if1 .taken) _ (at-enter .enter .ensures) _ _ _ _
-    (at-expression .expression .ensures) (at-if2 .if2 .taken) (c .put .ensures)
+    (at-expression .expression .ensures) (at-if2 .if2 .taken) _ (at-lambdas-in .lambdas-in .ensures) (c .put .ensures)
 
 read-lambda-returns-2 : (t : ℕ) → read-lambda-lts.Need-returns-2 (read-lambda-claims t) (read-lambda-at t) read-lambda.Post
 read-lambda-returns-2 t c =
     let at-expression = c .before .before in
     let at-enter = at-expression .before .before .before .before in
-    let at-if1 = at-enter .before .before in
+    let at-if1 = at-enter .before .before .before .before in
     let at-lambda-head = at-if1 .before .before in
     let at-pre = at-lambda-head .before .before .before in
     L.lambda-body-refused _ _ _ _ _ _ _ _ _ (at-pre .pre .1) (at-lambda-head .lambda-head .ensures) (at-if1 .if1 .taken) _ (at-enter .enter .ensures)
@@ -906,6 +913,7 @@ pub +arguments+atom+call+calls+expression+more+read-bracket+read-lambda+read-let
     (read-lambda-at t)
     read-lambda.Post
     (read-lambda-lambda-head-requires t)
+    (read-lambda-lambdas-in-requires t)
     (read-lambda-enter-requires t)
     (read-lambda-add-expression t)
     (read-lambda-add-expression-2 t)

@@ -13,8 +13,8 @@ at-lambda-requires c κs = search needs
 judged-part-requires : tie.Need-judged-part-requires
 judged-part-requires c κs = search needs
 
-lambda-name-requires : tie.Need-lambda-name-requires
-lambda-name-requires c κs = search needs
+binder-name-requires : tie.Need-binder-name-requires
+binder-name-requires c κs = search needs
 
 need-requires : tie.Need-need-requires
 need-requires c κs = search needs
@@ -35,7 +35,7 @@ lambda-head-spec =
     lambdas-in-requires
     at-lambda-requires
     judged-part-requires
-    lambda-name-requires
+    binder-name-requires
     need-requires
     returns
     returns-2

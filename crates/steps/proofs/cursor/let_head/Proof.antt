@@ -10,8 +10,8 @@ at-let-requires c κs = search needs
 judged-part-requires : tie.Need-judged-part-requires
 judged-part-requires c κs = search needs
 
-let-name-requires : tie.Need-let-name-requires
-let-name-requires c κs = search needs
+binder-name-requires : tie.Need-binder-name-requires
+binder-name-requires c κs = search needs
 
 need-requires : tie.Need-need-requires
 need-requires c κs = search needs
@@ -31,7 +31,7 @@ let-head-spec =
     (tie.spec
     at-let-requires
     judged-part-requires
-    let-name-requires
+    binder-name-requires
     need-requires
     returns
     returns-2

@@ -22,20 +22,26 @@ add-records-2 c = search needs
 mul-records-3 : tie.Need-mul-records-3
 mul-records-3 c = search needs
 
+add-records-3 : tie.Need-add-records-3
+add-records-3 c = search needs
+
 mul-records-4 : tie.Need-mul-records-4
 mul-records-4 c = search needs
-
-element-write-records : tie.Need-element-write-records
-element-write-records c = search needs
 
 mul-records-5 : tie.Need-mul-records-5
 mul-records-5 c = search needs
 
-add-records-3 : tie.Need-add-records-3
-add-records-3 c = search needs
+element-write-records : tie.Need-element-write-records
+element-write-records c = search needs
 
 mul-records-6 : tie.Need-mul-records-6
 mul-records-6 c = search needs
+
+add-records-4 : tie.Need-add-records-4
+add-records-4 c = search needs
+
+mul-records-7 : tie.Need-mul-records-7
+mul-records-7 c = search needs
 
 element-write-records-2 : tie.Need-element-write-records-2
 element-write-records-2 c = search needs
@@ -46,11 +52,11 @@ mul-places c = search needs
 element-write-places : tie.Need-element-write-places
 element-write-places c = search needs
 
-add-t26 : tie.Need-add-t26
-add-t26 c = search needs
+add-t30 : tie.Need-add-t30
+add-t30 c = search needs
 
 returns : tie.Need-returns
-returns c = put-path _ _ _ _ _ _ _ _
+returns c = put-path _ _ _ _ _ _ _ _ _
 
 pub put-spec : {M : Type 1} → statement M
 put-spec =
@@ -62,13 +68,15 @@ put-spec =
     mul-records-2
     add-records-2
     mul-records-3
-    mul-records-4
-    element-write-records
-    mul-records-5
     add-records-3
+    mul-records-4
+    mul-records-5
+    element-write-records
     mul-records-6
+    add-records-4
+    mul-records-7
     element-write-records-2
     mul-places
     element-write-places
-    add-t26
+    add-t30
     returns)

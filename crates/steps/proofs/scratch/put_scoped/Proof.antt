@@ -7,14 +7,20 @@ use Rattle.steps.proofs.scratch.put_scoped.Tie as tie
 put-requires : tie.Need-put-requires
 put-requires c κs = search needs
 
-mul-i : tie.Need-mul-i
-mul-i c = search needs
-
 sub-i : tie.Need-sub-i
 sub-i c = search needs
 
+lambdas-in-requires : tie.Need-lambdas-in-requires
+lambdas-in-requires c κs = search needs
+
 mul-put-bound : tie.Need-mul-put-bound
 mul-put-bound c = search needs
+
+add-put-bound : tie.Need-add-put-bound
+add-put-bound c = search needs
+
+mul-put-bound-2 : tie.Need-mul-put-bound-2
+mul-put-bound-2 c = search needs
 
 element-copy-out-put-bound : tie.Need-element-copy-out-put-bound
 element-copy-out-put-bound c = search needs
@@ -33,9 +39,11 @@ put-scoped-spec =
     tie.close
     (tie.spec
     put-requires
-    mul-i
     sub-i
+    lambdas-in-requires
     mul-put-bound
+    add-put-bound
+    mul-put-bound-2
     element-copy-out-put-bound
     put-bound-requires
     returns

@@ -13,11 +13,17 @@ first-of-requires c κs = search needs
 second-of-requires : tie.Need-second-of-requires
 second-of-requires c κs = search needs
 
+level-of-requires : tie.Need-level-of-requires
+level-of-requires c κs = search needs
+
 key-of-requires : tie.Need-key-of-requires
 key-of-requires c κs = search needs
 
 key-right-requires : tie.Need-key-right-requires
 key-right-requires c κs = search needs
+
+level-right-requires : tie.Need-level-right-requires
+level-right-requires c κs = search needs
 
 arity-right-requires : tie.Need-arity-right-requires
 arity-right-requires c κs = search needs
@@ -35,8 +41,10 @@ node-right-spec =
     kind-of-requires
     first-of-requires
     second-of-requires
+    level-of-requires
     key-of-requires
     key-right-requires
+    level-right-requires
     arity-right-requires
     returns
     returns-2)

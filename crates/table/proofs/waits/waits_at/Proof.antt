@@ -33,6 +33,9 @@ waits-of-requires c κs = search waiting
 key-of-requires : tie.Need-key-of-requires
 key-of-requires c κs = search waiting
 
+level-of-requires : tie.Need-level-of-requires
+level-of-requires c κs = search waiting
+
 without-requires : tie.Need-without-requires
 without-requires c κs = search waiting
 
@@ -68,6 +71,7 @@ waits-at-spec =
     cast-waits-of
     waits-of-requires
     key-of-requires
+    level-of-requires
     without-requires
     returns-3
     second-of-requires
