@@ -8,3 +8,5 @@ pub mod Substitution
 pub mod SubstitutionLaws
 pub mod PartSubstitution
 pub mod PartSubstitutionLaws
+pub mod Levels
+pub mod LevelsLaws

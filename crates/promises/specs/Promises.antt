@@ -21,6 +21,7 @@ use lib.ListN.{length, take, drop}
 use Rattle.language.specs.Limits.{textParts, openLambdas, nameBytes, tableReadings}
 use Rattle.language.specs.Names.{packed, sameName, isData, dataWord}
 use Rattle.grammar.specs.Grammar.{Expression, spellE, Spells}
+use Rattle.grammar.specs.Faults.{outermost}
 use Rattle.grammar.specs.KeptLimits.{partsE, KeepsLimits}
 use Rattle.grammar.specs.Reading.{tree, refused as refusedAt, RefusedBy, placeOf, tokensOf}
 use Rattle.grammar.specs.Machine.{readText}
@@ -47,6 +48,8 @@ use Rattle.rules.specs.Apply.{isDelayed, apply1}
 use Rattle.meaning.specs.Binding.{formOf, formsByPlace}
 use Rattle.meaning.specs.Evaluation.{valueOf, runOf, Environment, bind, lookup, settled, evaluate, putFor, hasName, awaited, aWindow, aDelay, aReason, shows}
 use Rattle.meaning.specs.EvaluationLaws.{evaluate-put}
+use Rattle.meaning.specs.Levels.{LevelledE}
+use Rattle.meaning.specs.LevelsLaws as Written
 use Rattle.meaning.specs.Substitution.{Substituted, AtLetsE}
 use Rattle.meaning.specs.PartSubstitution.{PartsSubstituted}
 use Rattle.printing.specs.Trees.{treeOf}
@@ -266,6 +269,10 @@ never-eleven = text-never-eleven
 
 pub edit-never-eleven : (m : Memory) (places text : List ℕ) (at : ℕ) → ¬ (editAnswer m places text ≡ refused 11 at)
 edit-never-eleven = Declined.edit-never-eleven
+
+-- Each lambda of a text that is read has its own name and, as its level, the number of lambdas that are open around it, lets not replaced.
+pub levels-written : (text : List ℕ) (e : Expression) → readText text ≡ tree e → LevelledE e [] outermost
+levels-written text e h = Written.levels-written e (text-read-plainly text e .0 h .1)
 
 -- A lambda variable is its name and its level: the number that stands for both loses neither, for levels below 256, and those of an entry are 0
 -- or 1.
