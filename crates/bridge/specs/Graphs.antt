@@ -3,7 +3,7 @@
 use mathlib.Core.Path.{_≡_, refl, sym, ap, _∙_, subst}
 use mathlib.Core.Bool.{Bool, true, false, cond}
 use mathlib.Core.List.{List, [], _∷_}
-use Prim.Native.Nat.{ℕ, zero, suc, _-_, _<_}
+use Prim.Native.Nat.{ℕ, zero, suc, _-_}
 use native.Mathlib.Omega.{arith}
 use borrow.Author.Tests.{eqb-true, eq-eqb}
 use lib.Dec.{eqb}
@@ -13,8 +13,8 @@ use Rattle.members.specs.declared.Member.{Member}
 use Rattle.members.specs.declared.Found.{Found}
 use Rattle.members.specs.declared.Found.the-variants.{Is, Unknown}
 use Rattle.language.specs.Cases.{impossible, split, either, or-right}
-use Rattle.meaning.specs.Forms.{Form, withLevel, nameIn, levelIn, number, variable, unbound, readings, ask, call, function, same, dependency, firstOf, secondOf}
-use Rattle.meaning.specs.FormsLaws.{same-eq, same-self}
+use Rattle.meaning.specs.Forms.{Form, nameIn, levelIn, number, variable, unbound, readings, ask, call, function, same, dependency, firstOf, secondOf}
+use Rattle.meaning.specs.FormsLaws.{name-back, level-back, same-eq, same-self}
 use Rattle.model.specs.Lists.{member}
 use Rattle.model.specs.ListLaws.{Equality}
 use Rattle.model.specs.Graph.{among, Graph, GraphLaws}
@@ -93,25 +93,18 @@ among-second i j = split (eqb i j) (λ e. rw e) (λ e. rw (e, eq-eqb j j refl))
 pub number-key : (key : ℕ) → numberKey (numberOfKey key) ≡ key
 number-key key = ap natAbs (-ℤ-+ℤ-cancel (pos key) (pos 2147483648))
 
--- a variable's name and level
-name-back : (x k : ℕ) → k < 2 → nameIn (withLevel x k) ≡ x
-name-back x k h = omega arith
-
-level-back : (x k : ℕ) → k < 2 → levelIn (withLevel x k) ≡ k
-level-back x k h = omega arith
-
 known : {n : Node} (φ : ℕ → Form) (k : Fine n) → Known n φ (nodeForm k φ)
 unfolding nodeOf firstOf secondOf
 known φ (aNumber key) = record { left = 0; right = 0; made = ap (λ (k : ℕ). node numberKind k 0 0) (sym (number-key key)); first = absurd; second = absurd }
 known φ (aVariable x k low) =
-    let p = name-back x k low in
-    let q = level-back x k low in
+    let p = name-back x k (omega arith) in
+    let q = level-back x k (omega arith) in
     record { left = 0; right = 0; made = rw (p, q); first = absurd; second = absurd }
 known φ (anUnbound x) = record { left = 0; right = 0; made = refl; first = absurd; second = absurd }
 known φ theReadings = record { left = 0; right = 0; made = refl; first = absurd; second = absurd }
 known φ (aFunction x b k low) =
-    let p = name-back x k low in
-    let q = level-back x k low in
+    let p = name-back x k (omega arith) in
+    let q = level-back x k (omega arith) in
     record { left = b; right = 0; made = rw (p, q); first = λ u. (rw (kids-function x b k) (among-first b []), refl); second = absurd }
 known φ (anAsk m f e) = record { left = f; right = 0; made = refl; first = λ u. (rw (kids-ask m f e) (among-first f []), refl); second = absurd }
 known φ (aCall m f a e) =

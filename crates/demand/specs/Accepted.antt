@@ -18,7 +18,7 @@ use Rattle.members.specs.MembersLaws.{number-below}
 use Rattle.members.specs.declared.Member.{Member}
 use Rattle.values.specs.Packing.{isPacked}
 use Rattle.meaning.specs.Forms.{Form, readings, same, works, nameIn, withLevel}
-use Rattle.meaning.specs.FormsLaws.{same-eq, same-self}
+use Rattle.meaning.specs.FormsLaws.{name-back, same-eq, same-self}
 use Rattle.meaning.specs.Evaluation.{awaited, Shown, shows}
 use Rattle.grammar.specs.KeptLimits.{InRange}
 use Rattle.model.specs.Lists.{All, member as isIn}
@@ -78,10 +78,10 @@ key-small key h =
 pub key-right : (n : Node) (φ : ℕ → Form) → Fine n → Shape (build n φ) → keyRight n ≡ true
 unfolding keyRight build
 key-right _ φ (aNumber key) s = lt-ltb key (2 ^ 32) (key-small key s)
-key-right _ φ (aVariable x k l) s = let q : nameIn (withLevel x k) ≡ x = omega arith in rw q at s
+key-right _ φ (aVariable x k l) s = rw (name-back x k (omega arith)) at s
 key-right _ φ (anUnbound x) s = s
 key-right _ φ theReadings s = refl
-key-right _ φ (aFunction x b k l) s = let q : nameIn (withLevel x k) ≡ x = omega arith in rw q at s
+key-right _ φ (aFunction x b k l) s = rw (name-back x k (omega arith)) at s
 key-right _ φ (anAsk m f e) s =
     let no = not-member m in
     rw (no numberKind (omega arith), no variableKind (omega arith), no unboundKind (omega arith), no functionKind (omega arith))

@@ -15,6 +15,7 @@ use lib.Signed.{mag}
 use Rattle.language.specs.Cases.{impossible, split}
 use Rattle.language.specs.Limits.{tableEntries}
 use Rattle.meaning.specs.Forms.{Form, readings, works, nameOf, same, dependency, within, nameIn, withLevel}
+use Rattle.meaning.specs.FormsLaws.{name-back}
 use Rattle.meaning.specs.Evaluation.{awaited, shows}
 use Rattle.model.specs.Lists.{All, countIf, index}
 use Rattle.model.specs.ListLaws.{nth-has, nth-map, getD-nth, all-nth, member-nth, nth-index, index-nth, on-count}
@@ -76,7 +77,7 @@ says φ (aVariable x _ _) = says-leaf _ _ (omega arith) refl refl
 says φ (anUnbound x) = says-leaf _ _ (omega arith) refl refl
 says φ theReadings = says-leaf _ _ (omega arith) refl refl
 says φ (aFunction x b k l) =
-    let n : nameIn (withLevel x k) ≡ x = omega arith in
+    let n = name-back x k (omega arith) in
     record {
       key = λ h. sym n;
       first = λ d e. let q : d ≡ b = omega arith in among-by d _ _ (kids-function x b k) (rw q (among-first b []));

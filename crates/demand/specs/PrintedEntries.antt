@@ -10,6 +10,7 @@ use lib.Dec.{ltb, le→leb}
 use Rattle.language.specs.Cases.{split}
 use Rattle.grammar.specs.KeptLimits.{InRange}
 use Rattle.meaning.specs.Forms.{Form, nameIn, withLevel}
+use Rattle.meaning.specs.FormsLaws.{name-back}
 use Rattle.printing.specs.Printable.{Printable}
 use Rattle.printing.specs.Judging.{Saturated}
 use Rattle.model.specs.Graph.{among}
@@ -40,11 +41,11 @@ Readable f = Printable f × Saturated f
 node-readable : {q : Node} (k : Fine q) (φ : ℕ → Form) → keyRight q ≡ true → ((j : ℕ) → among j (kids q) ≡ true → Readable (φ j)) → Readable (nodeForm k φ)
 unfolding keyRight
 node-readable (aNumber key) φ r h = (key-range key (ltb-true key (2 ^ 32) r), tt)
-node-readable (aVariable x k l) φ r h = let q : nameIn (withLevel x k) ≡ x = omega arith in (rw q r, tt)
+node-readable (aVariable x k l) φ r h = let q = name-back x k (omega arith) in (rw q r, tt)
 node-readable (anUnbound x) φ r h = (r, tt)
 node-readable theReadings φ r h = (tt, tt)
 node-readable (aFunction x b k l) φ r h =
-    let q : nameIn (withLevel x k) ≡ x = omega arith in
+    let q = name-back x k (omega arith) in
     let i = h b (among-by b _ _ (kids-function x b k) (among-first b [])) in
     ((rw q r, i .0), i .1)
 node-readable (anAsk m f e) φ r h = let i = h f (among-by f _ _ (kids-ask m f e) (among-first f [])) in (i .0, (e, i .1))

@@ -22,6 +22,7 @@ use Rattle.values.specs.Packing.{packOf, unpackOf}
 use Rattle.values.specs.PackingLaws.{round}
 use Rattle.values.specs.Ranges.{down-range}
 use Rattle.meaning.specs.Forms.{Form, readings, nameOf, nameIn, withLevel}
+use Rattle.meaning.specs.FormsLaws.{name-back}
 use Rattle.meaning.specs.Evaluation.{valueOf, nowhere, lookup, evaluate, awaited, Shown, aNumber, aWindow, aFunction, aDelay, aReason, shownAs, shows}
 use Rattle.model.specs.ListLaws.{getD-nth}
 use Rattle.model.specs.Invariant.{Invariant}
@@ -166,7 +167,7 @@ leaf xs _ φ s (aNumber key) h k =
     let q : key % 4294967296 + 1 ≡ suc key = omega arith in
     record { value = q ∙ ap suc (sym (number-key key)); held = down-range 2147483648 key (omega arith); shown = λ u. refl }
 leaf xs _ φ s (aVariable x v l) h k =
-    let q : nameIn (withLevel x v) ≡ x = omega arith in
+    let q = name-back x v (omega arith) in
     record { value = refl; held = tt; shown = λ u. rw (name-some x h, q) }
 leaf xs _ φ s (anUnbound x) h k = record { value = refl; held = omega arith; shown = λ u. refl }
 leaf xs _ φ s theReadings h k = record { value = omega arith; held = (omega arith, omega arith); shown = λ u. refl }

@@ -37,8 +37,8 @@ isShown f = shows (pos 3 ∷ pos 4 ∷ []) f
 
 -- ---- trees
 
-use! : String → Expression
-use! x = name (bytes x) done
+used : String → Expression
+used x = name (bytes x) done
 
 -- a call with one argument
 with : String → String → Expression → Expression
@@ -58,23 +58,23 @@ inner = function (at "a" 1) (variable (at "a" 1))
 trees : List (Expression × Form)
 trees =
     -- a function inside another lambda is not its twin outside any
-    (lambda (bytes "a") (use! "a"), own)
-    ∷ (lambda (bytes "b") (with "data" "sumBy" (lambda (bytes "a") (use! "a"))), function (at "b" 0) (call SumBy readings inner))
+    (lambda (bytes "a") (used "a"), own)
+    ∷ (lambda (bytes "b") (with "data" "sumBy" (lambda (bytes "a") (used "a"))), function (at "b" 0) (call SumBy readings inner))
     -- a let's value has the levels of the place where it is written, wherever its name is used; a let is no level
-    ∷ (letIn (bytes "f") (lambda (bytes "a") (use! "a")) (lambda (bytes "b") (with "data" "sumBy" (use! "f"))), function (at "b" 0) (call SumBy readings own))
-    ∷ (letIn (bytes "x") (use! "data") (lambda (bytes "a") (use! "a")), own)
+    ∷ (letIn (bytes "f") (lambda (bytes "a") (used "a")) (lambda (bytes "b") (with "data" "sumBy" (used "f"))), function (at "b" 0) (call SumBy readings own))
+    ∷ (letIn (bytes "x") (used "data") (lambda (bytes "a") (used "a")), own)
     -- an inner lambda hides an outer one of its name, and a let between them keeps the outer variable
-    ∷ (lambda (bytes "a") (lambda (bytes "a") (use! "a")), function (at "a" 0) inner)
+    ∷ (lambda (bytes "a") (lambda (bytes "a") (used "a")), function (at "a" 0) inner)
     ∷ (
-      lambda (bytes "a") (letIn (bytes "x") (use! "a") (lambda (bytes "a") (with "x" "add" (use! "a")))),
+      lambda (bytes "a") (letIn (bytes "x") (used "a") (lambda (bytes "a") (with "x" "add" (used "a")))),
       function (at "a" 0) (function (at "a" 1) (call Add (variable (at "a" 0)) (variable (at "a" 1)))),
     )
     -- an unbound name has no level
-    ∷ (letIn (bytes "y") (use! "a") (lambda (bytes "a") (use! "y")), function (at "a" 0) (unbound (packed (bytes "a"))))
+    ∷ (letIn (bytes "y") (used "a") (lambda (bytes "a") (used "y")), function (at "a" 0) (unbound (packed (bytes "a"))))
     ∷ []
 
 trees-bound : map (λ (x : Expression × Form). formIs (x .0)) trees ≡ map (λ (x : Expression × Form). x .1) trees
-unfolding trees formIs with own inner use! at Names.bytes Names.packOnto
+unfolding trees formIs with own inner used at Names.bytes Names.packOnto
 trees-bound = refl
 
 -- ---- what is shown

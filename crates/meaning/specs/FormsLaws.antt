@@ -13,7 +13,7 @@ use Rattle.members.specs.declared.Member.{Member}
 use Rattle.rules.specs.Values.{sameℤ}
 use Rattle.meaning.specs.Forms.{IsDependency, ofAsk, receiver, argument, body, AtOrBelow, itself, through}
 use Rattle.meaning.specs.Forms.{Form, number, variable, unbound, readings, ask, call, function, same, dependency, within, works}
-use Rattle.meaning.specs.Forms.{levelBase, withLevel, sameMember, shapeOf, integerOf, nameOf, memberOf, firstOf, secondOf}
+use Rattle.meaning.specs.Forms.{levelBase, withLevel, nameIn, levelIn, sameMember, shapeOf, integerOf, nameOf, memberOf, firstOf, secondOf}
 
 -- pieces
 sameℤ-eq : (a b : ℤ) → sameℤ a b ≡ true → a ≡ b
@@ -250,6 +250,12 @@ dependent-works _ _ (body x b) = refl
 pub works-exactly : (f : Form) → (works f ≡ true) ↔ ((d : Form) × IsDependency d f)
 works-exactly f = (has-dependency f, λ p. dependent-works (p .0) f (p .1))
 
--- the number of a name and a level loses neither
+-- the number of a name and a level: both are found again, so that it loses neither
+pub name-back : (x k : ℕ) → k < levelBase → nameIn (withLevel x k) ≡ x
+name-back x k h = omega arith
+
+pub level-back : (x k : ℕ) → k < levelBase → levelIn (withLevel x k) ≡ k
+level-back x k h = omega arith
+
 pub variable-exactly : (x y k l : ℕ) → k < levelBase → l < levelBase → (withLevel x k ≡ withLevel y l) ↔ ((x ≡ y) × (k ≡ l))
 variable-exactly x y k l h i = (λ e. (omega arith, omega arith), λ e. let p = e .0 in let q = e .1 in omega arith)

@@ -11,6 +11,7 @@ use Rattle.language.specs.Cases.{split}
 use Rattle.language.specs.Limits.{openMarks, openLambdas}
 use Rattle.members.specs.declared.Member.{Member}
 use Rattle.meaning.specs.Forms.{Form, withLevel, nameIn, levelIn, ask, call, function}
+use Rattle.meaning.specs.FormsLaws.{name-back}
 use Rattle.meaning.specs.Evaluation.{hasName}
 use Rattle.layout.specs.Memory.{Node, nodeAt}
 use Rattle.layout.specs.Nodes.{numberKind, variableKind, unboundKind, functionKind, variableIn, build, isName}
@@ -34,15 +35,14 @@ or-none : (b : Bool) → (b || false) ≡ b
 or-none true = refl
 or-none false = refl
 
-name-back : (x k : ℕ) → k < openLambdas → nameIn (withLevel x k) ≡ x
-name-back x k h = omega arith
-
 pub bound-names : (x : ℕ) (s : Scope) → isName x ≡ true → Low s → (eqb x (s .inner) || eqb x (s .outer)) ≡ hasName x (map nameIn (variables s))
 unfolding variables hasName
 bound-names x s h l =
     let n = name-some x h in
-    let a = name-back (s .inner) (s .near) (l .0) in
-    let b = name-back (s .outer) (s .far) (l .1) in
+    let near = l .0 in
+    let far = l .1 in
+    let a = name-back (s .inner) (s .near) (omega arith) in
+    let b = name-back (s .outer) (s .far) (omega arith) in
     split (eqb (s .outer) 0)
     (λ e. let z = eqb-true (s .outer) 0 e in
     rw (e, z, n)
@@ -64,11 +64,11 @@ module _ (x level : ℕ) (s : Scope) (named : isName x ≡ true) (low : level < 
   -- the first function has its name, or another
   first-own : (y k : ℕ) → k < openLambdas → x ≡ y → (ys : List ℕ) → eqb level k ≡ isInnermost v (withLevel y k ∷ ys)
   unfolding isInnermost
-  first-own y k h e ys = rw (name-back x level low, name-back y k h, eq-eqb x y e) (same-level x y level k low h e)
+  first-own y k h e ys = rw (name-back x level (omega arith), name-back y k (omega arith), eq-eqb x y e) (same-level x y level k low h e)
 
   first-other : (y k : ℕ) → k < openLambdas → (x ≡ y → ⊥) → (ys : List ℕ) → isInnermost v (withLevel y k ∷ ys) ≡ isInnermost v ys
   unfolding isInnermost
-  first-other y k h u ys = rw (name-back x level low, name-back y k h, ne-eqb x y u)
+  first-other y k h u ys = rw (name-back x level (omega arith), name-back y k (omega arith), ne-eqb x y u)
 
   -- one function
   only : (y k : ℕ) → k < openLambdas → (eqb x y && eqb level k) ≡ isInnermost v (withLevel y k ∷ [])

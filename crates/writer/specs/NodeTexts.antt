@@ -6,6 +6,7 @@ use native.Mathlib.Omega.{arith}
 use Rattle.members.specs.declared.Member.{Member}
 use Rattle.members.specs.declared.Found.the-variants.{Is}
 use Rattle.meaning.specs.Forms.{Form, withLevel, nameIn, ask, call, function}
+use Rattle.meaning.specs.FormsLaws.{name-back}
 use Rattle.layout.specs.Memory.{Node}
 use Rattle.layout.specs.Nodes.{functionKind, memberOfKind, variableIn, build}
 use Rattle.table.specs.NodeKinds.{Fine, aNumber, aVariable, anUnbound, theReadings, aFunction, anAsk, aCall, member-found, build-fine}
@@ -51,7 +52,7 @@ pub leaf-node : {q : Node} → Fine q → q .kind < functionKind → LeafNode q
 unfolding build textOf leafBytes
 leaf-node (aNumber key) l = record { text = λ φ. refl; plain = λ φ. refl }
 leaf-node (aVariable x k h) l =
-    let n : nameIn (withLevel x k) ≡ x = omega arith in
+    let n = name-back x k (omega arith) in
     record { text = λ φ. rw n; plain = λ φ. refl }
 leaf-node (anUnbound x) l = record { text = λ φ. refl; plain = λ φ. refl }
 leaf-node theReadings l = record { text = λ φ. refl; plain = λ φ. refl }
