@@ -8,7 +8,7 @@ use Rattle.grammar.specs.Grammar.{Expression, Calls, Arguments, More, letIn, la
 use Rattle.grammar.specs.KeptLimits.{partsE, partsC, partsA, partsM}
 use Rattle.grammar.specs.Reading.{Reading, tree, refused, tokensOf}
 use Rattle.grammar.specs.Places.{place-inside}
-use Rattle.grammar.specs.ReadingLaws.{refusal-range}
+use Rattle.grammar.specs.ReadingLaws.{refusal-number}
 use Rattle.grammar.specs.Machine.{readText}
 use Rattle.grammar.specs.Theorems.{text-read-plainly, text-refused}
 use Rattle.grammar.specs.Words.{text-worded}
@@ -120,7 +120,7 @@ refused-right text m at h = by (readText text) refl h
     of : (n p : ℕ) → readText text ≡ refused n p → Rejected text n p
     of n p g =
         let r = text-refused text n p .0 g in
-        let b = refusal-range (tokensOf text) n (r .0) (r .1) in
+        let b = refusal-number (tokensOf text) n (r .0) (r .1) in
         let q = r .2 in
         record { least = b .0; most = b .1; inside = rw q (place-inside text (r .0)) }
 

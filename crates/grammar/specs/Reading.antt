@@ -2,7 +2,7 @@
 -- Assumes nothing: these are definitions. That the reader of Machine does just this is in Theorems.
 use mathlib.Core.Path.{_≡_}
 use mathlib.Core.List.{List, [], map}
-use Prim.Native.Nat.{ℕ, suc}
+use Prim.Native.Nat.{ℕ, suc, _≤_}
 use lib.ListN.{length, take, getD}
 use Rattle.grammar.specs.Tokens.{Token, Located, tokens}
 use Rattle.grammar.specs.Grammar.{Expression, spellE, Spells}
@@ -29,6 +29,10 @@ pub record RefusedBy (ts : List Token) (n j : ℕ) : Type 0 where
   -- 5: no grammatical text goes on with token j, or ends there; another number: it is the fault at token j in all that go on with it
   pub stops : n ≡ 5 → (e : Expression) → ¬ AgreesTo (suc j) ts e
   pub fault : (e : Expression) → AgreesTo (suc j) ts e → getD (faultsOf e) j 0 ≡ n
+
+-- the numbers of a text's refusals: 5 to 12 without 11, since an inner lambda hides an outer one of its name (02, T-05)
+abbrev pub IsTextRefusal : (number : ℕ) → Type 0
+IsTextRefusal n = (5 ≤ n) × (n ≤ 12) × (¬ (n ≡ 11))
 
 -- what is read from a text: a tree, or a refusal's number and byte place
 pub data Reading : Type 0 where

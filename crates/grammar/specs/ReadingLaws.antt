@@ -1,5 +1,5 @@
--- Laws of what Reading defines, whatever reads: a refusal's number is 5 to 12, tokens have one refusal at most, and none where they are read as a tree.
--- Assumes nothing.
+-- Laws of what Reading defines, whatever reads: a refusal's number is 5 to 12 and never 11, tokens have one refusal at most, and none where they are
+-- read as a tree. Assumes nothing.
 use mathlib.Core.Path.{_≡_, refl, sym, ap, _∙_}
 use mathlib.Core.Bool.{Bool, true, false}
 use mathlib.Core.List.{List, [], _∷_}
@@ -11,58 +11,40 @@ use Rattle.grammar.specs.Tokens.{Token}
 use Rattle.grammar.specs.Grammar.{Expression, spellE}
 use Rattle.grammar.specs.Faults.{Fault, fine, outOfRange, longName, dataBound, badCall, manyLambdas, tooMany, faultNumber}
 use Rattle.grammar.specs.Faults.{Note, note, notesE, outermost, orMany, fault, counted, faults, faultsOf, Clean}
-use Rattle.grammar.specs.Reading.{ReadsAs, RefusedBy}
+use Rattle.grammar.specs.Reading.{ReadsAs, RefusedBy, IsTextRefusal}
 use Rattle.grammar.specs.MachineLaws.{no-cons}
 
--- a fault's number is 6 to 12
-fault-range : (f : Fault) (b : Bool) → ¬ (orMany (faultNumber f) b ≡ 0) → (6 ≤ orMany (faultNumber f) b) × (orMany (faultNumber f) b ≤ 12)
+-- a fault's number is 6 to 12, and none is 11
+abbrev IsFaultNumber : ℕ → Type 0
+IsFaultNumber n = (6 ≤ n) × (n ≤ 12) × (¬ (n ≡ 11))
+
+fault-number : (f : Fault) (b : Bool) → ¬ (orMany (faultNumber f) b ≡ 0) → IsFaultNumber (orMany (faultNumber f) b)
 unfolding faultNumber
-fault-range fine true h = omega arith
-fault-range fine false h = absurd (h refl)
-fault-range outOfRange b h = omega arith
-fault-range longName b h = omega arith
-fault-range dataBound b h = omega arith
-fault-range badCall b h = omega arith
-fault-range manyLambdas b h = omega arith
-fault-range tooMany b h = omega arith
+fault-number fine true h = omega arith
+fault-number fine false h = absurd (h refl)
+fault-number outOfRange b h = omega arith
+fault-number longName b h = omega arith
+fault-number dataBound b h = omega arith
+fault-number badCall b h = omega arith
+fault-number manyLambdas b h = omega arith
+fault-number tooMany b h = omega arith
 
-faults-range : (c : ℕ) (l : List Note) (j : ℕ) → ¬ (getD (faults c l) j 0 ≡ 0) → (6 ≤ getD (faults c l) j 0) × (getD (faults c l) j 0 ≤ 12)
+faults-number : (c : ℕ) (l : List Note) (j : ℕ) → ¬ (getD (faults c l) j 0 ≡ 0) → IsFaultNumber (getD (faults c l) j 0)
 unfolding faults fault
-faults-range c [] j h = absurd (h refl)
-faults-range c (note f p ∷ l) zero h = fault-range f _ h
-faults-range c (note f p ∷ l) (suc j) h = faults-range (counted c (note f p)) l j h
+faults-number c [] j h = absurd (h refl)
+faults-number c (note f p ∷ l) zero h = fault-number f _ h
+faults-number c (note f p ∷ l) (suc j) h = faults-number (counted c (note f p)) l j h
 
-pub tree-range : (e : Expression) (j n : ℕ) → getD (faultsOf e) j 0 ≡ n → ¬ (n ≡ 0) → (6 ≤ n) × (n ≤ 12)
-tree-range e j n h z = rw h at (faults-range 0 (notesE e false outermost []) j (λ o. z (sym h ∙ o)))
+pub tree-number : (e : Expression) (j n : ℕ) → getD (faultsOf e) j 0 ≡ n → ¬ (n ≡ 0) → IsFaultNumber n
+tree-number e j n h z = rw h at (faults-number 0 (notesE e false outermost []) j (λ o. z (sym h ∙ o)))
 
--- the number is 5 to 12
-pub refusal-range : (ts : List Token) (n j : ℕ) → RefusedBy ts n j → (5 ≤ n) × (n ≤ 12)
-refusal-range ts n j r = by (ℕ-discrete n 5)
+-- a refusal's number is one of a text's
+pub refusal-number : (ts : List Token) (n j : ℕ) → RefusedBy ts n j → IsTextRefusal n
+refusal-number ts n j r = by (ℕ-discrete n 5)
   where
-    by : Dec (n ≡ 5) → (5 ≤ n) × (n ≤ 12)
+    by : Dec (n ≡ 5) → IsTextRefusal n
     by (yes p) = omega arith
-    by (no p) = let y = r .beyond p in let z = tree-range (y .0) j n (r .fault (y .0) (y .1)) (r .refusal) in omega arith
-
--- 02, T-05: and never 11
-fault-number : (f : Fault) (b : Bool) → ¬ (orMany (faultNumber f) b ≡ 11)
-unfolding faultNumber
-fault-number fine true e = omega arith
-fault-number fine false e = omega arith
-fault-number outOfRange b e = omega arith
-fault-number longName b e = omega arith
-fault-number dataBound b e = omega arith
-fault-number badCall b e = omega arith
-fault-number manyLambdas b e = omega arith
-fault-number tooMany b e = omega arith
-
-faults-number : (c : ℕ) (l : List Note) (j : ℕ) → ¬ (getD (faults c l) j 0 ≡ 11)
-unfolding faults fault
-faults-number c [] j e = omega arith
-faults-number c (note f p ∷ l) zero e = fault-number f _ e
-faults-number c (note f p ∷ l) (suc j) e = faults-number (counted c (note f p)) l j e
-
-pub never-eleven : (ts : List Token) (n j : ℕ) → RefusedBy ts n j → ¬ (n ≡ 11)
-never-eleven ts n j r e = let y = r .beyond (λ (o : n ≡ 5). omega arith) in faults-number 0 (notesE (y .0) false outermost []) j (r .fault (y .0) (y .1) ∙ e)
+    by (no p) = let y = r .beyond p in let z = tree-number (y .0) j n (r .fault (y .0) (y .1)) (r .refusal) in omega arith
 
 -- of a clean list no place is at fault
 clean-at : (l : List ℕ) (j : ℕ) → Clean l → getD l j 0 ≡ 0

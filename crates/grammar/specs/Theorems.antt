@@ -8,12 +8,12 @@ use Prim.Native.Nat.{ℕ}
 use native.Mathlib.Omega.{arith}
 use Rattle.grammar.specs.Tokens.{Token}
 use Rattle.grammar.specs.Grammar.{Expression, Spells}
-use Rattle.grammar.specs.Reading.{ReadsAs, RefusedBy, tree, refused, placeOf, tokensOf}
+use Rattle.grammar.specs.Reading.{ReadsAs, RefusedBy, IsTextRefusal, tree, refused, placeOf, tokensOf}
 use Rattle.grammar.specs.KeptLimits.{KeepsLimits}
 use Rattle.grammar.specs.KeptLimitsLaws.{limits-kept}
 use Rattle.grammar.specs.Machine.{Trees, spell, notes, Answer, whole, stopped, readFrom, begin, alone, read, placed, readText}
 use Rattle.grammar.specs.ReadLaws.{no-whole, sound, complete, Refuses, refuses, same-trees}
-use Rattle.grammar.specs.ReadingLaws.{tree-range, never-eleven, not-both, one-refusal}
+use Rattle.grammar.specs.ReadingLaws.{tree-number, refusal-number, not-both, one-refusal}
 
 -- the grammar is not ambiguous
 pub one-tree : (ts : List Token) (e e' : Expression) → Spells e ts → Spells e' ts → e ≡ e'
@@ -51,7 +51,7 @@ read-refused ts n j h =
       before = (v .before .0 .0, v .before .1);
       beyond = λ m. let y = v .beyond m in (y .0 .0, y .1);
       clear = λ e. v .clear (e, tt);
-      stops = λ z e m. let r = tree-range e j n (v .fault (e, tt) m) (v .number) in omega arith;
+      stops = λ z e m. let r = tree-number e j n (v .fault (e, tt) m) (v .number) in omega arith;
       fault = λ e. v .fault (e, tt);
     }
 
@@ -93,6 +93,6 @@ text-refused text n p = (λ h. by (read (tokensOf text)) refl h, λ z. let r = r
     by (whole e) g h = let z : _≡_ {A = ℕ} 0 1 = cc in absurd (omega arith)
     by (stopped m j) g h = let a : m ≡ n = cc in (j, rw a at (read-refused (tokensOf text) m j g), cc)
 
--- 02, T-05: no text is refused with 11, at any place
-pub text-never-eleven : (text : List ℕ) (n p : ℕ) → readText text ≡ refused n p → ¬ (n ≡ 11)
-text-never-eleven text n p h = let r = text-refused text n p .0 h in never-eleven (tokensOf text) n (r .0) (r .1)
+-- with one of a text's numbers
+pub text-number : (text : List ℕ) (n p : ℕ) → readText text ≡ refused n p → IsTextRefusal n
+text-number text n p h = let r = text-refused text n p .0 h in refusal-number (tokensOf text) n (r .0) (r .1)

@@ -1,4 +1,4 @@
--- 01, "When a call is declined", and 02, T-04: the numbers and places of each call's refusals, what an edit is accepted for, what a text must be
+-- 01, "When a call is declined", with 02, T-04 and T-05: the numbers and places of each call's refusals, what an edit is accepted for, what a text must be
 -- so that no edit is declined for it, and what print reads. That the calls do so is in AcceptanceLaws. Assumes nothing: these are definitions.
 use mathlib.Core.Path.{_≡_}
 use mathlib.Core.Logic.{_⊎_}
@@ -9,7 +9,7 @@ use lib.ListN.{length}
 use Rattle.language.specs.Limits.{textBytes, textParts, tableEntries}
 use Rattle.grammar.specs.Grammar.{Expression, Spells}
 use Rattle.grammar.specs.KeptLimits.{KeepsLimits}
-use Rattle.grammar.specs.Reading.{tree, tokensOf}
+use Rattle.grammar.specs.Reading.{IsTextRefusal, tree, tokensOf}
 use Rattle.grammar.specs.Machine.{readText}
 use Rattle.printing.specs.Printed.{textOf}
 use Rattle.model.specs.Model.{refused, edited, printed}
@@ -19,12 +19,12 @@ use Rattle.records.specs.Records.{recordsOf}
 use Rattle.interface.specs.Answers.{Reply}
 use Rattle.interface.specs.Calls.{boundTo, formAt}
 
--- the numbers and places of the refusals of an open, an edit, a preview and a print: the text's, 5 to 12, have a place in the text or at its end
+-- the numbers and places of the refusals of an open, an edit, a preview and a print: a text's have a place in the text or at its end
 abbrev pub OpenRefusal : (number place : ℕ) → Type 0
 OpenRefusal n at = ((n ≡ 2) ⊎ (n ≡ 3)) × (at ≡ 0)
 
 abbrev pub EditRefusal : (text : List ℕ) (number place : ℕ) → Type 0
-EditRefusal text n at = ((((n ≡ 1) ⊎ (n ≡ 3)) ⊎ ((n ≡ 4) ⊎ (n ≡ 13))) × (at ≡ 0)) ⊎ (((5 ≤ n) × (n ≤ 12)) × (at ≤ length text))
+EditRefusal text n at = ((((n ≡ 1) ⊎ (n ≡ 3)) ⊎ ((n ≡ 4) ⊎ (n ≡ 13))) × (at ≡ 0)) ⊎ (IsTextRefusal n × (at ≤ length text))
 
 abbrev pub PreviewRefusal : (number : ℕ) → Type 0
 PreviewRefusal n = ((n ≡ 3) ⊎ (n ≡ 4)) ⊎ (n ≡ 14)
@@ -56,7 +56,7 @@ InLanguage text = (length text ≤ textBytes) × ((e : Expression) × Spells e (
 
 -- declined for its text: too long, or refused by the reader
 abbrev pub TextDeclined : Reply → Type 0
-TextDeclined x = (number : ℕ) × (place : ℕ) × (x ≡ refused number place) × ((number ≡ 1) ⊎ ((5 ≤ number) × (number ≤ 12)))
+TextDeclined x = (number : ℕ) × (place : ℕ) × (x ≡ refused number place) × ((number ≡ 1) ⊎ IsTextRefusal number)
 
 -- none of 3, 4 and 14 comes up: the memory fits, the cache is well-formed, and it holds entry n
 pub record Held (m : Memory) (n : ℕ) : Type 0 where

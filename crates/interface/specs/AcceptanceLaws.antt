@@ -12,11 +12,10 @@ use lib.ListN.{length}
 use Rattle.language.specs.Cases.{impossible}
 use Rattle.language.specs.Limits.{textBytes, textParts, tableReadings}
 use Rattle.grammar.specs.Grammar.{Expression}
-use Rattle.grammar.specs.Reading.{tree, refused as refusedAt, tokensOf}
-use Rattle.grammar.specs.ReadingLaws.{refusal-range}
+use Rattle.grammar.specs.Reading.{IsTextRefusal, tree, refused as refusedAt}
 use Rattle.grammar.specs.Places.{place-inside}
 use Rattle.grammar.specs.Machine.{readText}
-use Rattle.grammar.specs.Theorems.{text-read-plainly, text-refused}
+use Rattle.grammar.specs.Theorems.{text-read-plainly, text-refused, text-number}
 use Rattle.model.specs.Model.{refused, opened}
 use Rattle.layout.specs.Memory.{Memory, fits, entryCount}
 use Rattle.table.specs.WellFormed.{wellFormed}
@@ -80,11 +79,11 @@ edit-accepted m places text = by (edit-outcome m places text)
         (λ h. impossible (not-edited e h), λ c. let s = same-tree m text t (c .expression) u (c .read) in let z = c .held in absurd (omega arith))
     by (EditOutcome.taken t r u l e) = (λ h. record { ready = r; expression = t; read = u; held = l }, λ c. e)
 
-unread-range : (text : List ℕ) (n at : ℕ) → readText text ≡ refusedAt n at → ((5 ≤ n) × (n ≤ 12)) × (at ≤ length text)
+unread-range : (text : List ℕ) (n at : ℕ) → readText text ≡ refusedAt n at → IsTextRefusal n × (at ≤ length text)
 unread-range text n at h =
     let r = text-refused text n at .0 h in
     let p = r .2 in
-    (refusal-range (tokensOf text) n (r .0) (r .1), rw p (place-inside text (r .0)))
+    (text-number text n at h, rw p (place-inside text (r .0)))
 
 pub edit-refusals : (m : Memory) (places text : List ℕ) (n at : ℕ) → editAnswer m places text ≡ refused n at → EditRefusal text n at
 edit-refusals m places text n at h = by (edit-outcome m places text)
@@ -96,6 +95,16 @@ edit-refusals m places text n at h = by (edit-outcome m places text)
     by (EditOutcome.unread k p r u e) = let a : k ≡ n = cc in let b : p ≡ at = cc in inr (unread-range text n at (rw (a, b) at u))
     by (EditOutcome.full t r u l e) = inl (inr (inr (cc)), cc)
     by (EditOutcome.taken t r u l e) = impossible (not-edited h e)
+
+-- 0 is none of these numbers, nor is 11 (02, T-05)
+edit-number : (text : List ℕ) (n at : ℕ) → EditRefusal text n at → (1 ≤ n) × (¬ (n ≡ 11))
+edit-number text n at =
+    ⊎-elim
+    (λ p. ⊎-elim (⊎-elim (λ q. omega arith) (λ q. omega arith)) (⊎-elim (λ q. omega arith) (λ q. omega arith)) (p .0))
+    (λ p. omega arith)
+
+pub edit-never-eleven : (m : Memory) (places text : List ℕ) (at : ℕ) → ¬ (editAnswer m places text ≡ refused 11 at)
+edit-never-eleven m places text at h = edit-number text 11 at (edit-refusals m places text 11 at h) .1 refl
 
 pub read-in : (text : List ℕ) (e : Expression) → length text ≤ textBytes → readText text ≡ tree e → InLanguage text
 read-in text e l h = let r = text-read-plainly text e .0 h in (l, (e, r .0, r .1))
@@ -164,11 +173,7 @@ open-some : (m : Memory) (r : List ℤ) (n at : ℕ) → openAnswer m r ≡ refu
 open-some m r n at h z = ⊎-elim (λ p. omega arith) (λ p. omega arith) (open-refusals m r n at h .0)
 
 edit-some : (m : Memory) (places text : List ℕ) (n at : ℕ) → editAnswer m places text ≡ refused n at → ¬ (n ≡ 0)
-edit-some m places text n at h z =
-    ⊎-elim
-    (λ p. ⊎-elim (⊎-elim (λ q. omega arith) (λ q. omega arith)) (⊎-elim (λ q. omega arith) (λ q. omega arith)) (p .0))
-    (λ p. omega arith)
-    (edit-refusals m places text n at h)
+edit-some m places text n at h z = let k = edit-number text n at (edit-refusals m places text n at h) in omega arith
 
 preview-some : (m : Memory) (n a k : ℕ) → previewed m n a ≡ Refused k → ¬ (k ≡ 0)
 preview-some m n a k h z = ⊎-elim (⊎-elim (λ p. omega arith) (λ p. omega arith)) (λ p. omega arith) (preview-refusals m n a k h)

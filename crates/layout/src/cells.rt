@@ -33,8 +33,8 @@ pub fn at64(s: &[u64], i: usize) -> u64
     if i < s.len() { s[i] } else { 0 }
 }
 
-// The cells of entry i by name: its kind, its dependencies and its level; its key, its kept value and the names that this shows. An entry's number fits
-// 32 bits.
+// The cells of entry i by name: its kind, its dependencies and its level; its key, its kept value and the names that this shows. An entry's
+// number fits 32 bits.
 pub fn kind_of(links: &[u16], i: usize) -> u16
     requires { ⌜ i < 4294967296 ⌝ }
     ensures { λ r. ⌜ r ≡ kindAt (now (links .entry)) i ⌝ }

@@ -1,7 +1,7 @@
 // Whether the text of an entry's form would be read back as that form (02, T-04), without reading it: a walk over the form counts its parts, tests
-// what is open where more opens, and looks each name up among the functions around it, with its level (02, T-05). A chain of receivers is a loop; an argument or a function's
-// body is walked over in a call of its own, with a mark more open. So at most 129 parts are counted, and at most 17 calls are open, however
-// large and deep the form is.
+// what is open where more opens, and looks each name up among the functions around it, with its level (02, T-05). A chain of receivers is a
+// loop; an argument or a function's body is walked over in a call of its own, with a mark more open. So at most 129 parts are counted, and at
+// most 17 calls are open, however large and deep the form is.
 use language::limits::Text;
 use layout::nodes::Shape;
 use layout::nodes::entry_of;

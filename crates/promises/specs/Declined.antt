@@ -1,9 +1,8 @@
--- Demand 1: a declined call changes no lent memory. And no edit is declined with 11. Assumes nothing.
+-- Demand 1: a declined call changes no lent memory. Assumes nothing.
 use mathlib.Core.Path.{_≡_, refl, ap}
 use mathlib.Core.Bool.{true, false, _&&_}
 use mathlib.Core.List.{List}
 use Prim.Native.Nat.{ℕ}
-use native.Mathlib.Omega.{arith}
 use lib.Dec.{leb, ltb}
 use lib.IntN.{ℤ}
 use lib.ListN.{length}
@@ -11,7 +10,6 @@ use Rattle.language.specs.Limits.{textBytes, textParts, tableReadings}
 use Rattle.language.specs.Cases.{impossible, split}
 use Rattle.grammar.specs.Reading.{Reading, tree, refused as refusedAt}
 use Rattle.grammar.specs.Machine.{readText}
-use Rattle.grammar.specs.Theorems.{text-never-eleven}
 use Rattle.model.specs.Model.{refused, opened, written}
 use Rattle.layout.specs.Memory.{Memory, fits, entryCount}
 use Rattle.table.specs.WellFormed.{wellFormed}
@@ -46,26 +44,6 @@ edit-declined m places text n at h = (memory, ap (λ (x : Reply). written formul
         (λ p. split (fits m && leb textParts (length places))
         (λ q. split (wellFormed m) (λ w. rw (p, q, w) (read-declined m (readText text) n at (rw (p, q, w) at h))) (λ w. rw (p, q, w)))
         (λ q. rw (p, q)))
-
--- 02, T-05: no edit is declined with 11
-read-never-eleven : (m : Memory) (text : List ℕ) (x : Reading) (at : ℕ) → readText text ≡ x → ¬ (readAnswer m x ≡ refused 11 at)
-unfolding readAnswer
-read-never-eleven m text (refusedAt k p) at e h = let q : k ≡ 11 = cc in text-never-eleven text k p e q
-read-never-eleven m text (tree t) at e h =
-    split (tooMany (boundTo m (recordsOf t)))
-    (λ p. let z = rw p at h in let q : _≡_ {A = ℕ} 13 11 = cc in absurd (omega arith))
-    (λ p. impossible (let z = rw p at h in cc))
-
-pub edit-never-eleven : (m : Memory) (places text : List ℕ) (at : ℕ) → ¬ (editAnswer m places text ≡ refused 11 at)
-unfolding editAnswer
-edit-never-eleven m places text at h =
-    split (ltb textBytes (length text))
-    (λ p. let z = rw p at h in let q : _≡_ {A = ℕ} 1 11 = cc in absurd (omega arith))
-    (λ p. split (fits m && leb textParts (length places))
-    (λ f. split (wellFormed m)
-    (λ w. read-never-eleven m text (readText text) at refl (rw (p, f, w) at h))
-    (λ w. let z = rw (p, f, w) at h in let q : _≡_ {A = ℕ} 4 11 = cc in absurd (omega arith)))
-    (λ f. let z = rw (p, f) at h in let q : _≡_ {A = ℕ} 3 11 = cc in absurd (omega arith)))
 
 pub preview-declined : (m : Memory) (n a k : ℕ) → previewed m n a ≡ Refused k → previewMemory m n a ≡ m
 unfolding previewed previewMemory

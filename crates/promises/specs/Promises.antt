@@ -7,11 +7,11 @@
 --   2. A text is read exactly if a tree of the grammar spells its tokens and keeps the limits, and is refused exactly where 01 says; an edit is
 --      declined for its text exactly if that is too long or is not read. Packed names are equal exactly if their bytes are (Naming), and lambda
 --      variables exactly if their names and levels are; number 11 never comes up. What a finished preview of a part shows is what evaluation
---      gives for its let-free form, and what is delayed shows the names of Figure 5 (Awaiting). Division goes down (rules' NumbersLaws). What is printed of an entry is read as the entry's form again and printed as the same
---      bytes (Printing).
+--      gives for its let-free form, and what is delayed shows the names of Figure 5 (Awaiting). Division goes down (rules' NumbersLaws). What
+--      is printed of an entry is read as the entry's form again and printed as the same bytes (Printing).
 --   3. Over every list of calls after an opening the engine answers as the reference model does, and ends holding what it holds (model's
 --      Demand), and so over every run of a program in C (Boundary).
-use mathlib.Core.Path.{_≡_, sym, ap}
+use mathlib.Core.Path.{_≡_, refl, sym, ap}
 use mathlib.Core.Bool.{true, false, _&&_}
 use mathlib.Core.Logic.{_↔_, _⊎_}
 use mathlib.Core.List.{List, [], map}
@@ -25,7 +25,7 @@ use Rattle.grammar.specs.Faults.{outermost}
 use Rattle.grammar.specs.KeptLimits.{partsE, KeepsLimits}
 use Rattle.grammar.specs.Reading.{tree, refused as refusedAt, RefusedBy, placeOf, tokensOf}
 use Rattle.grammar.specs.Machine.{readText}
-use Rattle.grammar.specs.Theorems.{text-read-plainly, text-refused, text-never-eleven}
+use Rattle.grammar.specs.Theorems.{text-read-plainly, text-refused, text-number}
 use Rattle.model.specs.Lists.{All}
 use Rattle.model.specs.Model.{refused, opened, edited, printed, said}
 use Rattle.model.specs.Since.{Sendable}
@@ -140,8 +140,8 @@ pub print-sixteen : (m : Memory) (n : ℕ) (bytes : List ℕ)
     × ((e : Expression) → readText (textAt m n) ≡ tree e → ¬ (formOf e ≡ formAt m n)))
 print-sixteen = Printing.print-sixteen
 
--- One of the numbered refusals and no other: of an open 2 or 3; of an edit 1, 3, 4 or 13, or 5 to 12 with a place in the text or at its end; of
--- a preview 3, 4 or 14; of a print these, 15 or 16. The place of all others is 0.
+-- One of the numbered refusals and no other: of an open 2 or 3; of an edit 1, 3, 4 or 13, or 5 to 12 without 11 with a place in the text or at its
+-- end; of a preview 3, 4 or 14; of a print these, 15 or 16. The place of all others is 0.
 pub open-refusals : (m : Memory) (r : List ℤ) (n at : ℕ) → openAnswer m r ≡ refused n at → OpenRefusal n at
 open-refusals = Acceptance.open-refusals
 
@@ -264,11 +264,11 @@ pub text-declined : (m : Memory) (places text : List ℕ) → fits m ≡ true �
 text-declined = Acceptance.text-declined
 
 -- 02, T-05: an inner lambda hides an outer one of its name, so that no text is refused with 11, and no edit is, at any place.
-pub never-eleven : (text : List ℕ) (n p : ℕ) → readText text ≡ refusedAt n p → ¬ (n ≡ 11)
-never-eleven = text-never-eleven
+pub never-eleven : (text : List ℕ) (p : ℕ) → ¬ (readText text ≡ refusedAt 11 p)
+never-eleven text p h = text-number text 11 p h .2 refl
 
 pub edit-never-eleven : (m : Memory) (places text : List ℕ) (at : ℕ) → ¬ (editAnswer m places text ≡ refused 11 at)
-edit-never-eleven = Declined.edit-never-eleven
+edit-never-eleven = Acceptance.edit-never-eleven
 
 -- Each lambda of a text that is read has its own name and, as its level, the number of lambdas that are open around it, lets not replaced.
 pub levels-written : (text : List ℕ) (e : Expression) → readText text ≡ tree e → LevelledE e [] outermost
