@@ -1,14 +1,19 @@
--- Each lambda of a tree that keeps the limits has as its level the number of lambdas written around it. Assumes nothing.
+-- Each lambda of a tree that keeps the limits has as its level the number of lambdas written around it, and its name is its own variable in its
+-- body. Assumes nothing.
 use mathlib.Core.Path.{_≡_, refl, ap}
+use mathlib.Core.Bool.{false}
 use mathlib.Core.List.{List, []}
 use Prim.Native.Nat.{ℕ, suc}
 use native.Mathlib.Omega.{arith}
+use borrow.Author.Tests.{eq-eqb}
+use Rattle.language.specs.Names.{packed, isData}
 use Rattle.grammar.specs.Grammar.{Expression, Calls, Arguments, More, letIn, lambda, name, literal, bracket, done, call, none, first, last, next}
 use Rattle.grammar.specs.Faults.{Around, outermost, opened, inLambda}
 use Rattle.grammar.specs.KeptLimits.{EverywhereE, EverywhereC, EverywhereA, EverywhereM, KeepsLimits}
 use Rattle.grammar.specs.SingleLimits.{FewLambdas}
 use Rattle.grammar.specs.KeptLimitsLaws.{keeps-each}
-use Rattle.meaning.specs.Binding.{Meaning, lambdas, asLet, asLambda, formE}
+use Rattle.meaning.specs.Forms.{variable}
+use Rattle.meaning.specs.Binding.{Meaning, lookUp, named, lambdas, asLet, variableOf, asLambda, formE}
 use Rattle.meaning.specs.SubstitutionLaws.{Counts, level-is}
 use Rattle.meaning.specs.Levels.{LevelledE, LevelledC, LevelledA, LevelledM}
 
@@ -39,3 +44,7 @@ mutual
 pub levels-written : (e : Expression) → KeepsLimits e → LevelledE e [] outermost
 unfolding lambdas
 levels-written e k = levelled-E e [] outermost refl (keeps-each e k .lambdas)
+
+pub lambda-hides : (x : List ℕ) (Γ : List Meaning) → isData x ≡ false → named x (asLambda x Γ) ≡ variable (variableOf x Γ)
+unfolding named lookUp
+lambda-hides x Γ h = rw (h, eq-eqb (packed x) (packed x) refl)

@@ -45,7 +45,7 @@ use Rattle.rules.specs.NumbersLaws as Division
 use Rattle.meaning.specs.Forms.{Form, levelBase, withLevel, nameIn, levelIn, variable, function, same, IsDependency, dependency, AtOrBelow, within, works}
 use Rattle.meaning.specs.FormsLaws as Forms
 use Rattle.rules.specs.Apply.{isDelayed, apply1}
-use Rattle.meaning.specs.Binding.{formOf, formsByPlace}
+use Rattle.meaning.specs.Binding.{Meaning, named, variableOf, asLambda, formOf, formsByPlace}
 use Rattle.meaning.specs.Evaluation.{valueOf, runOf, Environment, bind, lookup, settled, evaluate, putFor, hasName, awaited, aWindow, aDelay, aReason, shows}
 use Rattle.meaning.specs.EvaluationLaws.{evaluate-put}
 use Rattle.meaning.specs.Levels.{LevelledE}
@@ -263,7 +263,11 @@ pub text-declined : (m : Memory) (places text : List ℕ) → fits m ≡ true �
     → TextDeclined (editAnswer m places text) ↔ (¬ InLanguage text)
 text-declined = Acceptance.text-declined
 
--- 02, T-05: an inner lambda hides an outer one of its name, so that no text is refused with 11, and no edit is, at any place.
+-- 02, T-05: an inner lambda hides an outer one of its name: in its body the name, which is never `data`, is its own variable, whatever is bound
+-- around it. So no text is refused with 11, and no edit is, at any place.
+pub lambda-hides : (x : List ℕ) (Γ : List Meaning) → isData x ≡ false → named x (asLambda x Γ) ≡ variable (variableOf x Γ)
+lambda-hides = Written.lambda-hides
+
 pub never-eleven : (text : List ℕ) (p : ℕ) → ¬ (readText text ≡ refusedAt 11 p)
 never-eleven text p h = text-number text 11 p h .2 refl
 
