@@ -27,6 +27,13 @@ impl Pair {
         Pair { cache, model: Model::new() }
     }
 
+    /// Such a cache after these calls.
+    pub fn after(seed: u64, calls: &[Call]) -> Pair {
+        let mut pair = Pair::new(seed);
+        calls.iter().for_each(|call| drop(pair.call(call)));
+        pair
+    }
+
     /// Makes a call in both and compares the answers.
     pub fn call(&mut self, call: &Call) -> Answer {
         self.call_in(call, String::new)

@@ -176,9 +176,7 @@ fn damaged_caches() {
     let mut tally = Tally::default();
     for seed in 0..150 {
         let mut rng = Rng::new(seed);
-        let mut pair = Pair::new(seed);
-        session(2_000_000 + seed, 60).iter().for_each(|call| drop(pair.call(call)));
-        let memory = pair.cache.memory();
+        let memory = Pair::after(seed, &session(2_000_000 + seed, 60)).cache.memory();
         check(&mut rng, &memory, &mut tally);
         for _ in 0..120 {
             let mut damaged = memory.clone();
@@ -198,9 +196,7 @@ fn changed_levels() {
     let mut tally = Tally::default();
     for seed in 0..40 {
         let mut rng = Rng::new(seed);
-        let mut pair = Pair::new(seed);
-        session(4_000_000 + seed, 40).iter().for_each(|call| drop(pair.call(call)));
-        let memory = pair.cache.memory();
+        let memory = Pair::after(seed, &session(4_000_000 + seed, 40)).cache.memory();
         for entry in 0..memory.entries() {
             let has_level = [VARIABLE, FUNCTION].contains(&memory.kind(entry));
             let mut changed = memory.clone();

@@ -296,8 +296,7 @@ fn printed_texts_are_read_as_their_entries() {
     let mut tally = Tally::default();
     for seed in 0..60 {
         let mut rng = Rng::new(seed);
-        let mut pair = Pair::new(seed);
-        session(3_000_000 + seed, 40).iter().for_each(|call| drop(pair.call(call)));
+        let mut pair = Pair::after(seed, &session(3_000_000 + seed, 40));
         for _ in 0..20 {
             pair.call(&edit(grown(&mut rng)));
             pair.call(&edit(pasted(&mut rng)));
