@@ -98,7 +98,7 @@ enum formula_reason {
     FORMULA_REASON_WRONG_KIND = 2,
     FORMULA_REASON_DIVISION_BY_ZERO = 3,
     FORMULA_REASON_BEYOND_32_BITS = 4,
-    FORMULA_REASON_OUTSIDE = 5 /* negative count, index outside, no such stretch, least or greatest of no readings */
+    FORMULA_REASON_OUTSIDE = 5 /* index outside, no such stretch, least or greatest of no readings */
 };
 
 /* The answer to an edit, 20 bytes. A field that has no value is 0. */

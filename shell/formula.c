@@ -292,7 +292,7 @@ static const char *reason_words(int32_t reason)
         "a part of the wrong kind",
         "division by zero",
         "beyond 32 bits",
-        "a negative count, an index outside, an empty window, or no such stretch",
+        "an index outside, an empty window, or no such stretch",
     };
     return reason >= 0 && reason < (int32_t)(sizeof words / sizeof words[0]) ? words[reason] : "an unknown reason";
 }

@@ -1,5 +1,5 @@
 -- 01, "Sample previews": the starred samples, as sessions of the reference model, and one computed check over the list; and likewise samples
--- of hiding, and of 02, T-01, T-02 and T-05.
+-- of hiding, and of 02, T-01, T-02, T-05 and T-06.
 -- Assumes nothing.
 use mathlib.Core.Path.{_≡_, refl}
 use mathlib.Core.Bool.{true}
@@ -132,6 +132,24 @@ between =
 pub named-twice : between ≡ edited 4 7 5 (4 ∷ 3 ∷ 0 ∷ 3 ∷ 0 ∷ 2 ∷ 1 ∷ []) ∷ finished 1 (aDelay (97 ∷ 97 ∷ [])) ∷ []
 unfolding between
 named-twice = refl
+
+-- 02, T-06: counts from the end; one more than there are is as many for skip and take, and none for at
+abbrev pub fromTheEnd : List (List Sample)
+fromTheEnd =
+    (record { text = bytes "data.skip(-2)"; whole = 2; parts = 3; new = 3; places = 0 ∷ 2 ∷ 1 ∷ []; worked = 1; shown = aWindow 3 2 }
+    ∷ record { text = bytes "data.take(-2)"; whole = 3; parts = 3; new = 1; places = 0 ∷ 3 ∷ 1 ∷ []; worked = 1; shown = aWindow 0 3 }
+    ∷ record { text = bytes "data.at(-2)"; whole = 4; parts = 3; new = 1; places = 0 ∷ 4 ∷ 1 ∷ []; worked = 1; shown = aNumber (pos 148) } ∷ [])
+    ∷ (record { text = bytes "data.skip(-6)"; whole = 2; parts = 3; new = 3; places = 0 ∷ 2 ∷ 1 ∷ []; worked = 1; shown = aWindow 0 5 }
+    ∷ record { text = bytes "data.take(-6)"; whole = 3; parts = 3; new = 1; places = 0 ∷ 3 ∷ 1 ∷ []; worked = 1; shown = aWindow 0 0 }
+    ∷ record { text = bytes "data.at(-6)"; whole = 4; parts = 3; new = 1; places = 0 ∷ 4 ∷ 1 ∷ []; worked = 1; shown = aReason 5 } ∷ [])
+    ∷ (record { text = bytes "data.skip(-2147483648)"; whole = 2; parts = 3; new = 3; places = 0 ∷ 2 ∷ 1 ∷ []; worked = 1; shown = aWindow 0 5 }
+    ∷ record { text = bytes "data.at(-2147483648)"; whole = 3; parts = 3; new = 1; places = 0 ∷ 3 ∷ 1 ∷ []; worked = 1; shown = aReason 5 } ∷ [])
+    ∷ (record { text = bytes "data.skip(1).take(-1).at(-3)"; whole = 6; parts = 7; new = 7; places = 0 ∷ 2 ∷ 1 ∷ 4 ∷ 3 ∷ 6 ∷ 5 ∷ []; worked = 3; shown = aNumber (pos 152) } ∷ [])
+    ∷ []
+
+pub from-the-end-hold : map (heard (start formulas recording)) fromTheEnd ≡ map expected fromTheEnd
+unfolding heard expected run
+from-the-end-hold = refl
 
 -- 02, T-01: the best stretch of a window, its sum and where it begins
 abbrev pub stretches : List (List Sample)

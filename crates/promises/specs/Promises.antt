@@ -7,17 +7,19 @@
 --   2. A text is read exactly if a tree of the grammar spells its tokens and keeps the limits, and is refused exactly where 01 says; an edit is
 --      declined for its text exactly if that is too long or is not read. Packed names are equal exactly if their bytes are (Naming), and lambda
 --      variables exactly if their names and levels are; number 11 never comes up. What a finished preview of a part shows is what evaluation
---      gives for its let-free form, and what is delayed shows the names of Figure 5 (Awaiting). Division goes down (rules' NumbersLaws). What
---      is printed of an entry is read as the entry's form again and printed as the same bytes (Printing).
+--      gives for its let-free form, and what is delayed shows the names of Figure 5 (Awaiting). Division goes down (rules' NumbersLaws), and a
+--      count from either end is clipped (WindowsLaws). What is printed of an entry is read as the entry's form again and printed as the same
+--      bytes (Printing).
 --   3. Over every list of calls after an opening the engine answers as the reference model does, and ends holding what it holds (model's
 --      Demand), and so over every run of a program in C (Boundary).
 use mathlib.Core.Path.{_≡_, refl, sym, ap}
 use mathlib.Core.Bool.{true, false, _&&_}
 use mathlib.Core.Logic.{_↔_, _⊎_}
-use mathlib.Core.List.{List, [], map}
-use Prim.Native.Nat.{ℕ, _+_, _^_, _≤_, _<_}
-use lib.IntN.{ℤ, pos, _+ℤ_}
-use lib.ListN.{length, take, drop}
+use mathlib.Core.List.{List, [], _++_, map}
+use Prim.Native.Nat.{ℕ, _+_, _-_, _^_, _≤_, _<_}
+use lib.IntN.{ℤ, pos, negℤ, _+ℤ_}
+use lib.ListN.{length, take, drop, getD}
+use lib.Signed.{ltZ, _≤ℤ_}
 use Rattle.language.specs.Limits.{textParts, openLambdas, nameBytes, tableReadings}
 use Rattle.language.specs.Names.{packed, sameName, isData, dataWord}
 use Rattle.grammar.specs.Grammar.{Expression, spellE, Spells}
@@ -34,14 +36,16 @@ use Rattle.model.specs.Demand.{Demand}
 use Rattle.model.specs.DemandLaws.{demand}
 use Rattle.formulas.specs.Formulas.{IsReading, formulas}
 use Rattle.members.specs.declared.Member.{Member}
-use Rattle.members.specs.declared.Member.the-variants.{Div}
+use Rattle.members.specs.declared.Member.the-variants.{Div, Skip, Take, At}
 use Rattle.members.specs.declared.Found.the-variants.{Is}
 use Rattle.members.specs.Members.{spelled, memberOf}
 use Rattle.rules.specs.declared.Value.{Value}
-use Rattle.rules.specs.declared.Value.the-variants.{Number, Function, Missing}
-use Rattle.rules.specs.Values.{ranged, divisionByZero}
+use Rattle.rules.specs.declared.Value.the-variants.{Number, Window, Function, Missing}
+use Rattle.rules.specs.Values.{ranged, divisionByZero, outsideWindow}
 use Rattle.rules.specs.Numbers.{NotAbove, Above, GreatestNotAbove, quotient}
 use Rattle.rules.specs.NumbersLaws as Division
+use Rattle.rules.specs.Windows.{readingsIn, fromStart, clipped, Clips}
+use Rattle.rules.specs.WindowsLaws as Windows
 use Rattle.meaning.specs.Forms.{Form, levelBase, withLevel, nameIn, levelIn, variable, function, same, IsDependency, dependency, AtOrBelow, within, works}
 use Rattle.meaning.specs.FormsLaws as Forms
 use Rattle.rules.specs.Apply.{isDelayed, apply1}
@@ -326,6 +330,72 @@ quotient-exactly = Division.quotient-exactly
 
 pub quotient-between : (a b : ℤ) → ¬ (b ≡ pos 0) → (q : ℤ) → (quotient a b ≡ q) ↔ (NotAbove a b q × Above a b (q +ℤ pos 1))
 quotient-between = Division.quotient-between
+
+-- 02, T-06: a negative number in skip, take and at counts from the end of the window. Skip and take clip, and clipping keeps its promise: within
+-- the window, exact where the count fits, monotone. No other function of a count and a length keeps it.
+pub clipping : Clips clipped
+clipping = Windows.clips
+
+pub clipping-only : (f : ℤ → ℕ → ℕ) → Clips f → (n : ℤ) (l : ℕ) → f n l ≡ clipped n l
+clipping-only = Windows.clips-only
+
+-- Monotone means that a count which does not count to before another is not clipped before it, whichever ends the two are from. So of counts from
+-- one end the greater is not clipped before the other; and in a longer window no count is clipped to fewer.
+pub clipping-ordered : (m n : ℤ) (l : ℕ) → ltZ m (pos 0) ≡ ltZ n (pos 0) → m ≤ℤ n → clipped m l ≤ clipped n l
+clipping-ordered = Windows.clips-ordered
+
+pub clipping-wider : (n : ℤ) (k l : ℕ) → k ≤ l → clipped n k ≤ clipped n l
+clipping-wider = Windows.clips-wider
+
+-- Skip moves the start on by what is clipped; take keeps it.
+pub skip-clips : (xs : List ℤ) (s l : ℕ) (run : ℤ → Value) (n : ℤ)
+    → apply1 Skip xs (Window s l) (Number n) run ≡ Window (s + clipped n l) (l - clipped n l)
+skip-clips = Windows.skip-clips
+
+pub take-clips : (xs : List ℤ) (s l : ℕ) (run : ℤ → Value) (n : ℤ) → apply1 Take xs (Window s l) (Number n) run ≡ Window s (clipped n l)
+take-clips = Windows.take-clips
+
+-- So what take keeps and what skip leaves are together the window, whichever end the count is from.
+pub take-and-skip : (xs : List ℤ) (s l : ℕ) (n : ℤ)
+    → readingsIn xs s (clipped n l) ++ readingsIn xs (s + clipped n l) (l - clipped n l) ≡ readingsIn xs s l
+take-and-skip = Windows.take-and-skip
+
+-- Minus k, for a k from 1 to the length: skip leaves the last k and take all but these. From the length on it is as minus the length.
+pub skip-last : (xs : List ℤ) (s l : ℕ) (run : ℤ → Value) (k : ℕ) → 1 ≤ k → k ≤ l
+    → apply1 Skip xs (Window s l) (Number (negℤ (pos k))) run ≡ Window (s + (l - k)) k
+skip-last = Windows.skip-last
+
+pub take-last : (xs : List ℤ) (s l : ℕ) (run : ℤ → Value) (k : ℕ) → 1 ≤ k → k ≤ l
+    → apply1 Take xs (Window s l) (Number (negℤ (pos k))) run ≡ Window s (l - k)
+take-last = Windows.take-last
+
+pub skip-beyond : (xs : List ℤ) (s l : ℕ) (run : ℤ → Value) (k : ℕ) → l ≤ k
+    → apply1 Skip xs (Window s l) (Number (negℤ (pos k))) run ≡ apply1 Skip xs (Window s l) (Number (negℤ (pos l))) run
+skip-beyond = Windows.skip-beyond
+
+pub take-beyond : (xs : List ℤ) (s l : ℕ) (run : ℤ → Value) (k : ℕ) → l ≤ k
+    → apply1 Take xs (Window s l) (Number (negℤ (pos k))) run ≡ apply1 Take xs (Window s l) (Number (negℤ (pos l))) run
+take-beyond = Windows.take-beyond
+
+-- at(n) is the reading that n counts to, from either end, and reason 5 where it counts to none.
+pub at-inside : (xs : List ℤ) (s l : ℕ) (run : ℤ → Value) (n : ℤ) (k : ℕ)
+    → k < length (readingsIn xs s l) → fromStart n (length (readingsIn xs s l)) ≡ pos k
+    → apply1 At xs (Window s l) (Number n) run ≡ Number (getD (readingsIn xs s l) k (pos 0))
+at-inside = Windows.at-inside
+
+pub at-outside : (xs : List ℤ) (s l : ℕ) (run : ℤ → Value) (n : ℤ)
+    → ((k : ℕ) → k < length (readingsIn xs s l) → ¬ (fromStart n (length (readingsIn xs s l)) ≡ pos k))
+    → apply1 At xs (Window s l) (Number n) run ≡ Missing outsideWindow
+at-outside = Windows.at-outside
+
+-- So minus 1 is the last reading, minus the length the first, and what is beyond that reason 5.
+pub at-last : (xs : List ℤ) (s l : ℕ) (run : ℤ → Value) (k : ℕ) → 1 ≤ k → k ≤ length (readingsIn xs s l)
+    → apply1 At xs (Window s l) (Number (negℤ (pos k))) run ≡ Number (getD (readingsIn xs s l) (length (readingsIn xs s l) - k) (pos 0))
+at-last = Windows.at-last
+
+pub at-beyond : (xs : List ℤ) (s l : ℕ) (run : ℤ → Value) (k : ℕ) → length (readingsIn xs s l) < k
+    → apply1 At xs (Window s l) (Number (negℤ (pos k))) run ≡ Missing outsideWindow
+at-beyond = Windows.at-beyond
 
 -- A run of a function on a reading puts the number for its variable, by name and level, in the let-free body.
 pub run-puts : (xs : List ℤ) (ρ : Environment) (x : ℕ) (b : Form) (z : ℤ) → valueOf (evaluate xs ρ (function x b)) ≡ Function

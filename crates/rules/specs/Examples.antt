@@ -1,8 +1,8 @@
--- 01, "Members", and 02, T-01: small examples of the rules, each a member on what its dependencies came to, with what it comes to; one computed check over
--- the list. Assumes nothing.
+-- 01, "Members", and 02, T-01, T-02 and T-06: small examples of the rules, each a member on what its dependencies came to, with what it comes
+-- to; one computed check over each list. Assumes nothing.
 use mathlib.Core.Path.{_≡_, refl}
 use mathlib.Core.Bool.{cond}
-use mathlib.Core.List.{List, [], _∷_, map}
+use mathlib.Core.List.{List, [], _∷_, _++_, map}
 use lib.IntN.{ℤ, pos, negsuc, _-ℤ_}
 use Rattle.members.specs.declared.Member.{Member}
 use Rattle.members.specs.declared.Member.the-variants.{Add, Sub, Mul, Div, Gt, Eq, Skip, Take, Count, Sum, Min, Max, At, CountWhere, LongestRun, SumBy, BestSum, BestAt}
@@ -55,6 +55,10 @@ over150 z = onNumbers Gt z (pos 150)
 abbrev Example : Type 0
 Example = Application × Value
 
+-- each comes to what is said of it
+abbrev Holds : List Example → Type 0
+Holds es = map (λ (e : Example). comesTo (e .0)) es ≡ map (λ (e : Example). e .1) es
+
 -- ---- numbers
 abbrev onNumbersList : List Example
 onNumbersList =
@@ -85,15 +89,17 @@ onNumbersList =
     ∷ (numbers Eq (pos 1) (negsuc 1), Number (pos 0))
     ∷ []
 
+pub numbers-hold : Holds onNumbersList
+unfolding comesTo
+numbers-hold = refl
+
 -- ---- windows
 abbrev onWindows : List Example
 onWindows =
     (with Skip recording whole (Number (pos 1)), Window 1 4)
     ∷ (with Skip recording (Window 1 4) (Number (pos 9)), Window 5 0)
-    ∷ (with Skip recording whole (Number (negsuc 0)), Missing 5)
     ∷ (with Take recording (Window 1 4) (Number (pos 2)), Window 1 2)
     ∷ (with Take recording (Window 1 4) (Number (pos 9)), Window 1 4)
-    ∷ (with Take recording whole (Number (negsuc 0)), Missing 5)
     ∷ (alone Count recording (Window 1 4), Number (pos 4))
     ∷ (alone Sum recording whole, Number (pos 755))
     ∷ (alone Sum recording (Window 1 2), Number (pos 312))
@@ -106,8 +112,42 @@ onWindows =
     ∷ (alone Max recording (Window 5 0), Missing 5)
     ∷ (with At recording (Window 1 4) (Number (pos 0)), Number (pos 152))
     ∷ (with At recording (Window 1 2) (Number (pos 2)), Missing 5)
-    ∷ (with At recording whole (Number (negsuc 0)), Missing 5)
     ∷ []
+
+pub windows-hold : Holds onWindows
+unfolding comesTo
+windows-hold = refl
+
+-- ---- counts from either end
+
+-- by skip, take and at
+abbrev bySkipTakeAt : Value → ℤ → Value → Value → Value → List Example
+bySkipTakeAt v n skip take at =
+    (with Skip recording v (Number n), skip) ∷ (with Take recording v (Number n), take) ∷ (with At recording v (Number n), at) ∷ []
+
+-- four readings from 152 on: inside, at both ends and past them, and the least and the greatest number; then none
+abbrev onEnds : List Example
+onEnds =
+    bySkipTakeAt (Window 1 4) (pos 0) (Window 1 4) (Window 1 0) (Number (pos 152))
+    ++ bySkipTakeAt (Window 1 4) (pos 3) (Window 4 1) (Window 1 3) (Number (pos 155))
+    ++ bySkipTakeAt (Window 1 4) (pos 4) (Window 5 0) (Window 1 4) (Missing 5)
+    ++ bySkipTakeAt (Window 1 4) (pos 5) (Window 5 0) (Window 1 4) (Missing 5)
+    ++ bySkipTakeAt (Window 1 4) (pos 2147483647) (Window 5 0) (Window 1 4) (Missing 5)
+    ++ bySkipTakeAt (Window 1 4) (negsuc 0) (Window 4 1) (Window 1 3) (Number (pos 155))
+    ++ bySkipTakeAt (Window 1 4) (negsuc 1) (Window 3 2) (Window 1 2) (Number (pos 148))
+    ++ bySkipTakeAt (Window 1 4) (negsuc 2) (Window 2 3) (Window 1 1) (Number (pos 160))
+    ++ bySkipTakeAt (Window 1 4) (negsuc 3) (Window 1 4) (Window 1 0) (Number (pos 152))
+    ++ bySkipTakeAt (Window 1 4) (negsuc 4) (Window 1 4) (Window 1 0) (Missing 5)
+    ++ bySkipTakeAt (Window 1 4) (negsuc 2147483647) (Window 1 4) (Window 1 0) (Missing 5)
+    ++ bySkipTakeAt (Window 2 0) (pos 0) (Window 2 0) (Window 2 0) (Missing 5)
+    ++ bySkipTakeAt (Window 2 0) (pos 1) (Window 2 0) (Window 2 0) (Missing 5)
+    ++ bySkipTakeAt (Window 2 0) (pos 2147483647) (Window 2 0) (Window 2 0) (Missing 5)
+    ++ bySkipTakeAt (Window 2 0) (negsuc 0) (Window 2 0) (Window 2 0) (Missing 5)
+    ++ bySkipTakeAt (Window 2 0) (negsuc 2147483647) (Window 2 0) (Window 2 0) (Missing 5)
+
+pub ends-hold : Holds onEnds
+unfolding comesTo
+ends-hold = refl
 
 -- ---- stretches
 
@@ -133,29 +173,32 @@ lowest = negsuc 2147483647 ∷ negsuc 0 ∷ negsuc 2147483647 ∷ []
 abbrev both : List ℤ → Value → ℤ → Value → Value → List Example
 both xs v w sum at = (with BestSum xs v (Number w), sum) ∷ (with BestAt xs v (Number w), at) ∷ []
 
-abbrev onStretches : List (List Example)
+abbrev onStretches : List Example
 onStretches =
     both recording whole (pos 2) (Number (pos 312)) (Number (pos 1))
-    ∷ both recording whole (pos 5) (Number (pos 755)) (Number (pos 0))
-    ∷ both recording whole (pos 1) (Number (pos 160)) (Number (pos 2))
-    ∷ both recording whole (pos 0) (Missing 5) (Missing 5)
-    ∷ both recording whole (negsuc 0) (Missing 5) (Missing 5)
-    ∷ both recording whole (pos 6) (Missing 5) (Missing 5)
-    ∷ both recording (Window 3 2) (pos 1) (Number (pos 155)) (Number (pos 1))
-    ∷ both recording (Window 3 2) (pos 3) (Missing 5) (Missing 5)
-    ∷ both recording (Window 5 0) (pos 1) (Missing 5) (Missing 5)
-    ∷ both tied whole (pos 2) (Number (pos 4)) (Number (pos 2))
-    ∷ both tied whole (pos 1) (Number (pos 3)) (Number (pos 2))
-    ∷ both low (Window 0 3) (pos 2) (Number (negsuc 6)) (Number (pos 0))
-    ∷ both low (Window 0 3) (pos 1) (Number (negsuc 1)) (Number (pos 1))
-    ∷ both most (Window 0 4) (pos 2) (Number (pos 2147483647)) (Number (pos 1))
-    ∷ both most (Window 0 4) (pos 3) (Missing 4) (Number (pos 1))
-    ∷ both most (Window 0 4) (pos 4) (Number (pos 2147483643)) (Number (pos 0))
-    ∷ both high (Window 0 3) (pos 3) (Number (pos 2147483647)) (Number (pos 0))
-    ∷ both ends (Window 0 3) (pos 2) (Number (pos 10)) (Number (pos 0))
-    ∷ both lowest (Window 0 3) (pos 2) (Missing 4) (Number (pos 0))
-    ∷ both lowest (Window 0 3) (pos 1) (Number (negsuc 0)) (Number (pos 1))
-    ∷ []
+    ++ both recording whole (pos 5) (Number (pos 755)) (Number (pos 0))
+    ++ both recording whole (pos 1) (Number (pos 160)) (Number (pos 2))
+    ++ both recording whole (pos 0) (Missing 5) (Missing 5)
+    ++ both recording whole (negsuc 0) (Missing 5) (Missing 5)
+    ++ both recording whole (pos 6) (Missing 5) (Missing 5)
+    ++ both recording (Window 3 2) (pos 1) (Number (pos 155)) (Number (pos 1))
+    ++ both recording (Window 3 2) (pos 3) (Missing 5) (Missing 5)
+    ++ both recording (Window 5 0) (pos 1) (Missing 5) (Missing 5)
+    ++ both tied whole (pos 2) (Number (pos 4)) (Number (pos 2))
+    ++ both tied whole (pos 1) (Number (pos 3)) (Number (pos 2))
+    ++ both low (Window 0 3) (pos 2) (Number (negsuc 6)) (Number (pos 0))
+    ++ both low (Window 0 3) (pos 1) (Number (negsuc 1)) (Number (pos 1))
+    ++ both most (Window 0 4) (pos 2) (Number (pos 2147483647)) (Number (pos 1))
+    ++ both most (Window 0 4) (pos 3) (Missing 4) (Number (pos 1))
+    ++ both most (Window 0 4) (pos 4) (Number (pos 2147483643)) (Number (pos 0))
+    ++ both high (Window 0 3) (pos 3) (Number (pos 2147483647)) (Number (pos 0))
+    ++ both ends (Window 0 3) (pos 2) (Number (pos 10)) (Number (pos 0))
+    ++ both lowest (Window 0 3) (pos 2) (Missing 4) (Number (pos 0))
+    ++ both lowest (Window 0 3) (pos 1) (Number (negsuc 0)) (Number (pos 1))
+
+pub stretches-hold : Holds onStretches
+unfolding comesTo
+stretches-hold = refl
 
 -- ---- runs: by reading, and the first that gives no number decides
 
@@ -182,6 +225,10 @@ onRuns =
     ∷ (runs CountWhere recording (Window 5 0) divides, Number (pos 0))
     ∷ []
 
+pub runs-hold : Holds onRuns
+unfolding comesTo
+runs-hold = refl
+
 -- ---- the first missing dependency, receiver first; then a delayed one; then the kinds
 abbrev onOthers : List Example
 onOthers =
@@ -198,9 +245,6 @@ onOthers =
     ∷ (alone Sum recording (Missing 5), Missing 5)
     ∷ []
 
-abbrev pub examples : List (List Example)
-examples = onNumbersList ∷ onWindows ∷ onRuns ∷ onOthers ∷ onStretches
-
-pub examples-hold : map (map (λ e. comesTo (e .0))) examples ≡ map (map (λ e. e .1)) examples
+pub others-hold : Holds onOthers
 unfolding comesTo
-examples-hold = refl
+others-hold = refl

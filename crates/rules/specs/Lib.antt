@@ -7,4 +7,5 @@ pub mod Rules
 pub mod RulesLaws
 pub mod Apply
 pub mod NumbersLaws
+pub mod WindowsLaws
 pub mod Examples

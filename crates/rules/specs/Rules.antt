@@ -1,4 +1,4 @@
--- 01, "Members", and 02, T-01: the rule of each member, in the papers' order. Assumes nothing: these are definitions.
+-- 01, "Members", and 02, T-01, T-02 and T-06: the rule of each member, in the papers' order. Assumes nothing: these are definitions.
 use mathlib.Core.List.{List}
 use Prim.Native.Nat.{ℕ}
 use lib.IntN.{ℤ, pos, _+ℤ_, _-ℤ_, _*ℤ_}
@@ -9,7 +9,7 @@ use Rattle.rules.specs.declared.Value.{Value}
 use Rattle.rules.specs.declared.Value.the-variants.{Number, Missing}
 use Rattle.rules.specs.Values.{ranged, flag, sameℤ, wrongKind}
 use Rattle.rules.specs.Numbers.{divided}
-use Rattle.rules.specs.Windows.{readingsIn, skipped, taken, reading, unlessNegative, total, lesser, greater, extreme}
+use Rattle.rules.specs.Windows.{readingsIn, skipped, taken, readingFrom, total, lesser, greater, extreme}
 use Rattle.rules.specs.Stretches.{bestSum, bestAt}
 use Rattle.rules.specs.Runs.{Results, numbers, because, results, Summary, summary}
 
@@ -28,13 +28,13 @@ rule Mul = twoNumbers (λ a b. ranged (a *ℤ b))
 rule Div = twoNumbers divided
 rule Gt = twoNumbers (λ a b. flag (ltZ b a))
 rule Eq = twoNumbers (λ a b. flag (sameℤ a b))
-rule Skip = windowNumber (λ xs s l n. unlessNegative n (skipped s l))
-rule Take = windowNumber (λ xs s l n. unlessNegative n (taken s l))
+rule Skip = windowNumber (λ xs s l n. skipped s l n)
+rule Take = windowNumber (λ xs s l n. taken s l n)
 rule Count = window (λ xs s l. Number (pos l))
 rule Sum = window (λ xs s l. ranged (total (readingsIn xs s l)))
 rule Min = window (λ xs s l. extreme lesser (readingsIn xs s l))
 rule Max = window (λ xs s l. extreme greater (readingsIn xs s l))
-rule At = windowNumber (λ xs s l n. unlessNegative n (reading (readingsIn xs s l)))
+rule At = windowNumber (λ xs s l n. readingFrom (readingsIn xs s l) n)
 rule CountWhere = windowRuns (λ r. Number (pos (r .count)))
 rule LongestRun = windowRuns (λ r. Number (pos (r .longest)))
 rule SumBy = windowRuns (λ r. ranged (r .total))

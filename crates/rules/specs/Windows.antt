@@ -1,12 +1,13 @@
--- 01, "Members": what the members on a window are made of. A window is a start, counted in the recording, and a length.
+-- 01, "Members", and 02, T-06: what the members on a window are made of. A window is a start, counted in the recording, and a length.
 -- Assumes nothing: these are definitions.
+use mathlib.Core.Path.{_≡_}
 use mathlib.Core.Bool.{cond}
 use mathlib.Core.List.{List, [], _∷_}
-use Prim.Native.Nat.{ℕ, _+_, _-_, min}
+use Prim.Native.Nat.{ℕ, _+_, _-_, _≤_, min}
 use lib.Dec.{ltb}
 use lib.IntN.{ℤ, pos, negsuc, _+ℤ_}
 use lib.ListN.{length, take, drop, getD}
-use lib.Signed.{ltZ}
+use lib.Signed.{ltZ, _≤ℤ_}
 use Rattle.rules.specs.declared.Value.{Value}
 use Rattle.rules.specs.declared.Value.the-variants.{Number, Window, Missing}
 use Rattle.rules.specs.Values.{outsideWindow}
@@ -15,25 +16,47 @@ use Rattle.rules.specs.Values.{outsideWindow}
 abbrev pub readingsIn : List ℤ → ℕ → ℕ → List ℤ
 readingsIn xs s l = take l (drop s xs)
 
--- how many of l readings a count n clips: past the end, all there is
-abbrev pub clipped : ℕ → ℕ → ℕ
-clipped n l = min n l
+-- 02, T-06: a count from either end of l readings, counted from the start: a negative one is from the end
+abbrev pub fromStart : ℤ → ℕ → ℤ
+fromStart (pos n) l = pos n
+fromStart (negsuc n) l = pos l +ℤ negsuc n
+
+-- the number from 0 to l that is nearest
+abbrev pub nearest : ℤ → ℕ → ℕ
+nearest (pos k) l = min k l
+nearest (negsuc k) l = 0
+
+-- how many of l readings lie before a count from either end: past an end, none or all there are
+abbrev pub clipped : ℤ → ℕ → ℕ
+clipped n l = nearest (fromStart n l) l
+
+-- the clipping promise, of a clipping f: within the window; exact where the count fits; and a count which does not count to before another is not
+-- clipped before it
+pub record Clips (f : ℤ → ℕ → ℕ) : Type 0 where
+  pub within : (n : ℤ) (l : ℕ) → f n l ≤ l
+  pub exact : (n : ℤ) (l k : ℕ) → k ≤ l → fromStart n l ≡ pos k → f n l ≡ k
+  pub monotone : (m n : ℤ) (l : ℕ) → fromStart m l ≤ℤ fromStart n l → f m l ≤ f n l
 
 -- skip moves the start on by what it skips; take keeps it
-abbrev pub skipped : ℕ → ℕ → ℕ → Value
+abbrev pub skipped : ℕ → ℕ → ℤ → Value
 skipped s l n = Window (s + clipped n l) (l - clipped n l)
 
-abbrev pub taken : ℕ → ℕ → ℕ → Value
+abbrev pub taken : ℕ → ℕ → ℤ → Value
 taken s l n = Window s (clipped n l)
 
-abbrev pub reading : List ℤ → ℕ → Value
-reading xs n = cond (ltb n (length xs)) (Number (getD xs n (pos 0))) (Missing outsideWindow)
-
--- a count or an index that may be negative
+-- an index or a width that may be negative
 abbrev pub unlessNegative : ℤ → (ℕ → Value) → Value
 unlessNegative (pos n) f = f n
 unlessNegative (negsuc n) f = Missing outsideWindow
 
+-- the reading at an index from the start, and at one from either end; reason 5 outside
+abbrev pub reading : List ℤ → ℕ → Value
+reading xs n = cond (ltb n (length xs)) (Number (getD xs n (pos 0))) (Missing outsideWindow)
+
+abbrev pub readingFrom : List ℤ → ℤ → Value
+readingFrom xs n = unlessNegative (fromStart n (length xs)) (reading xs)
+
+-- the exact sum
 unfoldable pub total : List ℤ → ℤ
 total [] = pos 0
 total (x ∷ xs) = x +ℤ total xs

@@ -445,6 +445,11 @@ fn main() {
         &[2147483647, -1, 1, 2147483647],
         b"data.bestSum(3)\ndata.bestSum(2)\ndata.bestAt(2)\ndata.bestAt(1)",
     );
+    // Counts from the end
+    session(
+        &run,
+        b"data.skip(-2)\ndata.take(-2)\ndata.at(-1)\ndata.skip(-6)\ndata.take(-6)\ndata.at(-6)\ndata.take(-2147483648)\ndata.at(-2147483648)\ndata.skip(-3).take(-1).at(-2)",
+    );
     // A lambda that runs inside another of the same name
     session(
         &[0, 2, 3],

@@ -20,13 +20,14 @@ use Rattle.members.specs.declared.Member.the-variants.{Skip, Take, Count, Sum, 
 use Rattle.rules.specs.declared.Value.{Value}
 use Rattle.rules.specs.declared.Value.the-variants.{Number, Window, Missing}
 use Rattle.rules.specs.Values.{ranged, wrongKind, outsideWindow}
-use Rattle.rules.specs.Windows.{readingsIn, clipped, skipped, taken, reading, unlessNegative, total, lesser, greater, extreme}
+use Rattle.rules.specs.Windows.{readingsIn, fromStart, nearest, clipped, skipped, taken, reading, readingFrom, unlessNegative, total, lesser, greater, extreme}
 use Rattle.rules.specs.Rules.{rule, ofWindow, onWindow}
+use Rattle.rules.specs.WindowsLaws.{clips}
 use Rattle.values.specs.Ranges.{mag-abs}
-use Rattle.values.specs.WindowLaws.{readings-none, readings-rest, readings-short, Summed, summed-none, summed-more, summed-all, Folded, folded-one, folded-more, folded-all, no-readings}
+use Rattle.values.specs.WindowLaws.{end-counted, start-counted, nearest-none, nearest-itself, nearest-all, readings-none, readings-rest, readings-short, Summed, summed-none, summed-more, summed-all, Folded, folded-one, folded-more, folded-all, no-readings}
 use Rattle.values.specs.Sliding.{Totals}
 use Rattle.values.proofs.Tables.{tag, besides, last-arm}
-use Rattle.values.proofs.Signed.{widens, wide, wide-is, read-lt}
+use Rattle.values.proofs.Signed.{widens, wide, wide-is, sum-64, read-lt}
 
 -- ---- the part of the recording
 
@@ -56,6 +57,9 @@ total-is ys t i h k = totals ys (toZ w64 t) i h k
 -- the readings of a window are few
 pub part-few : (xs ys : List ℤ) (s l : ℕ) → ys ≡ readingsIn xs s l → Fits w16 l → length ys ≤ 65535
 part-few xs ys s l e f = rw e (omega (arith, readings-short xs s l, f .fits))
+
+pub part-fits : (xs ys : List ℤ) (s l : ℕ) → ys ≡ readingsIn xs s l → Fits w16 l → Fits w16 (length ys)
+part-fits xs ys s l e f = record { fits = omega (arith, part-few xs ys s l e f) }
 
 pub sum-is : (xs ys : List ℤ) (s l : ℕ) {r : Value} {t : ℤ} → ys ≡ readingsIn xs s l → SFits w64 t → Totals ys t → r ≡ ranged (toZ w64 (ofZ w64 t)) → r ≡ ofWindow Sum xs s l
 unfolding ofWindow rule
@@ -119,11 +123,78 @@ module _ (xs ys : List ℤ) (s l : ℕ) (e : ys ≡ readingsIn xs s l) where
     unfolding ofWindow rule
     greatest-is h k = folded-all greater ys (toZ w32 b) i h k ∙ ap (extreme greater) e
 
--- ---- a count or an index
+-- ---- a count from either end
 
 not-negative : (n : ℤ) → ltZ n (pos 0) ≡ false → T (nonNeg n)
 not-negative (pos n) h = tt
 not-negative (negsuc n) h = subst T h tt
+
+length-is : {l : ℕ} → Fits w16 l → toZ w64 l ≡ pos l
+length-is f = toZ-pos w64 (omega (arith, f .fits))
+
+module _ (n : ℤ) (g : SFits w32 n) where
+  pub count-cast : ltZ (toZ w32 (ofZ w32 n)) (pos 0) ≡ false → T (nonNeg (toZ w32 (ofZ w32 n))) × Fits w32 (natAbs (toZ w32 (ofZ w32 n)))
+  count-cast h = (not-negative (toZ w32 (ofZ w32 n)) h, rw (toZ-ofZ g) (fits-natAbs tt g))
+
+  pub index-cast : Fits w64 (natAbs (toZ w32 (ofZ w32 n)))
+  index-cast = rw (toZ-ofZ g) (fits-natAbs tt g)
+
+  module _ (l : ℕ) (f : Fits w16 l) where
+    counted-back : toZ w64 l +ℤ wide n ≡ pos l +ℤ n
+    counted-back = λ i. length-is f i +ℤ wide-is g i
+
+    back-64 : SFits w64 (pos l +ℤ n)
+    back-64 = sum-64 {a = pos l} (record { sfits = omega (arith, f .fits) }) g
+
+    pub back-fits : SFits w64 (toZ w64 l +ℤ wide n)
+    back-fits = rw counted-back back-64
+
+    pub from-end : ltZ (toZ w32 (ofZ w32 n)) (pos 0) ≡ true → toZ w64 (ofZ w64 (toZ w64 l +ℤ wide n)) ≡ fromStart n l
+    from-end h = ap (λ (z : ℤ). toZ w64 (ofZ w64 z)) counted-back ∙ toZ-ofZ back-64 ∙ end-counted n l (rw (toZ-ofZ g) at h)
+
+  pub from-first : (l : ℕ) → ltZ (toZ w32 (ofZ w32 n)) (pos 0) ≡ false → wide n ≡ fromStart n l
+  from-first l h = wide-is g ∙ start-counted n l (rw (toZ-ofZ g) at h)
+
+-- r: such a count, counted from the start by the callee
+module _ (n : ℤ) (g : SFits w32 n) (l : ℕ) (r : ℤ) (fr : SFits w64 r) (e : r ≡ fromStart (toZ w32 (ofZ w32 n)) l) where
+  count-is : toZ w64 (ofZ w64 r) ≡ fromStart n l
+  count-is = toZ-ofZ fr ∙ e ∙ ap (λ (y : ℤ). fromStart y l) (toZ-ofZ g)
+
+  clip-is : nearest (toZ w64 (ofZ w64 r)) l ≡ clipped n l
+  clip-is = ap (λ (y : ℤ). nearest y l) count-is
+
+  pub clip-none : ltZ (toZ w64 (ofZ w64 r)) (pos 0) ≡ true → 0 ≡ clipped n l
+  clip-none h = nearest-none (toZ w64 (ofZ w64 r)) l h ∙ clip-is
+
+  module _ (h : ltZ (toZ w64 (ofZ w64 r)) (pos 0) ≡ false) (f : Fits w16 l) where
+    pub clip-itself : ltZ (toZ w64 (ofZ w64 r)) (toZ w64 l) ≡ true → natAbs (toZ w64 (ofZ w64 r)) ≡ clipped n l
+    clip-itself t = nearest-itself (toZ w64 (ofZ w64 r)) l h (rw (length-is f) at t) ∙ clip-is
+
+    pub clip-cast : ltZ (toZ w64 (ofZ w64 r)) (toZ w64 l) ≡ true → T (nonNeg (toZ w64 (ofZ w64 r))) × Fits w16 (natAbs (toZ w64 (ofZ w64 r)))
+    clip-cast t = (not-negative (toZ w64 (ofZ w64 r)) h, rw (clip-itself t) (record { fits = omega (arith, f .fits, clips .within n l) }))
+
+    pub clip-all : ltZ (toZ w64 (ofZ w64 r)) (toZ w64 l) ≡ false → l ≡ clipped n l
+    clip-all t = nearest-all (toZ w64 (ofZ w64 r)) l h (rw (length-is f) at t) ∙ clip-is
+
+-- ---- skip and take
+
+module _ (n : ℤ) (g : SFits w32 n) (l k : ℕ) (e : k ≡ clipped (toZ w32 (ofZ w32 n)) l) where
+  gone : k ≡ clipped n l
+  gone = e ∙ ap (λ (y : ℤ). clipped y l) (toZ-ofZ g)
+
+  pub gone-few : k ≤ l
+  gone-few = omega (arith, gone, clips .within n l)
+
+  pub skip-fits : (s : ℕ) → s + l ≤ 65535 → Fits w16 (s + k)
+  skip-fits s h = record { fits = omega (arith, gone-few) }
+
+  pub skip-is : (s : ℕ) → Window (s + k) (l - k) ≡ skipped s l n
+  skip-is s = ap (λ (j : ℕ). Window (s + j) (l - j)) gone
+
+  pub take-is : (s : ℕ) → Window s k ≡ taken s l n
+  take-is s = ap (Window s) gone
+
+-- ---- the reading at an index
 
 counted : (n : ℤ) (f : ℕ → Value) → ltZ n (pos 0) ≡ false → f (natAbs n) ≡ unlessNegative n f
 counted (pos n) f h = refl
@@ -133,42 +204,27 @@ negated : (n : ℤ) (f : ℕ → Value) → ltZ n (pos 0) ≡ true → Missing o
 negated (pos n) f h = absurd (omega (arith, ltb-true n 0 h))
 negated (negsuc n) f h = refl
 
-module _ (n : ℤ) (g : SFits w32 n) where
-  pub negative-count : (f : ℕ → Value) → ltZ (toZ w32 (ofZ w32 n)) (pos 0) ≡ true → Missing outsideWindow ≡ unlessNegative n f
-  negative-count f h = negated n f (rw (toZ-ofZ g) at h)
+pub index-fits : (r : ℤ) → SFits w64 r → ltZ (toZ w64 (ofZ w64 r)) (pos 0) ≡ false → T (nonNeg (toZ w64 (ofZ w64 r))) × Fits w64 (natAbs (toZ w64 (ofZ w64 r)))
+index-fits r fr h = (not-negative (toZ w64 (ofZ w64 r)) h, rw (toZ-ofZ fr) (fits-natAbs tt fr))
 
-  module _ (h : ltZ (toZ w32 (ofZ w32 n)) (pos 0) ≡ false) where
-    pub count-cast : T (nonNeg (toZ w32 (ofZ w32 n))) × Fits w32 (natAbs (toZ w32 (ofZ w32 n)))
-    count-cast = (not-negative (toZ w32 (ofZ w32 n)) h, rw (toZ-ofZ g) (fits-natAbs tt g))
+module _ (xs ys : List ℤ) (s l : ℕ) (n : ℤ) (g : SFits w32 n) (q : ys ≡ readingsIn xs s l) (r : ℤ) (fr : SFits w64 r) (e : r ≡ fromStart (toZ w32 (ofZ w32 n)) (length ys)) where
+  found : unlessNegative (toZ w64 (ofZ w64 r)) (reading ys) ≡ onWindow At xs s l n
+  unfolding onWindow rule
+  found = ap (λ (y : ℤ). unlessNegative y (reading ys)) (count-is n g (length ys) r fr e) ∙ ap (λ (zs : List ℤ). readingFrom zs n) q
 
-    counts : (f : ℕ → Value) → f (natAbs (toZ w32 (ofZ w32 n))) ≡ unlessNegative n f
-    counts f = counted (toZ w32 (ofZ w32 n)) f h ∙ ap (λ (y : ℤ). unlessNegative y f) (toZ-ofZ g)
+  pub at-before : ltZ (toZ w64 (ofZ w64 r)) (pos 0) ≡ true → Missing outsideWindow ≡ onWindow At xs s l n
+  at-before h = negated (toZ w64 (ofZ w64 r)) (reading ys) h ∙ found
 
-    module _ (s l : ℕ) where
-      pub skip-is : (k : ℕ) → k ≡ clipped (natAbs (toZ w32 (ofZ w32 n))) l → Window (s + k) (l - k) ≡ unlessNegative n (skipped s l)
-      skip-is k e = ap (λ (j : ℕ). Window (s + j) (l - j)) e ∙ counts (skipped s l)
+  module _ (h : ltZ (toZ w64 (ofZ w64 r)) (pos 0) ≡ false) where
+    there : reading ys (natAbs (toZ w64 (ofZ w64 r))) ≡ onWindow At xs s l n
+    there = counted (toZ w64 (ofZ w64 r)) (reading ys) h ∙ found
 
-      pub take-is : (k : ℕ) → k ≡ clipped (natAbs (toZ w32 (ofZ w32 n))) l → Window s k ≡ unlessNegative n (taken s l)
-      take-is k e = ap (Window s) e ∙ counts (taken s l)
+    pub at-is : natAbs (toZ w64 (ofZ w64 r)) < length ys → SFits w32 (getD ys (natAbs (toZ w64 (ofZ w64 r))) (pos 0))
+        → Number (toZ w32 (ofZ w32 (getD ys (natAbs (toZ w64 (ofZ w64 r))) (pos 0)))) ≡ onWindow At xs s l n
+    at-is k f = simp (toZ-ofZ f) (sym (simp (lt-ltb _ _ k)) ∙ there)
 
-    module _ (xs ys : List ℤ) (s l : ℕ) (e : ys ≡ readingsIn xs s l) where
-      found : reading ys (natAbs (toZ w32 (ofZ w32 n))) ≡ onWindow At xs s l n
-      unfolding onWindow rule
-      found = counts (reading ys) ∙ ap (λ (zs : List ℤ). unlessNegative n (reading zs)) e
-
-      pub at-is : natAbs (toZ w32 (ofZ w32 n)) < length ys → SFits w32 (getD ys (natAbs (toZ w32 (ofZ w32 n))) (pos 0))
-          → Number (toZ w32 (ofZ w32 (getD ys (natAbs (toZ w32 (ofZ w32 n))) (pos 0)))) ≡ onWindow At xs s l n
-      at-is k f = simp (toZ-ofZ f) (sym (simp (lt-ltb _ _ k)) ∙ found)
-
-      pub at-none : length ys ≤ natAbs (toZ w32 (ofZ w32 n)) → Missing outsideWindow ≡ onWindow At xs s l n
-      at-none k = sym (simp (le-ltb _ _ k)) ∙ found
-
-pub at-negative : (xs : List ℤ) (s l : ℕ) (n : ℤ) → SFits w32 n → ltZ (toZ w32 (ofZ w32 n)) (pos 0) ≡ true → Missing outsideWindow ≡ onWindow At xs s l n
-unfolding onWindow rule
-at-negative xs s l n g h = negative-count n g (reading (readingsIn xs s l)) h
-
-pub index-cast : (n : ℤ) → SFits w32 n → Fits w64 (natAbs (toZ w32 (ofZ w32 n)))
-index-cast n g = rw (toZ-ofZ g) (fits-natAbs tt g)
+    pub at-none : length ys ≤ natAbs (toZ w64 (ofZ w64 r)) → Missing outsideWindow ≡ onWindow At xs s l n
+    at-none k = sym (simp (le-ltb _ _ k)) ∙ there
 
 -- ---- an arm of a table, and the members that it leaves to the last one
 
@@ -181,11 +237,11 @@ module _ (xs : List ℤ) (s l : ℕ) where
   count-arm m f e = ap Number (toZ-pos w32 (omega (arith, f .fits))) ∙ ap (λ (j : Member). ofWindow j xs s l) (sym e)
 
   module _ (n : ℤ) (g : SFits w32 n) {m : Member} {r : Value} where
-    pub skip-arm : m ≡ Skip → r ≡ unlessNegative (toZ w32 (ofZ w32 n)) (skipped s l) → r ≡ onWindow m xs s l n
+    pub skip-arm : m ≡ Skip → r ≡ skipped s l (toZ w32 (ofZ w32 n)) → r ≡ onWindow m xs s l n
     unfolding onWindow rule
     skip-arm e h = h ∙ (λ i. onWindow (sym e i) xs s l (toZ-ofZ g i))
 
-    pub take-arm : m ≡ Take → r ≡ unlessNegative (toZ w32 (ofZ w32 n)) (taken s l) → r ≡ onWindow m xs s l n
+    pub take-arm : m ≡ Take → r ≡ taken s l (toZ w32 (ofZ w32 n)) → r ≡ onWindow m xs s l n
     unfolding onWindow rule
     take-arm e h = h ∙ (λ i. onWindow (sym e i) xs s l (toZ-ofZ g i))
 
@@ -215,6 +271,7 @@ pub ruleset window-rules = (
   total-none,
   total-is,
   part-few,
+  part-fits,
   sum-is,
   sum-fits,
   sum-more,
@@ -228,14 +285,21 @@ pub ruleset window-rules = (
   greatest-none,
   least-is,
   greatest-is,
-  negative-count,
-  count-cast,
-  index-cast,
+  back-fits,
+  from-end,
+  from-first,
+  clip-none,
+  clip-itself,
+  clip-cast,
+  clip-all,
+  gone-few,
+  skip-fits,
   skip-is,
   take-is,
+  index-fits,
+  at-before,
   at-is,
   at-none,
-  at-negative,
   of-arm,
   count-arm,
   skip-arm,

@@ -20,13 +20,14 @@ use Rattle.rules.specs.declared.Value.{Value}
 use Rattle.rules.specs.declared.Value.the-variants.{Number, Window, Function, Delayed, Missing}
 use Rattle.rules.specs.Values.{ranged, flag, sameℤ}
 use Rattle.rules.specs.Numbers.{quotient, divided}
-use Rattle.rules.specs.Windows.{readingsIn, clipped, reading, unlessNegative, lesser, greater, foldFrom, extreme}
+use Rattle.rules.specs.Windows.{readingsIn, fromStart, clipped, reading, unlessNegative, lesser, greater, foldFrom, extreme}
 use Rattle.rules.specs.Stretches.{sums, ofGreatest, firstAt, ofWidth, bestSum, bestAt}
 use Rattle.rules.specs.Runs.{Results, numbers, because, with, results, isNonzero, countOf, stretch, longest, summary, Summary}
 use Rattle.rules.specs.Rules.{Rule, twoNumbers, window, windowNumber, windowRuns, rule, byRuns, concluded, ofRuns}
 use Rattle.rules.specs.Apply.{concludedBy}
+use Rattle.rules.specs.WindowsLaws.{clips}
 use Rattle.values.specs.Ranges.{in-range}
-use Rattle.values.specs.WindowLaws.{readings-short, clipped-parts, clipped-within}
+use Rattle.values.specs.WindowLaws.{readings-short}
 use Rattle.values.specs.SlidingLaws.{first-short, sums-length}
 use Rattle.values.specs.TallyLaws.{if-most}
 
@@ -159,13 +160,13 @@ module _ (P : Value → Type 0) (C : Closed P) where
   closed-rule Div = λ a b. by-cond P (sameℤ b (pos 0)) _ _ (λ h. C .reason 3 (omega arith) (omega arith)) (λ h. closed-ranged (quotient a b))
   closed-rule Gt = λ a b. closed-flag (ltZ b a)
   closed-rule Eq = λ a b. closed-flag (sameℤ a b)
-  closed-rule Skip = λ xs s l n R W. closed-unless n _ (λ k. C .part s l (s + clipped k l) (l - clipped k l) (omega (arith, clipped-parts s k l)) W)
-  closed-rule Take = λ xs s l n R W. closed-unless n _ (λ k. C .part s l s (clipped k l) (omega (arith, clipped-within k l)) W)
+  closed-rule Skip = λ xs s l n R W. C .part s l (s + clipped n l) (l - clipped n l) (omega (arith, clips .within n l)) W
+  closed-rule Take = λ xs s l n R W. C .part s l s (clipped n l) (omega (arith, clips .within n l)) W
   closed-rule Count = λ xs s l R W. C .count s l l (omega arith) W
   closed-rule Sum = λ xs s l R W. closed-ranged _
   closed-rule Min = λ xs s l R W. closed-extreme lesser (λ a b p q. either (ltZ b a) b a q p) (readingsIn xs s l) (readings-of xs s l R)
   closed-rule Max = λ xs s l R W. closed-extreme greater (λ a b p q. either (ltZ a b) b a q p) (readingsIn xs s l) (readings-of xs s l R)
-  closed-rule At = λ xs s l n R W. closed-unless n _ (closed-reading (readingsIn xs s l) (readings-of xs s l R))
+  closed-rule At = λ xs s l n R W. closed-unless (fromStart n (length (readingsIn xs s l))) _ (closed-reading (readingsIn xs s l) (readings-of xs s l R))
   closed-rule CountWhere = λ s l zs W h. C .count s l (countOf zs) (omega (arith, count-short zs)) W
   closed-rule LongestRun = λ s l zs W h. C .count s l (longest zs) (omega (arith, longest-short zs)) W
   closed-rule SumBy = λ s l zs W h. closed-ranged _

@@ -1,16 +1,19 @@
--- What the definitions of Windows come to: which readings a window has, what clipping leaves of them, and how a sum, a least or a greatest
--- is worked out reading by reading. Each holds by induction on the readings, or by laws of `take` and `drop`. Assumes nothing.
+-- What the definitions of Windows come to: which readings a window has, and how a sum, a least or a greatest is worked out reading by reading. Each
+-- holds by induction on the readings, or by laws of `take` and `drop`. Assumes nothing.
 use mathlib.Core.Path.{_≡_, refl, sym, ap, _∙_}
+use mathlib.Core.Bool.{true, false}
 use mathlib.Core.List.{List, [], _∷_}
-use Prim.Native.Nat.{ℕ, zero, suc, _+_, _-_, _*_, _≤_, _<_}
+use Prim.Native.Nat.{ℕ, _+_, _-_, _*_, _≤_, _<_}
 use native.Mathlib.Numerals.{add-one}
 use native.Mathlib.Omega.{arith}
-use lib.IntN.{ℤ, pos, natAbs, _+ℤ_, +ℤ-idl, +ℤ-idr, +ℤ-assoc}
+use borrow.Author.Tests.{ltb-true, ltb-false}
+use lib.IntN.{ℤ, pos, negsuc, natAbs, _+ℤ_, +ℤ-idl, +ℤ-idr, +ℤ-assoc}
 use lib.ListN.{length, take, drop, getD, length-take, length-drop, drop-of-length-le}
-use lib.Seq.{take-all, take-nil, drop-nil, drop-drop, drop-cons}
-use lib.Signed.{mag}
+use lib.Seq.{take-all, take-nil, drop-cons}
+use lib.Signed.{mag, ltZ}
+use Rattle.language.specs.Cases.{impossible}
 use Rattle.rules.specs.declared.Value.the-variants.{Number}
-use Rattle.rules.specs.Windows.{readingsIn, clipped, total, foldFrom, extreme}
+use Rattle.rules.specs.Windows.{readingsIn, fromStart, nearest, total, foldFrom, extreme}
 use Rattle.values.specs.Ranges.{total-range}
 
 -- ---- the readings of a window
@@ -28,47 +31,27 @@ readings-none xs s l h = ap (take l) (drop-of-length-le xs h) ∙ take-nil l
 pub readings-rest : (xs : List ℤ) (s l : ℕ) → length xs - s ≤ l → readingsIn xs s l ≡ drop s xs
 readings-rest xs s l h = take-all l (drop s xs) (simp length-drop h)
 
--- ---- the clipping rule
+-- ---- a count from either end, by its tests
 
-pub clipped-within : (n l : ℕ) → clipped n l ≤ l
-clipped-within n l = omega arith
+pub end-counted : (n : ℤ) (l : ℕ) → ltZ n (pos 0) ≡ true → pos l +ℤ n ≡ fromStart n l
+end-counted (pos n) l h = absurd (omega (arith, ltb-true n 0 h))
+end-counted (negsuc n) l h = refl
 
--- what is skipped and what is left are the whole window
-pub clipped-parts : (s n l : ℕ) → s + clipped n l + (l - clipped n l) ≡ s + l
-clipped-parts s n l = omega arith
+pub start-counted : (n : ℤ) (l : ℕ) → ltZ n (pos 0) ≡ false → n ≡ fromStart n l
+start-counted (pos n) l h = refl
+start-counted (negsuc n) l h = impossible (sym h)
 
--- skip leaves out the first n readings, take keeps just those
-skip-list : (ys : List ℤ) (n l : ℕ) → take (l - clipped n l) (drop (clipped n l) ys) ≡ drop n (take l ys)
-skip-list ys zero l =
-    let a : clipped 0 l ≡ 0 = omega arith in
-    let b : l - clipped 0 l ≡ l = omega arith in
-    λ i. take (b i) (drop (a i) ys)
-skip-list ys (suc n) zero =
-    let b : 0 - clipped (suc n) 0 ≡ 0 = omega arith in
-    ap (λ (k : ℕ). take k (drop (clipped (suc n) 0) ys)) b
-skip-list [] (suc n) (suc l) = simp (drop-nil, take-nil)
-skip-list (y ∷ ys) (suc n) (suc l) =
-    let a : clipped (suc n) (suc l) ≡ suc (clipped n l) = omega arith in
-    let b : suc l - clipped (suc n) (suc l) ≡ l - clipped n l = omega arith in
-    (λ i. take (b i) (drop (a i) (y ∷ ys))) ∙ skip-list ys n l
+pub nearest-none : (z : ℤ) (l : ℕ) → ltZ z (pos 0) ≡ true → 0 ≡ nearest z l
+nearest-none (pos k) l h = absurd (omega (arith, ltb-true k 0 h))
+nearest-none (negsuc k) l h = refl
 
-pub readings-skipped : (xs : List ℤ) (s l n : ℕ) → readingsIn xs (s + clipped n l) (l - clipped n l) ≡ drop n (readingsIn xs s l)
-readings-skipped xs s l n = ap (take (l - clipped n l)) (sym (drop-drop (clipped n l) s xs)) ∙ skip-list (drop s xs) n l
+pub nearest-itself : (z : ℤ) (l : ℕ) → ltZ z (pos 0) ≡ false → ltZ z (pos l) ≡ true → natAbs z ≡ nearest z l
+nearest-itself (pos k) l h t = omega (arith, ltb-true k l t)
+nearest-itself (negsuc k) l h t = impossible (sym h)
 
-pub readings-taken : (xs : List ℤ) (s l n : ℕ) → readingsIn xs s (clipped n l) ≡ take n (readingsIn xs s l)
-readings-taken xs s l n = take-list (drop s xs) n l
-  where
-    take-list : (ys : List ℤ) (n l : ℕ) → take (clipped n l) ys ≡ take n (take l ys)
-    take-list ys zero l =
-        let a : clipped 0 l ≡ 0 = omega arith in
-        ap (λ (k : ℕ). take k ys) a
-    take-list ys (suc n) zero =
-        let a : clipped (suc n) 0 ≡ 0 = omega arith in
-        ap (λ (k : ℕ). take k ys) a
-    take-list [] (suc n) (suc l) = take-nil (clipped (suc n) (suc l))
-    take-list (y ∷ ys) (suc n) (suc l) =
-        let a : clipped (suc n) (suc l) ≡ suc (clipped n l) = omega arith in
-        ap (λ (k : ℕ). take k (y ∷ ys)) a ∙ ap (_∷_ y) (take-list ys n l)
+pub nearest-all : (z : ℤ) (l : ℕ) → ltZ z (pos 0) ≡ false → ltZ z (pos l) ≡ false → l ≡ nearest z l
+nearest-all (pos k) l h t = omega (arith, ltb-false k l t)
+nearest-all (negsuc k) l h t = impossible (sym h)
 
 -- ---- the readings from i on
 

@@ -9,7 +9,7 @@ ghost use mathlib.Core.Path.{_≡_};
 ghost use Prim.Native.Nat.{_+_, _≤_};
 ghost use lib.ListN as L;
 ghost use Rattle.members.specs.declared.Member.the-variants as Members;
-ghost use Rattle.rules.specs.Windows.{readingsIn, clipped, skipped, taken, unlessNegative, lesser, greater};
+ghost use Rattle.rules.specs.Windows.{readingsIn, fromStart, clipped, skipped, taken, lesser, greater};
 ghost use Rattle.rules.specs.Rules.{ofWindow, onWindow};
 ghost use Rattle.values.specs.Sliding.{Totals};
 
@@ -111,54 +111,64 @@ pub fn of_window(m: Member, xs: &[i32], start: u16, length: u16) -> Value
     }
 }
 
-// How many of length readings a count takes or skips: past the end, all there is.
-fn clip(count: u32, length: u16) -> u16
-    ensures { λ r. ⌜ r ≡ clipped count length ⌝ }
+// A count from either end of so many readings, counted from the start: a negative one is from the end. At 64 bits, where nothing is lost.
+fn from_start(n: i32, length: u16) -> i64
+    ensures { λ r. ⌜ r ≡ fromStart n length ⌝ }
 {
-    if count < length as u32 {
+    if n < 0 {
+        length as i64 + n as i64
+    } else {
+        n as i64
+    }
+}
+
+// How many of length readings lie before a count from either end: past an end, none or all there are.
+fn clip(n: i32, length: u16) -> u16
+    ensures { λ r. ⌜ r ≡ clipped n length ⌝ }
+{
+    let count = from_start(n, length);
+    if count < 0 {
+        return 0;
+    }
+    if count < length as i64 {
         count as u16
     } else {
         length
     }
 }
 
-// The start moves on by what is skipped; reason 5 for a negative count.
+// The start moves on by what is skipped.
 pub fn skip(start: u16, length: u16, n: i32) -> Value
     requires { ⌜ start + length ≤ 65535 ⌝ }
-    ensures { λ r. ⌜ r ≡ unlessNegative n (skipped start length) ⌝ }
+    ensures { λ r. ⌜ r ≡ skipped start length n ⌝ }
 {
-    if n < 0 {
-        return Value::Missing(5);
-    }
-    let gone = clip(n as u32, length);
+    let gone = clip(n, length);
     Value::Window {
         start: start + gone,
         length: length - gone,
     }
 }
 
-// The start stays; reason 5 for a negative count.
+// The start stays.
 pub fn take(start: u16, length: u16, n: i32) -> Value
-    ensures { λ r. ⌜ r ≡ unlessNegative n (taken start length) ⌝ }
+    ensures { λ r. ⌜ r ≡ taken start length n ⌝ }
 {
-    if n < 0 {
-        return Value::Missing(5);
-    }
     Value::Window {
         start,
-        length: clip(n as u32, length),
+        length: clip(n, length),
     }
 }
 
-// The reading at an index from 0: reason 5 outside the window.
+// The reading at an index from either end: reason 5 outside the window.
 pub fn at(xs: &[i32], start: u16, length: u16, n: i32) -> Value
     ensures { λ r. ⌜ r ≡ onWindow Members.At (now (xs .entry)) start length n ⌝ }
 {
-    if n < 0 {
+    let readings = part(xs, start, length);
+    let index = from_start(n, readings.len() as u16);
+    if index < 0 {
         return Value::Missing(5);
     }
-    let readings = part(xs, start, length);
-    let i = n as u32 as usize;
+    let i = index as usize;
     if i < readings.len() {
         Value::Number(readings[i])
     } else {

@@ -96,6 +96,16 @@ fn ranged<'a>(z: i64) -> Value<'a> {
     i32::try_from(z).map_or(Value::Missing(4), Value::Number)
 }
 
+/// A count from either end of so many readings, counted from the start.
+fn from_start(n: i32, length: u32) -> i64 {
+    i64::from(n) + if n < 0 { i64::from(length) } else { 0 }
+}
+
+/// How many of them lie before it.
+fn clip(n: i32, length: u32) -> u32 {
+    from_start(n, length).clamp(0, length.into()) as u32
+}
+
 impl<'a> Interpreter<'a> {
     fn new(readings: &'a [i32]) -> Interpreter<'a> {
         Interpreter { readings, frames: Vec::new() }
@@ -191,16 +201,20 @@ impl<'a> Interpreter<'a> {
             (Value::Delayed(_), _) => a,
             (_, Value::Delayed(_)) => b,
             (Value::Number(x), Value::Number(y)) => of_numbers(member, x.into(), y.into()),
-            (Value::Window(start, length), Value::Number(n)) => match (member, u32::try_from(n)) {
-                (Skip, Ok(n)) => Value::Window(start + n.min(length), length - n.min(length)),
-                (Take, Ok(n)) => Value::Window(start, n.min(length)),
-                (At, Ok(n)) if n < length => Value::Number(self.readings[(start + n) as usize]),
-                (Skip | Take | At, _) => Value::Missing(5),
-                (BestSum, _) => {
+            (Value::Window(start, length), Value::Number(n)) => match member {
+                Skip => Value::Window(start + clip(n, length), length - clip(n, length)),
+                Take => Value::Window(start, clip(n, length)),
+                At => match from_start(n, length) {
+                    i if (0..i64::from(length)).contains(&i) => {
+                        Value::Number(self.readings[start as usize + i as usize])
+                    }
+                    _ => Value::Missing(5),
+                },
+                BestSum => {
                     let best = stretches::best(self.readings(start, length), n);
                     best.map_or(Value::Missing(5), |(sum, _)| ranged(sum))
                 }
-                (BestAt, _) => {
+                BestAt => {
                     let best = stretches::best(self.readings(start, length), n);
                     best.map_or(Value::Missing(5), |(_, at)| Value::Number(at as i32))
                 }

@@ -123,6 +123,16 @@ int main(void)
     preview(55, 512);
     depth(55);
     depth(52);
+    edit("data.skip(-2)");
+    preview(57, 512);
+    edit("data.take(-2)");
+    preview(58, 512);
+    edit("data.at(-1)");
+    preview(59, 512);
+    edit("data.at(-2147483648)");
+    preview(60, 512);
+    edit("data.take(-2147483648)");
+    preview(61, 512);
     memset(&cache, 0xff, sizeof cache);
     depth(511);
     depth(512);

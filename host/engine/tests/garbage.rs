@@ -24,7 +24,7 @@ use plain::refusal::{NO_SUCH_ENTRY, OTHER_FORM, TABLE_FULL};
 use plain::samples::{ALL, RECORDING, edit, open, preview};
 use plain::shown::Shown;
 use plain::syntax::parse;
-use plain::tally::{DELAYED_TWICE, ROUNDED_BELOW_0, Tally};
+use plain::tally::{DELAYED_TWICE, FROM_THE_END, PAST_THE_FIRST, ROUNDED_BELOW_0, Tally};
 
 const ILL_FORMED: Answer = Answer::Refused { number: 4, place: 0 };
 
@@ -228,6 +228,9 @@ fn made_up_caches() {
     tally.check_rules(&[("bestSum", "missing 4"), ("bestSum", "missing 5")], 5);
     tally.check_rules(&[("bestAt", "missing 5")], 5);
     tally.check_rules(&[("div", "missing 3"), ("div", ROUNDED_BELOW_0)], 5);
+    for member in ["skip", "take", "at"] {
+        tally.check_rules(&[(member, FROM_THE_END), (member, PAST_THE_FIRST)], 5);
+    }
 }
 
 #[test]

@@ -283,6 +283,16 @@ fn calls_from_c() {
         preview 0 1 1 4 0 0 [a] []\n\
         preview 0 1 1 3 0 0 [a] []\n\
         depth 0\ndepth 1\n\
+        edit 0 0 57 3 2: 1 57 56\n\
+        preview 0 1 1 2 3 2 [] []\n\
+        edit 0 0 58 3 1: 1 58 56\n\
+        preview 0 1 1 2 0 3 [] []\n\
+        edit 0 0 59 3 1: 1 59 13\n\
+        preview 0 1 1 1 155 0 [] []\n\
+        edit 0 0 60 3 1: 1 60 12\n\
+        preview 0 1 1 5 5 0 [] []\n\
+        edit 0 0 61 3 1: 1 61 12\n\
+        preview 0 1 1 2 0 0 [] []\n\
         depth 0\ndepth 0\n";
     assert_eq!(said("calls"), expected);
 }

@@ -15,7 +15,9 @@ use plain::random::single::single;
 use plain::random::{is_affordable, session};
 use plain::refusal::TABLE_FULL;
 use plain::samples::{edit, open, preview, print};
-use plain::tally::{DELAYED_TWICE, OTHER_LEVELS, ROUNDED_BELOW_0, Tally};
+use plain::tally::{
+    DELAYED_TWICE, FROM_THE_END, OTHER_LEVELS, PAST_THE_FIRST, ROUNDED_BELOW_0, Tally,
+};
 use std::thread;
 
 const CALLS_OF_SESSION: usize = 80;
@@ -162,10 +164,16 @@ fn recordings() -> Vec<Vec<i32>> {
 #[rustfmt::skip]
 const TEXTS: &[&str] = &[
     "data", "data.sum()", "data.min()", "data.max()", "data.count()",
-    "data.at(0)", "data.at(1022)", "data.at(1023)", "data.at(1024)", "data.at(-1)",
-    "data.at(2147483647)", "data.skip(1023)", "data.skip(1024)", "data.skip(1025)",
-    "data.skip(2147483647).min()", "data.take(2147483647)", "data.skip(-1)",
-    "data.take(-2147483648)", "data.skip(512).take(511).sum()", "data.take(0).max()",
+    "data.at(0)", "data.at(1022)", "data.at(1023)", "data.at(1024)", "data.at(2147483647)",
+    "data.at(-1)", "data.at(-1022)", "data.at(-1023)", "data.at(-1024)", "data.at(-1025)",
+    "data.at(-65535)", "data.at(-65536)", "data.at(-65537)", "data.at(-2147483648)",
+    "data.skip(1023)", "data.skip(1024)", "data.skip(1025)", "data.skip(2147483647).min()",
+    "data.skip(-1)", "data.skip(-1022)", "data.skip(-1023)", "data.skip(-1024)",
+    "data.skip(-1025)", "data.skip(-65536)", "data.skip(-65537)", "data.skip(-2147483648)",
+    "data.take(1024)", "data.take(1025)", "data.take(2147483647)", "data.take(-1)",
+    "data.take(-1022)", "data.take(-1023)", "data.take(-1024)", "data.take(-1025)",
+    "data.take(-65536)", "data.take(-65537)", "data.take(-2147483647)", "data.take(-2147483648)",
+    "data.skip(512).take(511).sum()", "data.skip(512).take(-1).skip(-511)", "data.take(0).max()",
     "data.max().sub(data.min())", "data.min().div(-1)", "data.max().add(1)",
     "data.min().mul(data.max())", "data.sumBy(\\x -> x)", "data.sumBy(\\x -> x.div(-1))",
     "data.sumBy(\\x -> x.div(x))", "data.sumBy(\\x -> x.mul(x))", "data.sumBy(\\x -> 2147483647)",
@@ -266,6 +274,33 @@ fn best_stretches() {
     tally.check_rules(&[("bestSum", "number"), ("bestAt", "number")], 500);
     tally.check_rules(&[("bestSum", "missing 4")], 200);
     tally.check_rules(&[("bestSum", "missing 5"), ("bestAt", "missing 5")], 500);
+}
+
+/// Counts from either end of windows of every length up to 8, within them and past them.
+#[test]
+fn counts_from_either_end() {
+    let mut tally = Tally::default();
+    let readings = [3, -1, 4, -1, 5, -9, 2, 6];
+    for length in 0..=readings.len() {
+        let recording = &readings[..length];
+        let mut pair = Pair::new(length as u64);
+        for window in ["data", "data.skip(1)", "data.take(-1)", "data.skip(1).take(-1)"] {
+            for member in ["skip", "take", "at"] {
+                pair.call(&open(recording));
+                let near = (-10..=10).chain([i32::MIN, i32::MIN + 1, i32::MAX - 1, i32::MAX]);
+                for n in near {
+                    let text = format!("{window}.{member}({n})");
+                    show(&mut pair, recording, text.as_bytes(), u32::MAX);
+                }
+                pair.check_state();
+                tally.count_rules(&pair.model);
+            }
+        }
+    }
+    for member in ["skip", "take", "at"] {
+        tally.check_rules(&[(member, FROM_THE_END), (member, PAST_THE_FIRST)], 100);
+    }
+    tally.check_rules(&[("at", "number"), ("at", "missing 5")], 100);
 }
 
 /// Quotients of all signs, exact and not, and at the ends of the range.

@@ -113,7 +113,7 @@ impl<'a> Evaluation<'a> {
     ) -> Result<Shown, Reason> {
         let exact = match (member.rule(), shown) {
             (Rule::Cut(rule), [Shown::Window(window), Shown::Number(n)]) => {
-                return Ok(Shown::Window(rule(*window, *n)?));
+                return Ok(Shown::Window(rule(*window, *n)));
             }
             (Rule::Numbers(rule), [Shown::Number(left), Shown::Number(right)]) => {
                 rule(i64::from(*left), i64::from(*right))?

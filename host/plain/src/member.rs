@@ -86,6 +86,11 @@ impl Member {
         }
     }
 
+    /// Whether a negative number counts from the end of the window (02, T-06).
+    pub fn counts_from_the_end(self) -> bool {
+        ["skip", "take", "at"].contains(&self.name())
+    }
+
     /// How many arguments it takes, the receiver not counted.
     pub fn arguments(self) -> usize {
         usize::from(self.argument().is_some())

@@ -12,7 +12,7 @@ pub enum Rule {
     /// A number and a number give a number.
     Numbers(fn(i64, i64) -> Result<i64, Reason>),
     /// A window and a number give a window.
-    Cut(fn(Window, i32) -> Result<Window, Reason>),
+    Cut(fn(Window, i32) -> Window),
     /// A window, given by its readings, gives a number.
     Readings(fn(&[i32]) -> Result<i64, Reason>),
     /// A window, given by its readings, and a number give a number.
@@ -60,24 +60,22 @@ pub fn eq(left: i64, right: i64) -> Result<i64, Reason> {
     Ok(i64::from(left == right))
 }
 
-/// The clipping rule: how many of `length` readings the count `n` covers. Past the
-/// end it is all there is.
-fn clip(n: i32, length: usize) -> Result<usize, Reason> {
-    match usize::try_from(n) {
-        Ok(count) => Ok(count.min(length)),
-        Err(_) => Err(OUTSIDE_WINDOW),
-    }
+/// The clipping rule (02, T-06): how many of `length` readings come before the count `n`,
+/// which is from the end where it is negative. Past either end it counts to that end.
+fn clip(n: i32, length: usize) -> usize {
+    let count = (n.unsigned_abs() as usize).min(length);
+    if n < 0 { length - count } else { count }
 }
 
 /// `skip` moves the start on by what it skips.
-pub fn skip(window: Window, n: i32) -> Result<Window, Reason> {
-    let skipped = clip(n, window.length)?;
-    Ok(Window { start: window.start + skipped, length: window.length - skipped })
+pub fn skip(window: Window, n: i32) -> Window {
+    let skipped = clip(n, window.length);
+    Window { start: window.start + skipped, length: window.length - skipped }
 }
 
 /// `take` keeps the start.
-pub fn take(window: Window, n: i32) -> Result<Window, Reason> {
-    Ok(Window { start: window.start, length: clip(n, window.length)? })
+pub fn take(window: Window, n: i32) -> Window {
+    Window { start: window.start, length: clip(n, window.length) }
 }
 
 pub fn count(readings: &[i32]) -> Result<i64, Reason> {
@@ -96,10 +94,14 @@ pub fn max(readings: &[i32]) -> Result<i64, Reason> {
     readings.iter().max().map(|greatest| i64::from(*greatest)).ok_or(OUTSIDE_WINDOW)
 }
 
-/// The reading at an index from 0.
+/// The reading at an index from 0, or, where it is negative, from the end: -1 is the last.
 pub fn at(readings: &[i32], index: i32) -> Result<i64, Reason> {
-    let index = usize::try_from(index).map_err(|_| OUTSIDE_WINDOW)?;
-    readings.get(index).map(|reading| i64::from(*reading)).ok_or(OUTSIDE_WINDOW)
+    let distance = index.unsigned_abs() as usize;
+    let found = match index < 0 {
+        true => readings.iter().nth_back(distance - 1),
+        false => readings.get(distance),
+    };
+    found.map(|reading| i64::from(*reading)).ok_or(OUTSIDE_WINDOW)
 }
 
 /// How many results are other than 0.

@@ -115,8 +115,8 @@ fn named(word: &str) -> Name {
 
 /// All sample previews: those of 01, then those that 02 adds.
 pub fn previews() -> Vec<Sample> {
-    let added = stretch_previews().into_iter().chain(division_previews()).chain(level_previews());
-    scope_previews().into_iter().chain(added).collect()
+    let added = [stretch_previews(), division_previews(), level_previews(), end_previews()];
+    scope_previews().into_iter().chain(added.into_iter().flatten()).collect()
 }
 
 /// The sample previews of 01, in its order, the division as 02, T-02 amends it. Where 01
@@ -175,6 +175,23 @@ fn division_previews() -> Vec<Sample> {
         sample("7.div(-2)", one_call, 1, number(-4)),
         sample("-7.div(-2)", one_call, 1, number(3)),
         sample("-6.div(3)", one_call, 1, number(-2)),
+    ]
+}
+
+/// Counts from the end (02, T-06): within the window, and past its first reading.
+fn end_previews() -> Vec<Sample> {
+    let one_call: Figures = (3, 2, &[0, 2, 1]);
+    let second: Figures = (1, 3, &[0, 3, 1]);
+    let third: Figures = (1, 4, &[0, 4, 1]);
+    let in_turn: Figures = (7, 6, &[0, 2, 1, 4, 3, 6, 5]);
+    vec![
+        sample("data.skip(-2)", one_call, 1, window(3, 2)),
+        sample("data.take(-2)", second, 1, window(0, 3)).following(),
+        sample("data.at(-2)", third, 1, number(148)).following(),
+        sample("data.skip(-6)", one_call, 1, window(0, 5)),
+        sample("data.take(-6)", second, 1, window(0, 0)).following(),
+        sample("data.at(-6)", third, 1, missing(5)).following(),
+        sample("data.skip(1).take(-1).at(-3)", in_turn, 3, number(152)),
     ]
 }
 

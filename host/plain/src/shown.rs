@@ -20,8 +20,8 @@ pub const WRONG_KIND: Reason = 2;
 pub const DIVISION_BY_ZERO: Reason = 3;
 /// 4: beyond signed 32 bits.
 pub const BEYOND_32_BITS: Reason = 4;
-/// 5: negative count, index outside, least or greatest of an empty window, or a stretch
-/// of no reading or of more than the window has.
+/// 5: index outside, least or greatest of an empty window, or a stretch of no reading or
+/// of more than the window has.
 pub const OUTSIDE_WINDOW: Reason = 5;
 
 /// What a form shows.

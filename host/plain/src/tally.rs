@@ -43,6 +43,9 @@ impl Tally {
         if member.name() == "div" && is_rounded_below_0(operands, shown) {
             *self.rules.entry((member.name(), ROUNDED_BELOW_0.into())).or_default() += 1;
         }
+        if let Some(label) = from_the_end(member, operands) {
+            *self.rules.entry((member.name(), label.into())).or_default() += 1;
+        }
     }
 
     /// Counts what the marked members show by their rules.
@@ -143,15 +146,20 @@ impl Tally {
     }
 }
 
-/// Reasons that rules give by themselves, other than 2, and quotients that are rounded.
+/// Reasons that rules give by themselves, other than 2, quotients that are rounded, and
+/// counts from the end.
 const RESULTS: &[(&str, &str)] = &[
     ("add", "missing 4"),
     ("sub", "missing 4"),
     ("mul", "missing 4"),
     ("div", "missing 3"),
     ("div", ROUNDED_BELOW_0),
-    ("skip", "missing 5"),
-    ("take", "missing 5"),
+    ("skip", FROM_THE_END),
+    ("skip", PAST_THE_FIRST),
+    ("take", FROM_THE_END),
+    ("take", PAST_THE_FIRST),
+    ("at", FROM_THE_END),
+    ("at", PAST_THE_FIRST),
     ("sum", "missing 4"),
     ("min", "missing 5"),
     ("max", "missing 5"),
@@ -184,6 +192,22 @@ pub const PRINTS: &[&str] = &[
 fn add<Key: Ord>(counts: &mut Counts<Key>, others: Counts<Key>) {
     for (key, count) in others {
         *counts.entry(key).or_default() += count;
+    }
+}
+
+/// A count from the end of a window, within it.
+pub const FROM_THE_END: &str = "from the end";
+
+/// A count from the end of a window that has fewer readings.
+pub const PAST_THE_FIRST: &str = "from the end, past the first";
+
+fn from_the_end(member: Member, operands: &[Shown]) -> Option<&'static str> {
+    match operands {
+        [Shown::Window(window), Shown::Number(n @ ..0)] if member.counts_from_the_end() => {
+            let is_within = n.unsigned_abs() as usize <= window.length;
+            Some(if is_within { FROM_THE_END } else { PAST_THE_FIRST })
+        }
+        _ => None,
     }
 }
 

@@ -222,7 +222,7 @@ fn show_member(member: Member, operands: &[Tree], recording: &[i32]) -> Shown {
             run_over(&operands[1], part(window), recording).and_then(|results| rule(&results))
         }
         (Rule::Cut(rule), [Shown::Window(window), Shown::Number(n)]) => {
-            return rule(*window, *n).map_or_else(Shown::Missing, Shown::Window);
+            return Shown::Window(rule(*window, *n));
         }
         _ => Err(WRONG_KIND),
     };

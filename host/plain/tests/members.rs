@@ -57,11 +57,9 @@ fn windows() {
         ("data.skip(0)", window(0, 5)),
         ("data.skip(5)", window(5, 0)),
         ("data.skip(2147483647)", window(5, 0)),
-        ("data.skip(-1)", missing(5)),
         ("data.take(0)", window(0, 0)),
         ("data.take(5)", window(0, 5)),
         ("data.take(6)", window(0, 5)),
-        ("data.take(-1)", missing(5)),
         ("data.skip(2).take(0)", window(2, 0)),
         ("data.take(2).skip(9)", window(2, 0)),
         ("data.skip(1).skip(2)", window(3, 2)),
@@ -77,9 +75,44 @@ fn windows() {
         ("data.at(0)", number(140)),
         ("data.at(4)", number(155)),
         ("data.at(5)", missing(5)),
-        ("data.at(-1)", missing(5)),
         ("data.skip(3).at(1)", number(155)),
         ("data.take(2).at(2)", missing(5)),
+    ]);
+}
+
+/// Over 140, 152, 160, 148, 155, and over the three in the middle of them.
+#[test]
+fn counts_from_the_end() {
+    check_shown(&[
+        ("data.skip(-1)", window(4, 1)),
+        ("data.skip(-2)", window(3, 2)),
+        ("data.skip(-5)", window(0, 5)),
+        ("data.skip(-6)", window(0, 5)),
+        ("data.skip(-2147483648)", window(0, 5)),
+        ("data.take(-1)", window(0, 4)),
+        ("data.take(-2)", window(0, 3)),
+        ("data.take(-5)", window(0, 0)),
+        ("data.take(-6)", window(0, 0)),
+        ("data.take(-2147483648)", window(0, 0)),
+        ("data.at(-1)", number(155)),
+        ("data.at(-5)", number(140)),
+        ("data.at(-6)", missing(5)),
+        ("data.at(-2147483648)", missing(5)),
+        ("data.skip(1).take(3).skip(-1)", window(3, 1)),
+        ("data.skip(1).take(3).skip(-3)", window(1, 3)),
+        ("data.skip(1).take(3).skip(-4)", window(1, 3)),
+        ("data.skip(1).take(3).take(-1)", window(1, 2)),
+        ("data.skip(1).take(3).take(-4)", window(1, 0)),
+        ("data.skip(1).take(3).at(-1)", number(148)),
+        ("data.skip(1).take(3).at(-3)", number(152)),
+        ("data.skip(1).take(3).at(-4)", missing(5)),
+        ("data.take(0).skip(-1)", window(0, 0)),
+        ("data.take(0).take(-1)", window(0, 0)),
+        ("data.take(0).at(-1)", missing(5)),
+        ("data.skip(-2).take(-1).at(-1)", number(148)),
+        ("data.skip(9).skip(-2147483648)", window(5, 0)),
+        ("data.sumBy(\\b -> data.at(b.sub(141)))", missing(5)),
+        ("data.take(1).sumBy(\\b -> data.at(b.sub(141)))", number(155)),
     ]);
 }
 
@@ -122,9 +155,9 @@ fn the_first_run_without_a_number_decides() {
     assert_eq!(shown(&[1, 1, 0, 9], text), missing(3));
     assert_eq!(shown(&[1, 1, 9, 0], text), missing(5));
     assert_eq!(shown(&[1, 1], text), number(4));
-    let no_number = "data.sumBy(\\b -> data.skip(b))";
-    assert_eq!(shown(&[1, -1], no_number), missing(2));
-    assert_eq!(shown(&[-1, 1], no_number), missing(5));
+    let no_number = "data.sumBy(\\b -> data.skip(data.at(b)))";
+    assert_eq!(shown(&[1, -3], no_number), missing(2));
+    assert_eq!(shown(&[-3, 1], no_number), missing(5));
     let wide = "data.sumBy(\\b -> b.mul(b))";
     assert_eq!(shown(&[40000, 40000], wide), missing(4));
     assert_eq!(shown(&[30000, 30000], wide), number(1_800_000_000));
@@ -248,7 +281,7 @@ fn best_stretches_take_a_window_and_a_number() {
         ("data.bestSum(1.div(0))", missing(3)),
         ("data.bestAt(y)", missing(1)),
         ("y.bestSum(1.div(0))", missing(1)),
-        ("data.skip(-1).bestAt(data)", missing(5)),
+        ("data.skip(data.at(5)).bestAt(data)", missing(5)),
     ]);
 }
 
@@ -288,7 +321,7 @@ fn missing_comes_before_delayed_and_the_first_missing_decides() {
         ("y", missing(1)),
         ("y.add(1.div(0))", missing(1)),
         ("1.div(0).add(y)", missing(3)),
-        ("data.skip(-1).skip(y)", missing(5)),
+        ("data.skip(data.at(5)).skip(y)", missing(5)),
         ("\\a -> a.add(y)", missing(1)),
         ("\\a -> y.add(a)", missing(1)),
         ("\\a -> 1.div(0)", missing(3)),

@@ -134,9 +134,9 @@ impl Writer<'_> {
         self.put(&[")"]);
     }
 
-    /// A number that is a likely count, index or length.
+    /// A number that is a likely count, index or length, now and then from the end.
     fn small_number(&mut self) {
-        let number = self.rng.pick(&["0", "0", "1", "1", "2", "3"]);
+        let number = self.rng.pick(&["0", "0", "1", "1", "2", "3", "-1", "-2"]);
         self.put(&[number]);
     }
 

@@ -4,8 +4,10 @@ use super::formula::Writer;
 use super::rng::Rng;
 use crate::member::Kind;
 
-/// Counts, indices and lengths: below, within and beyond a short window.
-const COUNTS: [&str; 10] = ["-1", "0", "1", "2", "2", "3", "3", "4", "7", "31"];
+/// Counts and indices: within a short window and beyond, from either end.
+const COUNTS: [&str; 11] = ["-2147483648", "-31", "-4", "-2", "-1", "-1", "0", "1", "2", "4", "31"];
+/// Lengths of stretches: below, within and beyond a short window.
+const WIDTHS: [&str; 10] = ["-1", "0", "1", "2", "2", "3", "3", "4", "7", "31"];
 /// The ends of the range, and numbers whose quotients are exact or not, of all signs.
 const NUMBERS: [&str; 8] = ["-2147483648", "-7", "-1", "0", "1", "6", "46341", "2147483647"];
 const ARGUMENTS: [&str; 8] = ["-2147483648", "-3", "-1", "0", "0", "2", "46341", "2147483647"];
@@ -23,7 +25,8 @@ pub fn single(rng: &mut Rng) -> Vec<String> {
     match (member.receiver(), member.argument()) {
         (_, None) => (),
         (_, Some(Kind::Function)) => writer.one_of(&FUNCTIONS),
-        (Kind::Window, _) => writer.one_of(&COUNTS),
+        (Kind::Window, _) if member.counts_from_the_end() => writer.one_of(&COUNTS),
+        (Kind::Window, _) => writer.one_of(&WIDTHS),
         _ => writer.one_of(&ARGUMENTS),
     }
     writer.put(&[")"]);
@@ -41,7 +44,7 @@ impl Writer<'_> {
         self.put(&["data"]);
         for member in ["skip", "take"] {
             if self.rng.one_in(4) {
-                let count = self.rng.pick(&["1", "2", "4"]);
+                let count = self.rng.pick(&["1", "2", "4", "-1", "-2"]);
                 self.put(&[".", member, "(", count, ")"]);
             }
         }

@@ -1,27 +1,30 @@
--- `values::windows::at` meets its contract. An index that is not negative is its own size. Below the number of readings the reading is
--- there, and otherwise there is none. Assumes nothing.
+-- `values::windows::at` meets its contract. The index counted from the start is the callee's. Where it is not negative it is its own size; below
+-- the number of readings the reading is there, and otherwise there is none. Assumes nothing.
 use borrow.Author.Needs.{needs}
-use Rattle.values.proofs.WindowRules.{count-cast, window-rules}
+use Rattle.values.proofs.WindowRules.{index-fits, window-rules}
 use Rattle.values.proofs.windows.at.Statement.{statement}
 use Rattle.values.proofs.windows.at.Tie as tie
-
-returns : tie.Need-returns
-returns c = search window-rules
 
 part-requires : tie.Need-part-requires
 part-requires c κs = search needs
 
+cast-from-start : tie.Need-cast-from-start
+cast-from-start c = search window-rules
+
+from-start-requires : tie.Need-from-start-requires
+from-start-requires c κs = search needs
+
+returns : tie.Need-returns
+returns c = search window-rules
+
 cast-i : tie.Need-cast-i
-cast-i c = count-cast _ (c .before .before .fits .n) (c .before .if1 .left)
+cast-i c = let at-from-start = c .before in index-fits (at-from-start .from-start .result) (record { sfits = at-from-start .from-start .ok }) (c .if1 .left)
 
-cast-i-2 : tie.Need-cast-i-2
-cast-i-2 c = search window-rules
+mul-t12 : tie.Need-mul-t12
+mul-t12 c = search needs
 
-mul-t11 : tie.Need-mul-t11
-mul-t11 c = search needs
-
-shared-slice-copy-out-t13 : tie.Need-shared-slice-copy-out-t13
-shared-slice-copy-out-t13 c = search needs
+shared-slice-copy-out-t14 : tie.Need-shared-slice-copy-out-t14
+shared-slice-copy-out-t14 c = search needs
 
 returns-2 : tie.Need-returns-2
 returns-2 c = search window-rules
@@ -33,11 +36,12 @@ pub at-spec : {M : Type 1} → statement M
 at-spec =
     tie.close
     (tie.spec
-    returns
     part-requires
+    cast-from-start
+    from-start-requires
+    returns
     cast-i
-    cast-i-2
-    mul-t11
-    shared-slice-copy-out-t13
+    mul-t12
+    shared-slice-copy-out-t14
     returns-2
     returns-3)
