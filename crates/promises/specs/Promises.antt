@@ -15,7 +15,7 @@
 use mathlib.Core.Path.{_≡_, refl, sym, ap}
 use mathlib.Core.Bool.{true, false, _&&_}
 use mathlib.Core.Logic.{_↔_, _⊎_}
-use mathlib.Core.List.{List, [], _++_, map}
+use mathlib.Core.List.{List, [], map}
 use Prim.Native.Nat.{ℕ, _+_, _-_, _^_, _≤_, _<_}
 use lib.IntN.{ℤ, pos, negℤ, _+ℤ_}
 use lib.ListN.{length, take, drop, getD}
@@ -355,10 +355,12 @@ skip-clips = Windows.skip-clips
 pub take-clips : (xs : List ℤ) (s l : ℕ) (run : ℤ → Value) (n : ℤ) → apply1 Take xs (Window s l) (Number n) run ≡ Window s (clipped n l)
 take-clips = Windows.take-clips
 
--- So what take keeps and what skip leaves are together the window, whichever end the count is from.
-pub take-and-skip : (xs : List ℤ) (s l : ℕ) (n : ℤ)
-    → readingsIn xs s (clipped n l) ++ readingsIn xs (s + clipped n l) (l - clipped n l) ≡ readingsIn xs s l
-take-and-skip = Windows.take-and-skip
+-- So of the window's readings take keeps the first ones and skip leaves those behind them, whichever end the count is from.
+pub take-readings : (xs : List ℤ) (s l : ℕ) (n : ℤ) → readingsIn xs s (clipped n l) ≡ take (clipped n l) (readingsIn xs s l)
+take-readings = Windows.take-readings
+
+pub skip-readings : (xs : List ℤ) (s l : ℕ) (n : ℤ) → readingsIn xs (s + clipped n l) (l - clipped n l) ≡ drop (clipped n l) (readingsIn xs s l)
+skip-readings = Windows.skip-readings
 
 -- Minus k, for a k from 1 to the length: skip leaves the last k and take all but these. From the length on it is as minus the length.
 pub skip-last : (xs : List ℤ) (s l : ℕ) (run : ℤ → Value) (k : ℕ) → 1 ≤ k → k ≤ l

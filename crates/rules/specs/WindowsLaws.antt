@@ -1,14 +1,14 @@
 -- 02, T-06: clipping keeps its promise, and no other function does; skip and take clip, and at(n) is the reading that n counts to. What is said
 -- of minus k comes from `clipped-end` and, for at, from `end-inside` and `end-outside`. Assumes nothing.
 use mathlib.Core.Path.{_≡_, refl, sym, ap, _∙_, subst}
-use mathlib.Core.List.{List, _++_}
+use mathlib.Core.List.{List, [], _∷_}
 use Prim.Native.Nat.{ℕ, zero, suc, _+_, _-_, _≤_, _<_, min}
 use native.Mathlib.Omega.{arith}
 use borrow.Author.Tests.{ltb-true, ltb-false, lt-ltb, le-ltb}
 use lib.Dec.{ltb, leb→le, le→leb}
 use lib.IntN.{ℤ, pos, negsuc, negℤ}
 use lib.ListN.{length, take, drop, getD}
-use lib.Seq.{take-add, drop-drop}
+use lib.Seq.{take-nil, drop-nil, take-take, drop-drop}
 use lib.Signed.{ltZ, _≤ℤ_}
 use Rattle.language.specs.Cases.{split}
 use Rattle.members.specs.declared.Member.the-variants.{Skip, Take, At}
@@ -96,15 +96,22 @@ clips-wider (negsuc n) k l h = omega (arith, clipped-end n k, clipped-end n l)
 
 -- ---- skip and take
 
+drop-take : (c l : ℕ) (ys : List ℤ) → c ≤ l → take (l - c) (drop c ys) ≡ drop c (take l ys)
+drop-take zero l ys h = let all : l - 0 ≡ l = omega arith in ap (λ (k : ℕ). take k ys) all
+drop-take (suc c) zero ys h = absurd (omega arith)
+drop-take (suc c) (suc l) [] h = simp (drop-nil, take-nil)
+drop-take (suc c) (suc l) (y ∷ ys) h =
+    let less : suc l - suc c ≡ l - c = omega arith in
+    ap (λ (k : ℕ). take k (drop c ys)) less ∙ drop-take c l ys (omega arith)
+
 module _ (xs : List ℤ) (s l : ℕ) where
-  -- the readings that take keeps and those that skip leaves are all of them
-  pub take-and-skip : (n : ℤ) → readingsIn xs s (clipped n l) ++ readingsIn xs (s + clipped n l) (l - clipped n l) ≡ readingsIn xs s l
-  take-and-skip n =
-      let c = clipped n l in
-      let whole : c + (l - c) ≡ l = omega (arith, clips .within n l) in
-      ap (λ (ys : List ℤ). readingsIn xs s c ++ take (l - c) ys) (sym (drop-drop c s xs))
-      ∙ sym (take-add c (l - c) (drop s xs))
-      ∙ ap (λ (k : ℕ). take k (drop s xs)) whole
+  -- the readings that are left
+  pub take-readings : (n : ℤ) → readingsIn xs s (clipped n l) ≡ take (clipped n l) (readingsIn xs s l)
+  take-readings n = sym (take-take (clipped n l) l (drop s xs) (clips .within n l))
+
+  pub skip-readings : (n : ℤ) → readingsIn xs (s + clipped n l) (l - clipped n l) ≡ drop (clipped n l) (readingsIn xs s l)
+  skip-readings n =
+      ap (take (l - clipped n l)) (sym (drop-drop (clipped n l) s xs)) ∙ drop-take (clipped n l) l (drop s xs) (clips .within n l)
 
   module _ (run : ℤ → Value) where
     pub skip-clips : (n : ℤ) → apply1 Skip xs (Window s l) (Number n) run ≡ Window (s + clipped n l) (l - clipped n l)
