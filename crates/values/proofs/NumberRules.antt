@@ -24,7 +24,7 @@ use Rattle.rules.specs.Numbers.{quotient, divided}
 use Rattle.rules.specs.Rules.{rule, onNumbers}
 use Rattle.values.proofs.Tables.{tag, besides, last-arm}
 use Rattle.values.specs.Order.{same-yes, same-no}
-use Rattle.values.proofs.Signed.{cast-is, widens, wide, wide-is, result-fits, result-is, sum-64, difference-64, product-64, read-lt, read-eq, bits-above}
+use Rattle.values.proofs.Signed.{read, cast-is, widens, wide, wide-is, result-fits, result-is, sum-64, difference-64, product-64, read-lt, read-eq, bits-above}
 
 -- ---- the range of a number
 
@@ -102,9 +102,6 @@ module _ (a b : ℤ) (fa : SFits w32 a) (fb : SFits w32 b) where
 -- what is no farther from 0 fits too
 no-farther : {n z : ℤ} → SFits w64 n → mag z ≤ mag n → SFits w64 z
 no-farther f h = record { sfits = lt-of-le-of-lt h (f .sfits) }
-
-abbrev read : ℤ → ℤ
-read z = toZ w64 (ofZ w64 z)
 
 module _ (n d : ℤ) (fn : SFits w64 n) (fd : SFits w64 d) (up : pos 0 <ℤ d) where
   pub divisor-bits : 0 < ofZ w64 d

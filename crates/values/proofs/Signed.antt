@@ -1,16 +1,16 @@
 -- A signed local is kept as its bits: `ofZ w z` are the bits of z, and `toZ w` reads them. Where z is in the range of w, reading gives z
 -- back, so a test, a cast or an operation on locals says of the numbers what it says of the bits. Assumes nothing.
-use mathlib.Core.Path.{_≡_, refl, sym, ap, _∙_}
-use mathlib.Core.Bool.{Bool}
+use mathlib.Core.Path.{_≡_, refl, sym, ap, _∙_, subst}
+use mathlib.Core.Bool.{Bool, false}
 use Prim.Native.Nat.{zero, suc, _<_}
 use native.Mathlib.Nat.{lt-of-lt-of-le, lt-of-le-of-lt}
 use native.Mathlib.Omega.{arith}
-use lib.Dec.{T, leb, lit<, lit≤}
-use lib.IntN.{ℤ, pos, negsuc, _+ℤ_, _-ℤ_, _*ℤ_}
-use lib.Signed.{ltZ}
+use lib.Dec.{T, leb, ltb, lit<, lit≤}
+use lib.IntN.{ℤ, pos, negsuc, natAbs, _+ℤ_, _-ℤ_, _*ℤ_}
+use lib.Signed.{ltZ, nonNeg}
 use mir.Syntax.{Width, w32, w64}
-use mir.Val.{SFits, toZ, ofZ, hbits}
-use mir.Facts.{sfits-widen, toZ-ofZ}
+use mir.Val.{Fits, SFits, toZ, ofZ, bits, hbits}
+use mir.Facts.{sfits-widen, fits-natAbs, toZ-ofZ}
 use mir.ValLaws.{pow-bits}
 use Rattle.values.specs.Ranges.{sum-range, difference-range, product-range}
 
@@ -26,12 +26,32 @@ module _ (w w′ : Width) {z : ℤ} (f : SFits w z) where
 pub widens : {z : ℤ} → SFits w32 z → SFits w64 (toZ w32 (ofZ w32 z))
 widens f = cast-fits w32 w64 f tt
 
--- an i32 as an i64
+-- an i64 read back, and an i32 as an i64
+abbrev pub read : ℤ → ℤ
+read z = toZ w64 (ofZ w64 z)
+
 abbrev pub wide : ℤ → ℤ
-wide z = toZ w64 (ofZ w64 (toZ w32 (ofZ w32 z)))
+wide z = read (toZ w32 (ofZ w32 z))
 
 pub wide-is : {z : ℤ} → SFits w32 z → wide z ≡ z
 wide-is f = cast-is w32 w64 f (sfits-widen tt f)
+
+-- ---- casts to unsigned widths, of a number that is not negative
+
+pub not-negative : (z : ℤ) → ltZ z (pos 0) ≡ false → T (nonNeg z)
+not-negative (pos n) h = tt
+not-negative (negsuc n) h = subst T h tt
+
+module _ (w w′ : Width) (z : ℤ) (f : SFits w z) (t : T (ltb (hbits w) (bits w′))) where
+  pub size-fits : Fits w′ (natAbs (toZ w (ofZ w z)))
+  size-fits = rw (toZ-ofZ f) (fits-natAbs t f)
+
+  pub size-cast : ltZ (toZ w (ofZ w z)) (pos 0) ≡ false → T (nonNeg (toZ w (ofZ w z))) × Fits w′ (natAbs (toZ w (ofZ w z)))
+  size-cast h = (not-negative (toZ w (ofZ w z)) h, size-fits)
+
+-- an i32 as a usize, in two steps
+pub index-cast : (n : ℤ) → SFits w32 n → Fits w64 (natAbs (toZ w32 (ofZ w32 n)))
+index-cast n f = size-fits w32 w64 n f tt
 
 -- ---- an operation at 64 bits on two numbers of 32
 

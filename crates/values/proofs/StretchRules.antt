@@ -24,8 +24,8 @@ use Rattle.values.specs.declared.stretches.Best.{Best}
 use Rattle.values.specs.Ranges.{mag-abs, abs-mag, abs-sum, abs-difference}
 use Rattle.values.specs.Sliding.{Totals, widthIn, better, best}
 use Rattle.values.specs.SlidingLaws.{best-greatest, best-within, best-index, width-none, width-some, Slid, slid-none, slid-more, slid-all}
-use Rattle.values.proofs.Signed.{widens, wide, wide-is, read-lt}
-use Rattle.values.proofs.WindowRules.{part-few, count-cast, index-cast}
+use Rattle.values.proofs.Signed.{index-cast, widens, wide, wide-is, read-lt}
+use Rattle.values.proofs.WindowRules.{part-few}
 
 -- ---- the width
 
@@ -170,7 +170,6 @@ pub ruleset stretch-rules = (
   needs,
   widens,
   part-few,
-  count-cast,
   index-cast,
   width-negative,
   width-beyond,

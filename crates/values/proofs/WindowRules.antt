@@ -1,6 +1,6 @@
 -- What the proofs of the members on a window cite, in the shape that `search` finds: the laws of WindowLaws at the locals' bits.
 -- Assumes nothing.
-use mathlib.Core.Path.{_≡_, refl, sym, ap, _∙_, subst}
+use mathlib.Core.Path.{_≡_, refl, sym, ap, _∙_}
 use mathlib.Core.Bool.{true, false}
 use mathlib.Core.List.{List, [], _∷_}
 use Prim.Native.Nat.{ℕ, _+_, _-_, _≤_, _<_}
@@ -13,7 +13,7 @@ use lib.ListN.{length, take, drop, getD}
 use lib.Signed.{ltZ, nonNeg}
 use mir.Syntax.{w16, w32, w64}
 use mir.Val.{Fits, SFits, toZ, ofZ}
-use mir.Facts.{fits-natAbs, toZ-pos, toZ-ofZ}
+use mir.Facts.{toZ-pos, toZ-ofZ}
 use types.Run.{OneOf}
 use Rattle.members.specs.declared.Member.{Member}
 use Rattle.members.specs.declared.Member.the-variants.{Skip, Take, Count, Sum, Min, Max, At, BestSum, BestAt}
@@ -27,7 +27,7 @@ use Rattle.values.specs.Ranges.{mag-abs}
 use Rattle.values.specs.WindowLaws.{end-counted, start-counted, nearest-none, nearest-itself, nearest-all, readings-none, readings-rest, readings-short, Summed, summed-none, summed-more, summed-all, Folded, folded-one, folded-more, folded-all, no-readings}
 use Rattle.values.specs.Sliding.{Totals}
 use Rattle.values.proofs.Tables.{tag, besides, last-arm}
-use Rattle.values.proofs.Signed.{widens, wide, wide-is, sum-64, read-lt}
+use Rattle.values.proofs.Signed.{not-negative, read, widens, wide, wide-is, sum-64, read-lt}
 
 -- ---- the part of the recording
 
@@ -125,20 +125,10 @@ module _ (xs ys : List ℤ) (s l : ℕ) (e : ys ≡ readingsIn xs s l) where
 
 -- ---- a count from either end
 
-not-negative : (n : ℤ) → ltZ n (pos 0) ≡ false → T (nonNeg n)
-not-negative (pos n) h = tt
-not-negative (negsuc n) h = subst T h tt
-
 length-is : {l : ℕ} → Fits w16 l → toZ w64 l ≡ pos l
 length-is f = toZ-pos w64 (omega (arith, f .fits))
 
 module _ (n : ℤ) (g : SFits w32 n) where
-  pub count-cast : ltZ (toZ w32 (ofZ w32 n)) (pos 0) ≡ false → T (nonNeg (toZ w32 (ofZ w32 n))) × Fits w32 (natAbs (toZ w32 (ofZ w32 n)))
-  count-cast h = (not-negative (toZ w32 (ofZ w32 n)) h, rw (toZ-ofZ g) (fits-natAbs tt g))
-
-  pub index-cast : Fits w64 (natAbs (toZ w32 (ofZ w32 n)))
-  index-cast = rw (toZ-ofZ g) (fits-natAbs tt g)
-
   module _ (l : ℕ) (f : Fits w16 l) where
     counted-back : toZ w64 l +ℤ wide n ≡ pos l +ℤ n
     counted-back = λ i. length-is f i +ℤ wide-is g i
@@ -149,32 +139,32 @@ module _ (n : ℤ) (g : SFits w32 n) where
     pub back-fits : SFits w64 (toZ w64 l +ℤ wide n)
     back-fits = rw counted-back back-64
 
-    pub from-end : ltZ (toZ w32 (ofZ w32 n)) (pos 0) ≡ true → toZ w64 (ofZ w64 (toZ w64 l +ℤ wide n)) ≡ fromStart n l
-    from-end h = ap (λ (z : ℤ). toZ w64 (ofZ w64 z)) counted-back ∙ toZ-ofZ back-64 ∙ end-counted n l (rw (toZ-ofZ g) at h)
+    pub from-end : ltZ (toZ w32 (ofZ w32 n)) (pos 0) ≡ true → read (toZ w64 l +ℤ wide n) ≡ fromStart n l
+    from-end h = ap read counted-back ∙ toZ-ofZ back-64 ∙ end-counted n l (rw (toZ-ofZ g) at h)
 
   pub from-first : (l : ℕ) → ltZ (toZ w32 (ofZ w32 n)) (pos 0) ≡ false → wide n ≡ fromStart n l
   from-first l h = wide-is g ∙ start-counted n l (rw (toZ-ofZ g) at h)
 
 -- r: such a count, counted from the start by the callee
 module _ (n : ℤ) (g : SFits w32 n) (l : ℕ) (r : ℤ) (fr : SFits w64 r) (e : r ≡ fromStart (toZ w32 (ofZ w32 n)) l) where
-  count-is : toZ w64 (ofZ w64 r) ≡ fromStart n l
+  count-is : read r ≡ fromStart n l
   count-is = toZ-ofZ fr ∙ e ∙ ap (λ (y : ℤ). fromStart y l) (toZ-ofZ g)
 
-  clip-is : nearest (toZ w64 (ofZ w64 r)) l ≡ clipped n l
+  clip-is : nearest (read r) l ≡ clipped n l
   clip-is = ap (λ (y : ℤ). nearest y l) count-is
 
-  pub clip-none : ltZ (toZ w64 (ofZ w64 r)) (pos 0) ≡ true → 0 ≡ clipped n l
-  clip-none h = nearest-none (toZ w64 (ofZ w64 r)) l h ∙ clip-is
+  pub clip-none : ltZ (read r) (pos 0) ≡ true → 0 ≡ clipped n l
+  clip-none h = nearest-none (read r) l h ∙ clip-is
 
-  module _ (h : ltZ (toZ w64 (ofZ w64 r)) (pos 0) ≡ false) (f : Fits w16 l) where
-    pub clip-itself : ltZ (toZ w64 (ofZ w64 r)) (toZ w64 l) ≡ true → natAbs (toZ w64 (ofZ w64 r)) ≡ clipped n l
-    clip-itself t = nearest-itself (toZ w64 (ofZ w64 r)) l h (rw (length-is f) at t) ∙ clip-is
+  module _ (h : ltZ (read r) (pos 0) ≡ false) (f : Fits w16 l) where
+    pub clip-itself : ltZ (read r) (toZ w64 l) ≡ true → natAbs (read r) ≡ clipped n l
+    clip-itself t = nearest-itself (read r) l h (rw (length-is f) at t) ∙ clip-is
 
-    pub clip-cast : ltZ (toZ w64 (ofZ w64 r)) (toZ w64 l) ≡ true → T (nonNeg (toZ w64 (ofZ w64 r))) × Fits w16 (natAbs (toZ w64 (ofZ w64 r)))
-    clip-cast t = (not-negative (toZ w64 (ofZ w64 r)) h, rw (clip-itself t) (record { fits = omega (arith, f .fits, clips .within n l) }))
+    pub clip-cast : ltZ (read r) (toZ w64 l) ≡ true → T (nonNeg (read r)) × Fits w16 (natAbs (read r))
+    clip-cast t = (not-negative (read r) h, rw (clip-itself t) (record { fits = omega (arith, f .fits, clips .within n l) }))
 
-    pub clip-all : ltZ (toZ w64 (ofZ w64 r)) (toZ w64 l) ≡ false → l ≡ clipped n l
-    clip-all t = nearest-all (toZ w64 (ofZ w64 r)) l h (rw (length-is f) at t) ∙ clip-is
+    pub clip-all : ltZ (read r) (toZ w64 l) ≡ false → l ≡ clipped n l
+    clip-all t = nearest-all (read r) l h (rw (length-is f) at t) ∙ clip-is
 
 -- ---- skip and take
 
@@ -204,26 +194,23 @@ negated : (n : ℤ) (f : ℕ → Value) → ltZ n (pos 0) ≡ true → Missing o
 negated (pos n) f h = absurd (omega (arith, ltb-true n 0 h))
 negated (negsuc n) f h = refl
 
-pub index-fits : (r : ℤ) → SFits w64 r → ltZ (toZ w64 (ofZ w64 r)) (pos 0) ≡ false → T (nonNeg (toZ w64 (ofZ w64 r))) × Fits w64 (natAbs (toZ w64 (ofZ w64 r)))
-index-fits r fr h = (not-negative (toZ w64 (ofZ w64 r)) h, rw (toZ-ofZ fr) (fits-natAbs tt fr))
-
 module _ (xs ys : List ℤ) (s l : ℕ) (n : ℤ) (g : SFits w32 n) (q : ys ≡ readingsIn xs s l) (r : ℤ) (fr : SFits w64 r) (e : r ≡ fromStart (toZ w32 (ofZ w32 n)) (length ys)) where
-  found : unlessNegative (toZ w64 (ofZ w64 r)) (reading ys) ≡ onWindow At xs s l n
+  found : unlessNegative (read r) (reading ys) ≡ onWindow At xs s l n
   unfolding onWindow rule
   found = ap (λ (y : ℤ). unlessNegative y (reading ys)) (count-is n g (length ys) r fr e) ∙ ap (λ (zs : List ℤ). readingFrom zs n) q
 
-  pub at-before : ltZ (toZ w64 (ofZ w64 r)) (pos 0) ≡ true → Missing outsideWindow ≡ onWindow At xs s l n
-  at-before h = negated (toZ w64 (ofZ w64 r)) (reading ys) h ∙ found
+  pub at-before : ltZ (read r) (pos 0) ≡ true → Missing outsideWindow ≡ onWindow At xs s l n
+  at-before h = negated (read r) (reading ys) h ∙ found
 
-  module _ (h : ltZ (toZ w64 (ofZ w64 r)) (pos 0) ≡ false) where
-    there : reading ys (natAbs (toZ w64 (ofZ w64 r))) ≡ onWindow At xs s l n
-    there = counted (toZ w64 (ofZ w64 r)) (reading ys) h ∙ found
+  module _ (h : ltZ (read r) (pos 0) ≡ false) where
+    there : reading ys (natAbs (read r)) ≡ onWindow At xs s l n
+    there = counted (read r) (reading ys) h ∙ found
 
-    pub at-is : natAbs (toZ w64 (ofZ w64 r)) < length ys → SFits w32 (getD ys (natAbs (toZ w64 (ofZ w64 r))) (pos 0))
-        → Number (toZ w32 (ofZ w32 (getD ys (natAbs (toZ w64 (ofZ w64 r))) (pos 0)))) ≡ onWindow At xs s l n
+    pub at-is : natAbs (read r) < length ys → SFits w32 (getD ys (natAbs (read r)) (pos 0))
+        → Number (toZ w32 (ofZ w32 (getD ys (natAbs (read r)) (pos 0)))) ≡ onWindow At xs s l n
     at-is k f = simp (toZ-ofZ f) (sym (simp (lt-ltb _ _ k)) ∙ there)
 
-    pub at-none : length ys ≤ natAbs (toZ w64 (ofZ w64 r)) → Missing outsideWindow ≡ onWindow At xs s l n
+    pub at-none : length ys ≤ natAbs (read r) → Missing outsideWindow ≡ onWindow At xs s l n
     at-none k = sym (simp (le-ltb _ _ k)) ∙ there
 
 -- ---- an arm of a table, and the members that it leaves to the last one
@@ -296,7 +283,6 @@ pub ruleset window-rules = (
   skip-fits,
   skip-is,
   take-is,
-  index-fits,
   at-before,
   at-is,
   at-none,

@@ -1,6 +1,7 @@
 -- `values::stretches::width_in` meets its contract. A number that is not negative is its own size. Assumes nothing.
+use mir.Syntax.{w32}
 use Rattle.values.proofs.StretchRules.{stretch-rules}
-use Rattle.values.proofs.WindowRules.{count-cast}
+use Rattle.values.proofs.Signed.{size-cast}
 use Rattle.values.proofs.stretches.width_in.Tie as tie
 use Rattle.values.proofs.stretches.width_in.Statement.{statement}
 
@@ -8,7 +9,7 @@ returns : tie.Need-returns
 returns c = search stretch-rules
 
 cast-width : tie.Need-cast-width
-cast-width c = count-cast _ (c .before .fits .n) (c .if1 .left)
+cast-width c = size-cast w32 w32 _ (c .before .fits .n) tt (c .if1 .left)
 
 cast-width-2 : tie.Need-cast-width-2
 cast-width-2 c = search stretch-rules

@@ -1,7 +1,9 @@
 -- `values::windows::at` meets its contract. The index counted from the start is the callee's. Where it is not negative it is its own size; below
 -- the number of readings the reading is there, and otherwise there is none. Assumes nothing.
 use borrow.Author.Needs.{needs}
-use Rattle.values.proofs.WindowRules.{index-fits, window-rules}
+use mir.Syntax.{w64}
+use Rattle.values.proofs.Signed.{size-cast}
+use Rattle.values.proofs.WindowRules.{window-rules}
 use Rattle.values.proofs.windows.at.Statement.{statement}
 use Rattle.values.proofs.windows.at.Tie as tie
 
@@ -18,7 +20,7 @@ returns : tie.Need-returns
 returns c = search window-rules
 
 cast-i : tie.Need-cast-i
-cast-i c = let at-from-start = c .before in index-fits (at-from-start .from-start .result) (record { sfits = at-from-start .from-start .ok }) (c .if1 .left)
+cast-i c = let called = c .before .from-start in size-cast w64 w64 (called .result) (record { sfits = called .ok }) tt (c .if1 .left)
 
 mul-t12 : tie.Need-mul-t12
 mul-t12 c = search needs

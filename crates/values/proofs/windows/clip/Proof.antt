@@ -17,9 +17,8 @@ cast-if2 c = search needs
 cast-result : tie.Need-cast-result
 cast-result c =
     let at-entry = c .before .before .before in
-    let at-from-start = c .before .before in
-    clip-cast _ (at-entry .fits .n) _ _ (record { sfits = at-from-start .from-start .ok }) (at-from-start .from-start .ensures) (c .before .if1 .left)
-    (at-entry .fits .length) (c .if2 .taken)
+    let called = c .before .before .from-start in
+    clip-cast _ (at-entry .fits .n) _ _ (record { sfits = called .ok }) (called .ensures) (c .before .if1 .left) (at-entry .fits .length) (c .if2 .taken)
 
 returns-2 : tie.Need-returns-2
 returns-2 c = search window-rules
