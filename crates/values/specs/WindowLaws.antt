@@ -1,5 +1,5 @@
--- What the definitions of Windows come to: which readings a window has, and how a sum, a least or a greatest is worked out reading by reading. Each
--- holds by induction on the readings, or by laws of `take` and `drop`. Assumes nothing.
+-- What the definitions of Windows come to: which readings a window has, what a count from either end is by its tests, and how a sum, a least or a
+-- greatest is worked out reading by reading. Each holds by cases, by induction on the readings, or by laws of `take` and `drop`. Assumes nothing.
 use mathlib.Core.Path.{_≡_, refl, sym, ap, _∙_}
 use mathlib.Core.Bool.{true, false}
 use mathlib.Core.List.{List, [], _∷_}
