@@ -1,22 +1,17 @@
--- A text's records as two words each, and binding them in the call's frame. Assumes nothing: these are definitions.
+-- Binding a text's records in the call's frame. Assumes nothing: these are definitions.
 use mathlib.Core.Path.{_≡_}
 use mathlib.Core.Bool.{Bool, true}
 use mathlib.Core.List.{List, []}
-use Prim.Native.Nat.{ℕ, _+_, _*_, _/_, _%_, _≤_, _<_}
+use Prim.Native.Nat.{ℕ, _+_, _≤_, _<_}
 use lib.Dec.{ltb}
 use lib.ListN.{length, getD, take}
 use Rattle.language.specs.Limits.{textParts, tableEntries}
-use Rattle.layout.specs.Memory.{Node, nodeAt, nodeWith}
+use Rattle.layout.specs.Memory.{Node, nodeAt}
 use Rattle.table.specs.WellFormed.{distinct}
 use Rattle.table.specs.Bind.{Bound, bindOne, bindAll}
 use Rattle.layout.specs.Numbered.{numbered}
-use Rattle.layout.specs.Held.{heldAt, textWords, kindBase, recordBase}
+use Rattle.layout.specs.Held.{heldAt, recordAt, textWords}
 use Rattle.table.specs.Chain.{Chained, chainEntries}
-
-unfoldable pub recordAt : List ℕ → ℕ → Node
-recordAt records r =
-    nodeWith (getD records (2 * r) 0 % kindBase) (getD records (2 * r + 1) 0) (getD records (2 * r) 0 / kindBase % recordBase)
-    (getD records (2 * r) 0 / (kindBase * recordBase) % recordBase) (getD records (2 * r) 0 / (kindBase * recordBase * recordBase) % recordBase)
 
 abbrev pub bound : List Node → List ℕ → Bound
 bound ns is = record { nodes = ns; numbers = is }

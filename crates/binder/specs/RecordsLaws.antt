@@ -19,10 +19,10 @@ use Rattle.model.specs.Lists.{index}
 use Rattle.table.specs.Bind.{relinked, relink, Bound, bindOne, bindAll}
 use Rattle.layout.specs.Numbered.{numbered}
 use Rattle.table.specs.RightLaws.{left-suc}
-use Rattle.layout.specs.Held.{shaped, wordOf, freshAt, heldAt, withFresh, kindBase, entryBase, recordBase, textWords}
+use Rattle.layout.specs.Held.{shaped, wordOf, freshAt, recordAt, heldAt, withFresh, kindBase, entryBase, textWords}
 use Rattle.table.specs.Chain.{hashOf, lastSame, Chained, linked}
 use Rattle.table.specs.ChainLaws.{numbered-zero, numbered-last, numbered-agree, length-numbered, distinct-snoc, has-last, last-le, find-last, hash-low, chained-more, chained-agree, held-front}
-use Rattle.binder.specs.Records.{recordAt, bound, boundNow, Ready, BoundOne, BoundAll}
+use Rattle.binder.specs.Records.{bound, boundNow, Ready, BoundOne, BoundAll}
 use Rattle.layout.specs.declared.nodes.Shape.{Shape}
 
 -- the words of a node that waits, taken apart again
@@ -103,12 +103,6 @@ module _ (numbers : List ℕ) (r link : ℕ) where
       let l = length-take-le r numbers (omega arith) in
       let g = List·getD-eq-default (take r numbers) 0 {n = link - 1} (omega arith) in
       sym (relinked-at (link - 1) z ∙ omega arith)
-
-pub record-is : (records : List ℕ) (r word kind key first second level : ℕ) → kind ≡ word % kindBase → key ≡ getD records (2 * r + 1) 0 → first ≡ word / kindBase % recordBase
-    → second ≡ word / (kindBase * recordBase) % recordBase → level ≡ word / (kindBase * recordBase * recordBase) % recordBase → word ≡ getD records (2 * r) 0
-    → nodeWith kind key first second level ≡ recordAt records r
-unfolding recordAt
-record-is records r word kind key first second level k y f s l w = rw (k, y, f, s, l, w)
 
 pub relink-is : (numbers : List ℕ) (r : ℕ) (n : Node) (x : Shape) (first second : ℕ) → first ≡ relinked (take r numbers) (x .first) → second ≡ relinked (take r numbers) (x .second)
     → shaped x ≡ n → nodeWith (x .kind) (x .key) first second (x .level) ≡ relink (take r numbers) n
@@ -314,4 +308,4 @@ pub ready-next : (links cells : List ℕ) (count total : ℕ) (records : List �
     → BoundOne links cells count total records r numbers fresh total′ numbers′ fresh′ chain′ → Ready links cells count total′ (r + 1) numbers′ fresh′ chain′
 ready-next links cells count total records r numbers fresh total′ numbers′ fresh′ chain′ b = b .ready
 
-pub ruleset binding = (link-none, link-known, link-late, record-is, relink-is, bound-old, bound-new, ready-start, bind-start, bind-go, bind-end, ready-next)
+pub ruleset binding = (link-none, link-known, link-late, relink-is, bound-old, bound-new, ready-start, bind-start, bind-go, bind-end, ready-next)

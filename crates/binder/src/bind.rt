@@ -1,15 +1,10 @@
 // 01, "Binding": a text's records are bound to entries one by one, found or appended, in the call's own frame. No lent cell is written.
-// A record is two words: its kind, its links to earlier records, each 0 or one more than the record's number, and its level; and its key.
 use language::limits::Table;
 use language::limits::Text;
-use layout::cells::at64;
-use layout::nodes::KIND_BASE;
-use layout::nodes::RECORD_BASE;
-use layout::nodes::RECORD_LEVEL;
-use layout::nodes::RECORD_WEIGHT;
 use layout::nodes::Shape;
 use layout::nodes::TEXT_WORDS;
 use layout::nodes::add_fresh;
+use layout::nodes::record_at;
 use table::chain::CHAIN_CELLS;
 use table::chain::enter;
 use table::chain::enter_all;
@@ -24,24 +19,9 @@ ghost use Rattle.layout.specs.Memory.{nodeAt};
 ghost use Rattle.table.specs.WellFormed.{distinct};
 ghost use Rattle.table.specs.Bind.{relinked, relink};
 ghost use Rattle.layout.specs.Numbered.{numbered};
-ghost use Rattle.layout.specs.Held.{shaped, textWords};
+ghost use Rattle.layout.specs.Held.{shaped, recordAt, textWords};
 ghost use Rattle.table.specs.Chain.{chainEntries};
-ghost use Rattle.binder.specs.Records.{recordAt, Ready, BoundOne, BoundAll, isFull};
-
-// The record of number r.
-fn record_at(records: &[u64], r: u16) -> Shape
-    ensures { λ x. ⌜ shaped x ≡ recordAt (now (records .entry)) r ⌝ }
-{
-    let at = r as usize;
-    let word = at64(records, 2 * at);
-    Shape {
-        kind: (word % KIND_BASE) as u16,
-        key: at64(records, 2 * at + 1),
-        first: (word / KIND_BASE % RECORD_BASE) as u16,
-        second: (word / RECORD_WEIGHT % RECORD_BASE) as u16,
-        level: (word / RECORD_LEVEL % RECORD_BASE) as u16,
-    }
-}
+ghost use Rattle.binder.specs.Records.{Ready, BoundOne, BoundAll, isFull};
 
 // A link to a record, as a link to the record's entry. The first r records have their numbers.
 fn relinked(numbers: &[u16; Text::PARTS], r: u16, link: u16) -> u16

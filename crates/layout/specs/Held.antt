@@ -36,6 +36,12 @@ freshAt fresh i =
     nodeWith (getD fresh (2 * i) 0 % kindBase) (getD fresh (2 * i + 1) 0) (getD fresh (2 * i) 0 / kindBase % entryBase)
     (getD fresh (2 * i) 0 / (kindBase * entryBase) % entryBase) (getD fresh (2 * i) 0 / (kindBase * entryBase * entryBase) % entryBase)
 
+-- a text's record, which links to records
+unfoldable pub recordAt : List ℕ → ℕ → Node
+recordAt records r =
+    nodeWith (getD records (2 * r) 0 % kindBase) (getD records (2 * r + 1) 0) (getD records (2 * r) 0 / kindBase % recordBase)
+    (getD records (2 * r) 0 / (kindBase * recordBase) % recordBase) (getD records (2 * r) 0 / (kindBase * recordBase * recordBase) % recordBase)
+
 unfoldable pub heldAt : List ℕ → List ℕ → ℕ → List ℕ → ℕ → Node
 heldAt links cells count fresh i = cond (ltb i count) (nodeAt links cells i) (freshAt fresh (i - count))
 

@@ -6,7 +6,7 @@ use borrow.Author.Tests.{lt-ltb, le-ltb}
 use lib.ListN.{getD}
 use Rattle.layout.specs.Links.{kindAt, firstAt, secondAt, levelAt, keyAt}
 use Rattle.layout.specs.Memory.{Node, nodeWith, nodeAt}
-use Rattle.layout.specs.Held.{freshAt, heldAt, kindBase, entryBase}
+use Rattle.layout.specs.Held.{freshAt, recordAt, heldAt, kindBase, entryBase, recordBase}
 
 pub node-is : (links cells : List ℕ) (i kind key first second level : ℕ) → kind ≡ kindAt links i → key ≡ keyAt cells i → first ≡ firstAt links i
     → second ≡ secondAt links i → level ≡ levelAt links i → nodeWith kind key first second level ≡ nodeAt links cells i
@@ -19,6 +19,12 @@ pub fresh-is : (fresh : List ℕ) (i word kind key first second level : ℕ) →
 unfolding freshAt
 fresh-is fresh i word kind key first second level k y f s l w = rw (k, y, f, s, l, w)
 
+pub record-is : (records : List ℕ) (r word kind key first second level : ℕ) → kind ≡ word % kindBase → key ≡ getD records (2 * r + 1) 0 → first ≡ word / kindBase % recordBase
+    → second ≡ word / (kindBase * recordBase) % recordBase → level ≡ word / (kindBase * recordBase * recordBase) % recordBase → word ≡ getD records (2 * r) 0
+    → nodeWith kind key first second level ≡ recordAt records r
+unfolding recordAt
+record-is records r word kind key first second level k y f s l w = rw (k, y, f, s, l, w)
+
 module _ (links cells : List ℕ) (count : ℕ) (fresh : List ℕ) (i : ℕ) (m : Node) where
   pub held-old : m ≡ nodeAt links cells i → i < count → m ≡ heldAt links cells count fresh i
   unfolding heldAt
@@ -28,4 +34,4 @@ module _ (links cells : List ℕ) (count : ℕ) (fresh : List ℕ) (i : ℕ) (m 
   unfolding heldAt
   held-new e h = rw (le-ltb i count h) e
 
-pub ruleset nodes = (node-is, fresh-is, held-old, held-new)
+pub ruleset nodes = (node-is, fresh-is, record-is, held-old, held-new)

@@ -14,7 +14,7 @@ ghost use lib.ListN.{length};
 ghost use Rattle.language.specs.Limits.{textParts};
 ghost use Rattle.layout.specs.Memory.{nodeAt};
 ghost use Rattle.layout.specs.Nodes.{sameNode};
-ghost use Rattle.layout.specs.Held.{shaped, freshAt, heldAt, withFresh, textWords, entryBase};
+ghost use Rattle.layout.specs.Held.{shaped, freshAt, recordAt, heldAt, withFresh, textWords, entryBase};
 
 // The words of the nodes that a text can have, two each.
 pub const TEXT_WORDS: usize = 2 * Text::PARTS;
@@ -134,4 +134,20 @@ pub fn add_fresh(fresh: &mut [u64; TEXT_WORDS], i: u16, x: Shape)
         + (KIND_BASE * x.first as u64
             + (ENTRY_WEIGHT * x.second as u64 + ENTRY_LEVEL * x.level as u64));
     fresh[2 * at + 1] = x.key;
+}
+
+// The record of number r of a text, two words: its kind, its links to earlier records, each 0 or one more than the record's number, and its level; and
+// its key.
+pub fn record_at(records: &[u64], r: u16) -> Shape
+    ensures { λ x. ⌜ shaped x ≡ recordAt (now (records .entry)) r ⌝ }
+{
+    let at = r as usize;
+    let word = at64(records, 2 * at);
+    Shape {
+        kind: (word % KIND_BASE) as u16,
+        key: at64(records, 2 * at + 1),
+        first: (word / KIND_BASE % RECORD_BASE) as u16,
+        second: (word / RECORD_WEIGHT % RECORD_BASE) as u16,
+        level: (word / RECORD_LEVEL % RECORD_BASE) as u16,
+    }
 }

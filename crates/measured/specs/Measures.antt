@@ -10,11 +10,12 @@ use lib.ListN.{length, getD, drop}
 use Rattle.language.specs.Limits.{textBytes, textParts, tableEntries, tableReadings}
 use Rattle.layout.specs.Links.{tableCells}
 use Rattle.layout.specs.Memory.{nodeAt}
+use Rattle.layout.specs.Held.{recordAt}
 use Rattle.table.specs.WellFormed.{distinct}
 use Rattle.table.specs.Right.{rightAt}
 use Rattle.layout.specs.Numbered.{allFrom, numbered}
 use Rattle.table.specs.Bind.{Bound, bindAll}
-use Rattle.binder.specs.Records.{recordAt, bound}
+use Rattle.binder.specs.Records.{bound}
 use Rattle.schedule.specs.Works.{Work, workOf, worked}
 use Rattle.descent.specs.Descent.{readInto}
 use Rattle.reader.specs.Results.{answerOf, noBinders}

@@ -21,9 +21,9 @@ use Rattle.model.specs.Model.{refused, edited}
 use Rattle.layout.specs.Memory.{Memory, Node, entryCount, nodeAt, memory}
 use Rattle.table.specs.Bind.{Bound, bindAll, appendAll}
 use Rattle.layout.specs.Numbered.{numbered}
-use Rattle.layout.specs.Held.{freshAt, textWords, kindBase, recordBase}
+use Rattle.layout.specs.Held.{freshAt, recordAt, textWords, kindBase, recordBase}
 use Rattle.table.specs.CheckedLaws.{nodes-are}
-use Rattle.binder.specs.Records.{recordAt, bound, BoundAll, isFull}
+use Rattle.binder.specs.Records.{bound, BoundAll, isFull}
 use Rattle.binder.specs.RecordsLaws.{bound-waits, bound-numbers, bound-total}
 use Rattle.records.specs.Records.{Recorded, recordsOf}
 use Rattle.bridge.specs.Recorded.{unfolds, levels-low}

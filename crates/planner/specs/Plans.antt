@@ -13,8 +13,7 @@ use Rattle.model.specs.Model.{refused, edited}
 use Rattle.layout.specs.Memory.{Memory, entryCount}
 use Rattle.table.specs.Bind.{appendAll}
 use Rattle.layout.specs.Numbered.{numbered}
-use Rattle.layout.specs.Held.{freshAt}
-use Rattle.binder.specs.Records.{recordAt}
+use Rattle.layout.specs.Held.{freshAt, recordAt}
 use Rattle.interface.specs.Calls.{boundTo, readAnswer, readMemory}
 use Rattle.planner.specs.declared.plan.Plan.{Plan}
 

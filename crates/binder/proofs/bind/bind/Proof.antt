@@ -6,7 +6,8 @@ use borrow.Author.Needs.{needs}
 use Rattle.table.specs.Bind.{bindAll}
 use Rattle.table.specs.ChainLaws.{chains}
 use Rattle.layout.specs.Memory.{nodeAt}
-use Rattle.binder.specs.Records.{recordAt, bound, boundNow, Ready}
+use Rattle.layout.specs.Held.{recordAt}
+use Rattle.binder.specs.Records.{bound, boundNow, Ready}
 use Rattle.binder.specs.RecordsLaws.{binding}
 use Rattle.layout.specs.Numbered.{numbered}
 use Rattle.binder.proofs.bind.bind.Statement.{statement}

@@ -1,8 +1,8 @@
 -- The words that are read are the record. Assumes nothing.
 use borrow.Author.Needs.{needs}
-use Rattle.binder.specs.RecordsLaws.{binding}
-use Rattle.binder.proofs.bind.record_at.Statement.{statement}
-use Rattle.binder.proofs.bind.record_at.Tie as tie
+use Rattle.layout.specs.HeldLaws.{nodes}
+use Rattle.layout.proofs.nodes.record_at.Statement.{statement}
+use Rattle.layout.proofs.nodes.record_at.Tie as tie
 
 mul-at64 : tie.Need-mul-at64
 mul-at64 c = search needs
@@ -32,7 +32,7 @@ cast-t18 : tie.Need-cast-t18
 cast-t18 c = search needs
 
 returns : tie.Need-returns
-returns c = search (needs, binding)
+returns c = search (needs, nodes)
 
 pub record-at-spec : {M : Type 1} → statement M
 record-at-spec =
