@@ -1,0 +1,1 @@
+// A single answer without a cache (02, T-07): what a part of a text shows over a recording.
