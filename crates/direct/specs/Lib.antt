@@ -1,1 +1,2 @@
 pub mod Bindable
+pub mod BindableLaws

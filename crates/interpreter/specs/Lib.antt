@@ -1,2 +1,5 @@
 pub mod Interpreting
 pub mod Standing
+pub mod Cells
+pub mod Orders
+pub mod OrdersLaws
