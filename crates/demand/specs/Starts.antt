@@ -44,7 +44,7 @@ use Rattle.evaluator.specs.Frames.{leafOf, startAt, startFrom}
 use Rattle.schedule.specs.declared.View.{View}
 use Rattle.schedule.specs.Works.{nameFor, otherFor, view, showOf}
 use Rattle.refine.specs.Shows.{slotNames, kept-shows}
-use Rattle.refine.specs.Views.{viewOf}
+use Rattle.interface.specs.Views.{viewOf}
 use Rattle.interface.specs.Answers.{namesOf, shownOf}
 use Rattle.demand.specs.Holds.{shownIn, markOf, holds, keptFor, Ok}
 use Rattle.demand.specs.Appended.{lengths}

@@ -1,2 +1,4 @@
 pub mod Bindable
 pub mod BindableLaws
+pub mod Interpreted
+pub mod Standing

@@ -17,9 +17,12 @@ use Rattle.interface.specs.declared.answers.Previewed.{Previewed}
 use Rattle.interface.specs.declared.answers.Previewed.the-variants as P
 use Rattle.interface.specs.declared.answers.Printed.{Printed}
 use Rattle.interface.specs.declared.answers.Printed.the-variants as R
+use Rattle.interface.specs.declared.answers.Evaluated.{Evaluated}
+use Rattle.interface.specs.declared.answers.Evaluated.the-variants as Evaluate
 use Rattle.interface.specs.declared.answers.EditAnswer.{EditAnswer}
 use Rattle.interface.specs.declared.answers.PreviewAnswer.{PreviewAnswer}
 use Rattle.interface.specs.declared.answers.PrintAnswer.{PrintAnswer}
+use Rattle.interface.specs.declared.answers.EvaluateAnswer.{EvaluateAnswer}
 
 -- the answers of the reference model
 abbrev pub Reply : Type 0
@@ -87,3 +90,8 @@ previewNumbers (P.Refused n) = record { refusal = n; finished = 0; worked = 0; k
 abbrev pub printNumbers : Printed → PrintAnswer
 printNumbers (R.Done length) = record { refusal = 0; length = length }
 printNumbers (R.Refused n) = record { refusal = n; length = 0 }
+
+abbrev pub evaluateNumbers : Evaluated → EvaluateAnswer
+evaluateNumbers (Evaluate.Done parts v) =
+    record { refusal = 0; place = 0; parts = parts; kind = v .kind; first = v .first; second = v .second; name = v .name; other = v .other }
+evaluateNumbers (Evaluate.Refused n at) = record { refusal = n; place = at; parts = 0; kind = 0; first = pos 0; second = 0; name = 0; other = 0 }

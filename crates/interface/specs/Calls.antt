@@ -1,5 +1,5 @@
--- 01, "Four calls" and "When a call is declined", and 02, T-04: what open, edit, preview and print answer and what they leave in the lent memory,
--- and what fetch hands out, for every text, recording, number and memory. Assumes nothing: these are definitions.
+-- 01, "Four calls" and "When a call is declined", and 02, T-04 and T-07: what open, edit, preview and print answer and what they leave in the lent
+-- memory, what fetch hands out, and what evaluate answers, for every text, recording, number and memory. Assumes nothing: these are definitions.
 use mathlib.Core.Bool.{Bool, cond, not, _&&_, _||_}
 use mathlib.Core.List.{List, [], _++_, map}
 use Prim.Native.Nat.{ℕ, _-_}
@@ -7,12 +7,15 @@ use lib.Dec.{leb, ltb}
 use lib.IntN.{ℤ}
 use lib.ListN.{length, getD, set, take, drop}
 use Rattle.language.specs.Limits.{textBytes, textParts, tableEntries, tableReadings}
+use Rattle.grammar.specs.Grammar.{Expression}
 use Rattle.grammar.specs.Reading.{Reading, tree, refused as refusedAt}
 use Rattle.grammar.specs.Machine.{readText}
 use Rattle.records.specs.Records.{Recorded, recordsOf}
 use Rattle.model.specs.Model.{refused, opened, edited, written, filled, printing}
 use Rattle.formulas.specs.Formulas.{formulas}
 use Rattle.meaning.specs.Forms.{Form, readings}
+use Rattle.meaning.specs.Binding.{formsByPlace}
+use Rattle.meaning.specs.Evaluation.{shows}
 use Rattle.rules.specs.declared.Value.{Value}
 use Rattle.rules.specs.Values.{ifWindow}
 use Rattle.values.specs.Packing.{unpackOf}
@@ -24,7 +27,11 @@ use Rattle.evaluator.specs.Frames.{startAt}
 use Rattle.schedule.specs.Works.{Work, worked, showOf}
 use Rattle.interface.specs.declared.answers.Previewed.{Previewed}
 use Rattle.interface.specs.declared.answers.Previewed.the-variants.{NotYet, Finished, Refused}
+use Rattle.interface.specs.declared.answers.Evaluated.{Evaluated}
+use Rattle.interface.specs.declared.answers.Evaluated.the-variants.{Done}
+use Rattle.interface.specs.declared.answers.Evaluated.the-variants as E
 use Rattle.interface.specs.Answers.{Reply, previewReply}
+use Rattle.interface.specs.Views.{viewOf}
 
 -- Open: the counts and the recording are written, and nothing else.
 unfoldable pub openAnswer : Memory → List ℤ → Reply
@@ -141,3 +148,20 @@ printAnswer m n bytes =
 -- the first bytes get the text, and the others keep their contents
 abbrev pub printBytes : Memory → (number : ℕ) (bytes : List ℕ) → List ℕ
 printBytes m n bytes = filled formulas (printAnswer m n bytes) bytes
+
+-- Evaluate: what the part at a place of a text shows over a recording, without a cache. Nothing is lent.
+abbrev pub partShown : List ℤ → Expression → (place : ℕ) → Evaluated
+partShown r e p =
+    cond (ltb p (length (formsByPlace e))) (Done (length (formsByPlace e)) (viewOf (shows r (getD (formsByPlace e) p readings))))
+    (E.Refused 14 0)
+
+unfoldable pub readEvaluated : List ℤ → (place : ℕ) → Reading → Evaluated
+readEvaluated r p (refusedAt n at) = E.Refused n at
+readEvaluated r p (tree e) = partShown r e p
+
+-- 02, T-07: 1, then 2; then 5 to 12; and last 14
+unfoldable pub evaluated : (text : List ℕ) → List ℤ → (place : ℕ) → Evaluated
+evaluated text r p =
+    cond (ltb textBytes (length text)) (E.Refused 1 0)
+    (cond (ltb tableReadings (length r)) (E.Refused 2 0)
+    (readEvaluated r p (readText text)))

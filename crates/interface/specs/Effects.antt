@@ -9,11 +9,13 @@ use Rattle.interface.specs.declared.answers.Edited.{Edited}
 use Rattle.interface.specs.declared.answers.Edited.the-variants as Edit
 use Rattle.interface.specs.declared.answers.Previewed.{Previewed}
 use Rattle.interface.specs.declared.answers.Printed.{Printed}
+use Rattle.interface.specs.declared.answers.Evaluated.{Evaluated}
 use Rattle.interface.specs.declared.answers.EditAnswer.{EditAnswer}
 use Rattle.interface.specs.declared.answers.PreviewAnswer.{PreviewAnswer}
 use Rattle.interface.specs.declared.answers.PrintAnswer.{PrintAnswer}
-use Rattle.interface.specs.Answers.{openReply, editReply, printedAs, openNumber, editNumbers, previewNumbers, printNumbers}
-use Rattle.interface.specs.Calls.{openAnswer, openMemory, editAnswer, editMemory, editPlaces, previewed, previewMemory, printAnswer, printBytes}
+use Rattle.interface.specs.declared.answers.EvaluateAnswer.{EvaluateAnswer}
+use Rattle.interface.specs.Answers.{openReply, editReply, printedAs, openNumber, editNumbers, previewNumbers, printNumbers, evaluateNumbers}
+use Rattle.interface.specs.Calls.{openAnswer, openMemory, editAnswer, editMemory, editPlaces, previewed, previewMemory, printAnswer, printBytes, evaluated}
 
 -- the memory m before a call and m′ after it
 pub record Opens (m : Memory) (recording : List ℤ) (m′ : Memory) (r : Opened) : Type 0 where
@@ -53,6 +55,11 @@ pub record PrintsForC (m : Memory) (entry : ℕ) (bytes bytes′ : List ℕ) (r 
   pub answer : Printed
   pub prints : Prints m entry bytes bytes′ answer
   pub numbers : r ≡ printNumbers answer
+
+pub record EvaluatesForC (text : List ℕ) (recording : List ℤ) (place : ℕ) (r : EvaluateAnswer) : Type 0 where
+  pub answer : Evaluated
+  pub evaluates : answer ≡ evaluated text recording place
+  pub numbers : r ≡ evaluateNumbers answer
 
 -- a refusal's place is a number of 32 bits
 abbrev pub PlaceFits : Edited → Type 0

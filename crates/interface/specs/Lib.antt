@@ -1,3 +1,4 @@
+pub mod Views
 pub mod Answers
 pub mod Calls
 pub mod CallsLaws

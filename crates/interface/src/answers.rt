@@ -1,4 +1,4 @@
-// What the calls answer. Refusals have 01's numbers; an edit's has a byte place too.
+// What the calls answer. Refusals have 01's numbers; those of an edit and an evaluation have a byte place too.
 use schedule::View;
 
 // Done, or refused.
@@ -24,6 +24,12 @@ pub enum Previewed {
 pub enum Printed {
     Done { length: u16 },
     Refused { number: u8 },
+}
+
+// What a part of a text shows, and how many parts the text has.
+pub enum Evaluated {
+    Done { parts: u16, shown: View },
+    Refused { number: u8, place: usize },
 }
 
 // The answers as plain numbers: refusal is 0 where the call was accepted, and the other fields are 0 where they have no value.
@@ -54,4 +60,17 @@ pub struct PreviewAnswer {
 pub struct PrintAnswer {
     pub refusal: u32,
     pub length: u32,
+}
+
+// What is shown is as in a preview's answer.
+#[repr(C)]
+pub struct EvaluateAnswer {
+    pub refusal: u32,
+    pub place: u32,
+    pub parts: u32,
+    pub kind: u32,
+    pub first: i32,
+    pub second: u32,
+    pub name: u64,
+    pub other: u64,
 }

@@ -3,3 +3,5 @@ pub mod Standing
 pub mod Cells
 pub mod Orders
 pub mod OrdersLaws
+pub mod Memo
+pub mod Walking

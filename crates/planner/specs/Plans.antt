@@ -1,35 +1,20 @@
--- What a text was read into, and what an edit plans in its own frame. Assumes nothing: these are definitions.
+-- What an edit plans in its own frame. Assumes nothing: these are definitions.
 use mathlib.Core.Path.{_≡_}
 use mathlib.Core.List.{List, map}
-use Prim.Native.Nat.{ℕ, _-_, _≤_, _<_}
+use Prim.Native.Nat.{ℕ, _-_, _≤_}
 use lib.ListN.{length, getD, take, drop}
 use Rattle.language.specs.Limits.{textParts, tableEntries}
 use Rattle.grammar.specs.Grammar.{Expression}
 use Rattle.grammar.specs.Reading.{tree, refused as refusedAt}
 use Rattle.grammar.specs.Machine.{readText}
 use Rattle.records.specs.Records.{recordsOf}
-use Rattle.model.specs.Lists.{All}
 use Rattle.model.specs.Model.{refused, edited}
 use Rattle.layout.specs.Memory.{Memory, entryCount}
 use Rattle.table.specs.Bind.{appendAll}
 use Rattle.layout.specs.Numbered.{numbered}
-use Rattle.layout.specs.Held.{freshAt, recordAt}
+use Rattle.layout.specs.Held.{freshAt}
 use Rattle.interface.specs.Calls.{boundTo, readAnswer, readMemory}
 use Rattle.planner.specs.declared.plan.Plan.{Plan}
-
--- the arrays into which a text was read: two words a record, and the record of each part
-pub record ReadTo (text : List ℕ) (n size root : ℕ) (R P : List ℕ) : Type 0 where
-  pub expression : Expression
-  pub reads : readText text ≡ tree expression
-  pub records : numbered (recordAt R) 0 size ≡ recordsOf expression .records
-  pub places : take n P ≡ recordsOf expression .places
-  pub parts : n ≡ length (recordsOf expression .places)
-  pub whole : root ≡ recordsOf expression .root
-  pub low : root < size
-  pub inside : All (λ (p : ℕ). p < size) (recordsOf expression .places)
-  pub few : n ≤ textParts
-  pub small : size ≤ textParts
-  pub room : length P ≡ textParts
 
 -- the text is read, and its records are bound: `parts` has the record of each part, `numbers` the entry of each record, `fresh` the entries to
 -- append, whether or not there is room for them

@@ -12,7 +12,7 @@ use Rattle.model.specs.Demand.{last, Demand}
 use Rattle.formulas.specs.Formulas.{formulas}
 use Rattle.meaning.specs.Evaluation.{Shown}
 use Rattle.layout.specs.Memory.{Memory}
-use Rattle.refine.specs.Views.{viewOf}
+use Rattle.interface.specs.Views.{viewOf}
 use Rattle.interface.specs.declared.answers.Edited.the-variants as Edit
 use Rattle.interface.specs.declared.answers.Previewed.the-variants as Preview
 use Rattle.interface.specs.declared.answers.Printed.the-variants as Print

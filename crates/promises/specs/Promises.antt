@@ -64,7 +64,7 @@ use Rattle.layout.specs.Memory.{Memory, fits, entryCount, readingCount, recordi
 use Rattle.table.specs.WellFormed.{doneAt, wellFormed}
 use Rattle.schedule.specs.declared.View.{View}
 use Rattle.schedule.specs.Works.{showOf}
-use Rattle.refine.specs.Views.{viewOf}
+use Rattle.interface.specs.Views.{viewOf}
 use Rattle.interface.specs.declared.answers.Opened.{Opened}
 use Rattle.interface.specs.declared.answers.Edited.{Edited}
 use Rattle.interface.specs.declared.answers.Previewed.{Previewed}

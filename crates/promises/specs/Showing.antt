@@ -20,7 +20,7 @@ use Rattle.schedule.specs.declared.View.{View}
 use Rattle.layout.specs.Links.{kindAt, keyAt, nameAt, otherAt}
 use Rattle.evaluator.specs.Frames.{leafOf, startAt}
 use Rattle.schedule.specs.Works.{view, showOf}
-use Rattle.refine.specs.Views.{viewOf}
+use Rattle.interface.specs.Views.{viewOf}
 use Rattle.formulas.specs.Formulas.{IsReading}
 use Rattle.interface.specs.declared.answers.Previewed.the-variants.{Finished}
 use Rattle.interface.specs.Answers.{shownOf}

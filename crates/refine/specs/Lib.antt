@@ -4,7 +4,6 @@ pub mod Sweeps
 pub mod Frames
 pub mod Kinds
 pub mod Meaning
-pub mod Views
 pub mod Shows
 pub mod Counts
 pub mod Waiting

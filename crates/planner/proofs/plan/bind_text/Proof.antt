@@ -2,7 +2,8 @@
 use mathlib.Core.Path.{refl}
 use native.Mathlib.Omega.{arith}
 use borrow.Author.Needs.{needs}
-use Rattle.planner.proofs.PlanLaws.{read-done, binds-refused, binds-done}
+use Rattle.reading.specs.ReadToLaws.{read-done}
+use Rattle.planner.proofs.PlanLaws.{binds-refused, binds-done}
 use Rattle.planner.proofs.plan.bind_text.Statement.{statement}
 use Rattle.planner.proofs.plan.bind_text.Tie as tie
 
