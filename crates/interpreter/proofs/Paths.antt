@@ -2,23 +2,32 @@
 use mathlib.Core.Path.{_≡_, refl, sym, ap, _∙_}
 use mathlib.Core.Bool.{Bool, true, false, cond, not, _&&_, _||_, and-eq-true-iff}
 use mathlib.Core.List.{List}
-use Prim.Native.Nat.{ℕ, _+_, _-_, _≤_, _<_}
+use Prim.Native.Nat.{ℕ, _+_, _-_, _*_, _%_, _≤_, _<_}
 use native.Mathlib.Omega.{arith}
 use borrow.Author.Needs.{needs}
 use borrow.Author.Tests.{eq-eqb, ne-eqb, lt-ltb, le-ltb, leb-true, ltb-true}
 use lib.Dec.{leb, ltb, eqb}
-use lib.ListN.{getD}
+use lib.ListN.{getD, set}
 use Rattle.language.specs.Limits.{textParts}
-use Rattle.values.specs.Packing.{unpackOf, delayedCell}
-use Rattle.values.specs.PackingLaws.{unpack-delayed}
+use mir.Syntax.{w16}
+use mir.Val.{Fits}
+use Rattle.language.specs.Cases.{split}
+use Rattle.rules.specs.declared.Value.{Value}
+use Rattle.rules.specs.declared.Value.the-variants.{Window, Function, Delayed, Missing}
+use Rattle.rules.specs.Values.{unboundName}
+use Rattle.rules.specs.Apply.{isMissing, isDelayed}
+use Rattle.values.specs.Packing.{packOf, unpackOf, windowCell, functionCell, delayedCell, missingCell}
+use Rattle.values.specs.PackingLaws.{round, unpack-number, unpack-delayed}
 use Rattle.layout.specs.Memory.{Node}
 use Rattle.layout.specs.Held.{shaped}
 use Rattle.layout.specs.declared.nodes.Shape.{Shape}
-use Rattle.layout.specs.Nodes.{variableKind, functionKind}
+use Rattle.layout.specs.Nodes.{numberKind, variableKind, unboundKind, functionKind}
 use Rattle.interpreter.specs.declared.bindings.Bindings.{Bindings}
-use Rattle.interpreter.specs.Interpreting.{nothing, scope}
+use Rattle.interpreter.specs.Interpreting.{nothing, scope, judged}
 use Rattle.interpreter.specs.Cells.{bindings, scopeOf, cellAt, boundAt}
 use Rattle.interpreter.specs.Orders.{joinOf, lessOf, hasLevel, linkedOf, orderAt}
+use Rattle.interpreter.specs.Memo.{seenBy, isKnown, kept}
+use Rattle.interpreter.specs.Walking.{leafOf, waitsFor}
 
 -- ---- bindings
 
@@ -118,6 +127,59 @@ module _ (x : Shape) (m : Node) (q : shaped x ≡ m) (orders : List ℕ) where
   unfolding orderAt
   at-member w u v e h f k l z = rw (← q, ne-eqb _ _ e, le-ltb _ _ h, ne-eqb _ _ f, ← k, ← l) z
 
+-- ---- what is remembered
+
+pub seen-is : (s : Bindings) (w : ℕ) (a b : Bool) (x y : ℕ) → a ≡ hasLevel w 0 → x ≡ cond a (s .outer) 0 → b ≡ hasLevel w 1 → y ≡ cond b (s .inner) 0
+    → bindings x y ≡ seenBy s w
+unfolding seenBy
+seen-is s w a b x y p q r t = rw (q, t, p, r)
+
+pub known-is : (memo : List ℕ) (i : ℕ) (seen : Bindings)
+    → (not (eqb (getD memo (3 * i) 0) 0) && (eqb (getD memo (3 * i + 1) 0) (seen .outer) && eqb (getD memo (3 * i + 2) 0) (seen .inner))) ≡ isKnown memo i seen
+unfolding isKnown
+known-is memo i seen = refl
+
+pub kept-is : (memo : List ℕ) (i : ℕ) (seen : Bindings) (cell : ℕ)
+    → set (set (set memo (3 * i) cell) (3 * i + 1) (seen .outer)) (3 * i + 2) (seen .inner) ≡ kept memo i seen cell
+unfolding kept
+kept-is memo i seen cell = refl
+
+-- ---- leaves and functions
+
+module _ (size : ℕ) (n : Shape) (s : Bindings) where
+  pub leaf-number : n .kind ≡ numberKind → unpackOf (n .key % 4294967296 + 1) ≡ leafOf size (shaped n) (scopeOf s)
+  unfolding leafOf
+  leaf-number e = rw (eq-eqb _ _ e) (unpack-number (n .key % 4294967296 + 1) (omega arith))
+
+  pub leaf-variable : (c : ℕ) → (n .kind ≡ numberKind → ⊥) → n .kind ≡ variableKind → c ≡ cellAt s (n .level) → unpackOf c ≡ leafOf size (shaped n) (scopeOf s)
+  unfolding leafOf
+  leaf-variable c o e q = rw (ne-eqb _ _ o, eq-eqb _ _ e, q) (split (eqb (n .level) 0) (λ p. rw p) (λ p. rw p))
+
+  pub leaf-unbound : (n .kind ≡ numberKind → ⊥) → (n .kind ≡ variableKind → ⊥) → n .kind ≡ unboundKind → unpackOf (missingCell + unboundName) ≡ leafOf size (shaped n) (scopeOf s)
+  unfolding leafOf
+  leaf-unbound o v e = rw (ne-eqb _ _ o, ne-eqb _ _ v, eq-eqb _ _ e) (round (Missing unboundName) (omega arith))
+
+  pub leaf-readings : (n .kind ≡ numberKind → ⊥) → (n .kind ≡ variableKind → ⊥) → (n .kind ≡ unboundKind → ⊥) → Fits w16 size
+      → unpackOf (windowCell + size) ≡ leafOf size (shaped n) (scopeOf s)
+  unfolding leafOf
+  leaf-readings o v u f = rw (ne-eqb _ _ o, ne-eqb _ _ v, ne-eqb _ _ u) (let z : windowCell + size ≡ packOf (Window 0 size) = omega arith in ap unpackOf z ∙ round (Window 0 size) (omega arith, f .fits))
+
+pub waits-is : (s : Bindings) (w : ℕ) (a b c d : Bool) (u v : Value) → a ≡ hasLevel w 0 → u ≡ unpackOf (s .outer) → b ≡ isDelayed u → c ≡ hasLevel w 1
+    → v ≡ unpackOf (s .inner) → d ≡ isDelayed v → ((a && b) || (c && d)) ≡ waitsFor (scopeOf s) w
+unfolding waitsFor
+waits-is s w a b c d u v p q r t x y = rw (p, r, q, t, y, x)
+
+module _ (t : Bool) (base : ℕ) (v : Value) (q : v ≡ unpackOf base) (m : Bool) (e : m ≡ isMissing v) where
+  pub judge-missing : m ≡ true → unpackOf base ≡ judged t (unpackOf base)
+  judge-missing h = rw (← q, ← e, h)
+
+  module _ (h : m ≡ false) (o : Bool) (k : o ≡ t) where
+    pub judge-delayed : o ≡ true → unpackOf delayedCell ≡ judged t (unpackOf base)
+    judge-delayed z = rw (← q, ← e, h, ← k, z) (round Delayed tt)
+
+    pub judge-function : o ≡ false → unpackOf functionCell ≡ judged t (unpackOf base)
+    judge-function z = rw (← q, ← e, h, ← k, z) (round Function tt)
+
 pub ruleset paths = (
   needs,
   unset-is,
@@ -144,4 +206,15 @@ pub ruleset paths = (
   at-leaf,
   at-function,
   at-member,
+  seen-is,
+  known-is,
+  kept-is,
+  leaf-number,
+  leaf-variable,
+  leaf-unbound,
+  leaf-readings,
+  waits-is,
+  judge-missing,
+  judge-delayed,
+  judge-function,
 )

@@ -4,6 +4,7 @@ use crate::bindings::Bindings;
 use crate::orders::has_level;
 use language::limits::Text;
 ghost use mathlib.Core.Path.{_≡_};
+ghost use mathlib.Core.Bool.{cond};
 ghost use Prim.Native.Nat.{_<_};
 ghost use lib.ListN.{length};
 ghost use Rattle.language.specs.Limits.{textParts};
@@ -12,13 +13,20 @@ ghost use Rattle.interpreter.specs.Memo.{memoCells, seenBy, isKnown, kep
 // The cells of the records that a text can have.
 pub const MEMO_CELLS: usize = 3 * Text::PARTS;
 
+// A binding that is awaited, and otherwise 0.
+fn only(awaited: bool, cell: u64) -> u64
+    ensures { λ r. ⌜ r ≡ cond awaited cell 0 ⌝ }
+{
+    if awaited { cell } else { 0 }
+}
+
 // The bindings, as far as they are awaited.
 pub fn seen_by(s: Bindings, w: u8) -> Bindings
     ensures { λ r. ⌜ r ≡ seenBy s w ⌝ }
 {
     Bindings {
-        outer: if has_level(w, 0) { s.outer } else { 0 },
-        inner: if has_level(w, 1) { s.inner } else { 0 },
+        outer: only(has_level(w, 0), s.outer),
+        inner: only(has_level(w, 1), s.inner),
     }
 }
 

@@ -2,11 +2,9 @@ use crate::bindings::Bindings;
 use crate::bindings::cell_at;
 use crate::orders::has_level;
 use layout::nodes::Shape;
-use rules::Value;
 use values::apply::is_delayed;
 use values::apply::is_missing;
 use values::packing::Packed;
-use values::packing::pack;
 use values::packing::unpack;
 ghost use mathlib.Core.Path.{_≡_};
 ghost use Rattle.values.specs.Packing.{unpackOf};
@@ -14,13 +12,6 @@ ghost use Rattle.layout.specs.Held.{shaped};
 ghost use Rattle.interpreter.specs.Interpreting.{judged};
 ghost use Rattle.interpreter.specs.Cells.{scopeOf};
 ghost use Rattle.interpreter.specs.Walking.{leafOf, waitsFor};
-
-// A value as a cell that holds it.
-fn cell(v: Value) -> u64
-    ensures { λ r. ⌜ unpackOf r ≡ v ⌝ }
-{
-    pack(v)
-}
 
 // What a number, a name or the recording, of so many readings, comes to.
 fn leaf(size: u16, n: Shape, s: Bindings) -> u64

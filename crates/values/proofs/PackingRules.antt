@@ -7,14 +7,14 @@ use borrow.Author.Needs.{needs}
 use lib.Dec.{T}
 use lib.IntN.{ℤ, pos, natAbs, _+ℤ_, _-ℤ_}
 use lib.Signed.{nonNeg}
-use mir.Syntax.{w32, w64}
+use mir.Syntax.{w8, w16, w32, w64}
 use mir.Val.{Fits, SFits, toZ, ofZ}
 use mir.Facts.{sfits-widen, toZ-pos, toZ-ofZ}
 use Rattle.rules.specs.declared.Value.{Value}
 use Rattle.rules.specs.declared.Value.the-variants.{Number, Window, Function, Delayed, Missing}
 use Rattle.values.specs.Packing.{windowCell, functionCell, delayedCell, missingCell, packOf, unpackOf}
 use Rattle.values.specs.Ranges.{mag-abs, up-nonNeg, up-size, down-range}
-use Rattle.values.specs.PackingLaws.{numberIn, unpack-number, unpack-window, unpack-function, unpack-delayed, unpack-missing, test-number, test-window, test-between, test-missing}
+use Rattle.values.specs.PackingLaws.{numberIn, round, unpack-number, unpack-window, unpack-function, unpack-delayed, unpack-missing, test-number, test-window, test-between, test-missing}
 use Rattle.values.proofs.Signed.{widens, wide, wide-is}
 
 -- ---- a number, moved up
@@ -49,6 +49,21 @@ pub pack-missing : (v : Value) (r : ℕ) → v ≡ Missing r → packOf (Missing
 pack-missing v r e = ap packOf (sym e)
 
 -- ---- and back
+
+pub back-number : (v : Value) (z : ℤ) → v ≡ Number z → SFits w32 z → (c : ℕ) → c ≡ packOf v → unpackOf c ≡ v
+back-number v z e f c q = ap unpackOf q ∙ round v (rw e (f .sfits))
+
+pub back-window : (v : Value) (s l : ℕ) → v ≡ Window s l → Fits w16 s → Fits w16 l → (c : ℕ) → c ≡ packOf v → unpackOf c ≡ v
+back-window v s l e f g c q = ap unpackOf q ∙ round v (rw e (f .fits, g .fits))
+
+pub back-function : (v : Value) → v ≡ Function → unpackOf functionCell ≡ v
+back-function v e = round Function tt ∙ sym e
+
+pub back-delayed : (v : Value) → v ≡ Delayed → unpackOf delayedCell ≡ v
+back-delayed v e = round Delayed tt ∙ sym e
+
+pub back-missing : (v : Value) (r : ℕ) → v ≡ Missing r → Fits w8 r → (c : ℕ) → c ≡ packOf v → unpackOf c ≡ v
+back-missing v r e f c q = ap unpackOf q ∙ round v (rw e (f .fits))
 
 module _ (c : ℕ) where
   abbrev low : ℕ
@@ -103,6 +118,11 @@ pub ruleset packing-rules = (
   pack-number,
   pack-window,
   pack-missing,
+  back-number,
+  back-window,
+  back-function,
+  back-delayed,
+  back-missing,
   down-fits,
   down-narrow,
   number-in-is,

@@ -24,9 +24,10 @@ impl Packed {
     pub const WRONG: u64 = Packed::MISSING + 2;
 }
 
-// The cell of a value: never 0.
+// The cell of a value: never 0, and what is unpacked again is the value.
 pub fn pack(v: Value) -> u64
-    ensures { λ r. ⌜ r ≡ packOf v ⌝ }
+    ensures same { λ r. ⌜ r ≡ packOf v ⌝ }
+    ensures back { λ r. ⌜ unpackOf r ≡ v ⌝ }
 {
     match v {
         Value::Number(z) => (z as i64 + 2147483648) as u64 + 1,

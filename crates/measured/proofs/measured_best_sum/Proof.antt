@@ -18,7 +18,7 @@ pack-requires c κs = search needs
 
 returns : tie.Need-returns
 returns c =
-    c .pack .ensures
+    c .pack .ensures .0
     ∙ ap packOf (c .before .best-sum .ensures
     ∙ ap (λ (n : ℤ). onWindow BestSum (now (c .before .before .args .readings)) (c .before .before .args .start) (c .before .before .args .length) n)
     (toZ-ofZ (c .before .before .fits .width)))

@@ -12,7 +12,7 @@ pack-requires : tie.Need-pack-requires
 pack-requires c κs = search needs
 
 returns : tie.Need-returns
-returns c = c .pack .ensures ∙ ap packOf (c .before .greatest .ensures)
+returns c = c .pack .ensures .0 ∙ ap packOf (c .before .greatest .ensures)
 
 pub measured-greatest-spec : {M : Type 1} → statement M
 measured-greatest-spec = tie.close (tie.spec greatest-requires pack-requires returns)

@@ -12,7 +12,7 @@ pack-requires : tie.Need-pack-requires
 pack-requires c κs = search needs
 
 returns : tie.Need-returns
-returns c = c .pack .ensures ∙ ap packOf (c .before .least .ensures)
+returns c = c .pack .ensures .0 ∙ ap packOf (c .before .least .ensures)
 
 pub measured-least-spec : {M : Type 1} → statement M
 measured-least-spec = tie.close (tie.spec least-requires pack-requires returns)

@@ -12,7 +12,7 @@ pack-requires : tie.Need-pack-requires
 pack-requires c κs = search needs
 
 returns : tie.Need-returns
-returns c = c .pack .ensures ∙ ap packOf (c .before .sum .ensures)
+returns c = c .pack .ensures .0 ∙ ap packOf (c .before .sum .ensures)
 
 pub measured-sum-spec : {M : Type 1} → statement M
 measured-sum-spec = tie.close (tie.spec sum-requires pack-requires returns)

@@ -12,7 +12,7 @@ pack-requires : tie.Need-pack-requires
 pack-requires c κs = search needs
 
 returns : tie.Need-returns
-returns c = c .pack .ensures ∙ ap (λ (z : ℤ). packOf (Number z)) (toZ-ofZ (c .before .fits .z))
+returns c = c .pack .ensures .0 ∙ ap (λ (z : ℤ). packOf (Number z)) (toZ-ofZ (c .before .fits .z))
 
 pub number-spec : {M : Type 1} → statement M
 number-spec = tie.close (tie.spec pack-requires returns)

@@ -1,3 +1,4 @@
+use Rattle.interpreter.proofs.Paths.{paths}
 use borrow.Author.Needs.{needs}
 use Rattle.interpreter.proofs.memo.is_known.Statement.{statement}
 use Rattle.interpreter.proofs.memo.is_known.Tie as tie
@@ -42,7 +43,7 @@ element-copy-out-result-3 c = search needs
 
 -- src/memo.rt:26:1
 returns : tie.Need-returns
-returns c = ?
+returns c = search paths
 
 pub is-known-spec : {M : Type 1} → statement M
 is-known-spec =

@@ -1,3 +1,4 @@
+use Rattle.interpreter.proofs.Paths.{paths}
 use borrow.Author.Needs.{needs}
 use Rattle.interpreter.proofs.memo.keep.Statement.{statement}
 use Rattle.interpreter.proofs.memo.keep.Tie as tie
@@ -42,7 +43,7 @@ element-write-memo-3 c = search needs
 
 -- src/memo.rt:35:1
 returns : tie.Need-returns
-returns c = ?
+returns c = search paths
 
 pub keep-spec : {M : Type 1} → statement M
 keep-spec =

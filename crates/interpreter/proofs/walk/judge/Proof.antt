@@ -1,3 +1,4 @@
+use Rattle.interpreter.proofs.Paths.{paths}
 use borrow.Author.Needs.{needs}
 use Rattle.interpreter.proofs.walk.judge.Statement.{statement}
 use Rattle.interpreter.proofs.walk.judge.Tie as tie
@@ -17,7 +18,7 @@ is-missing-requires c κs = search needs
 
 -- src/walk.rt:54:9
 returns : tie.Need-returns
-returns c = ?
+returns c = search paths
 
 -- src/walk.rt:56:8
 waits-for-requires : tie.Need-waits-for-requires
@@ -25,11 +26,11 @@ waits-for-requires c κs = search needs
 
 -- src/walk.rt:57:9
 returns-2 : tie.Need-returns-2
-returns-2 c = ?
+returns-2 c = search paths
 
 -- src/walk.rt:50:1
 returns-3 : tie.Need-returns-3
-returns-3 c = ?
+returns-3 c = search paths
 
 pub judge-spec : {M : Type 1} → statement M
 judge-spec =

@@ -1,3 +1,4 @@
+use Rattle.interpreter.proofs.Paths.{paths}
 use borrow.Author.Needs.{needs}
 use Rattle.interpreter.proofs.walk.waits_for.Statement.{statement}
 use Rattle.interpreter.proofs.walk.waits_for.Tie as tie
@@ -33,7 +34,7 @@ is-delayed-requires-2 c κs = search needs
 
 -- src/walk.rt:42:1
 returns : tie.Need-returns
-returns c = ?
+returns c = search paths
 
 pub waits-for-spec : {M : Type 1} → statement M
 waits-for-spec =

@@ -60,10 +60,10 @@ returns-2 : tie.Need-returns-2
 returns-2 c = search packing-rules
 
 returns-3 : tie.Need-returns-3
-returns-3 c = search needs
+returns-3 c = search packing-rules
 
 returns-4 : tie.Need-returns-4
-returns-4 c = search needs
+returns-4 c = search packing-rules
 
 returns-5 : tie.Need-returns-5
 returns-5 c = search packing-rules
