@@ -4,4 +4,5 @@ pub mod Cells
 pub mod Orders
 pub mod OrdersLaws
 pub mod Memo
+pub mod Outcomes
 pub mod Walking

@@ -7,13 +7,15 @@ use crate::cells::kind_of;
 use crate::cells::level_of;
 use crate::cells::second_of;
 use language::limits::Text;
+use members::Found;
 use members::MEMBERS;
+use members::member_at;
 ghost use mathlib.Core.Path.{_≡_};
 ghost use Prim.Native.Nat.{_-_, _<_};
 ghost use lib.ListN.{length};
 ghost use Rattle.language.specs.Limits.{textParts};
 ghost use Rattle.layout.specs.Memory.{nodeAt};
-ghost use Rattle.layout.specs.Nodes.{sameNode};
+ghost use Rattle.layout.specs.Nodes.{memberOfKind, sameNode};
 ghost use Rattle.layout.specs.Held.{shaped, freshAt, recordAt, heldAt, withFresh, textWords, entryBase};
 
 // The words of the nodes that a text can have, two each.
@@ -59,6 +61,19 @@ impl Shape {
     pub const MEMBERS: u16 = 5;
 
     pub const KINDS: u16 = Shape::MEMBERS + MEMBERS as u16;
+}
+
+// The member of a kind, if it is one.
+pub fn member_of(kind: u16) -> Found
+    ensures { λ r. ⌜ r ≡ memberOfKind kind ⌝ }
+{
+    if kind < Shape::MEMBERS {
+        return Found::Unknown;
+    }
+    if kind < Shape::KINDS {
+        return member_at((kind - Shape::MEMBERS) as u8);
+    }
+    Found::Unknown
 }
 
 // One node is the other: all pieces are equal.

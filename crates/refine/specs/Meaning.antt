@@ -14,7 +14,7 @@ use lib.IntN.{ℤ, pos, natAbs, _+ℤ_}
 use lib.ListN.{length, getD, take, drop}
 use lib.Signed.{mag}
 use Rattle.table.specs.WaitsLaws.{variableAt}
-use Rattle.table.specs.NodeKinds.{Fine, aNumber, aVariable, anUnbound, theReadings, aFunction, anAsk, aCall, member-found}
+use Rattle.table.specs.NodeKinds.{Fine, aNumber, aVariable, anUnbound, theReadings, aFunction, anAsk, aCall}
 use Rattle.language.specs.Cases.{split, either, or-right}
 use Rattle.language.specs.Limits.{tableEntries, tableReadings}
 use Rattle.members.specs.Members.{arguments}
@@ -40,6 +40,7 @@ use Rattle.rules.specs.Windows.{readingsIn}
 use Rattle.meaning.specs.Forms.{Form, withLevel, variable}
 use Rattle.meaning.specs.Evaluation.{Result, plain, runs, valueOf, runOf, Environment, bind, lookup, settled, functionOf, evaluate, awaited, hasName}
 use Rattle.layout.specs.Memory.{Node}
+use Rattle.layout.specs.KindsLaws.{member-found}
 use Rattle.layout.specs.Nodes.{variableKind, functionKind, memberKind, memberOfKind}
 use Rattle.layout.specs.Links.{kindAt, firstAt, secondAt}
 use Rattle.table.specs.Waits.{slotA, slotB, hasSlot, awaits, ownOf}

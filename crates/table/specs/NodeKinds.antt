@@ -14,6 +14,7 @@ use Rattle.members.specs.declared.Member.{Member}
 use Rattle.members.specs.declared.Found.the-variants.{Is}
 use Rattle.meaning.specs.Forms.{Form, withLevel, number, variable, unbound, readings, ask, call, function}
 use Rattle.layout.specs.Memory.{Node, nodeWith, node}
+use Rattle.layout.specs.KindsLaws.{member-found}
 use Rattle.layout.specs.Nodes.{numberKind, variableKind, unboundKind, readingsKind, functionKind, firstMember, memberKind, kindCount}
 use Rattle.layout.specs.Nodes.{memberOfKind, memberForm, arity, numberOfKey, build}
 use Rattle.table.specs.WellFormed.{keyRight}
@@ -43,12 +44,6 @@ fine-low (aCall _ _ _ _) = omega arith
 -- ---- the members' kinds are told apart from the others, and stand for their members
 pub less-one : (n : ℕ) → suc n - 1 ≡ n
 less-one n = omega arith
-
-pub member-found : (m : Member) → memberOfKind (memberKind m) ≡ Is m
-unfolding memberOfKind memberAt
-member-found m =
-    let q : memberKind m - firstMember ≡ memberNumber m = omega arith in
-    rw (le-ltb (memberKind m) firstMember (omega arith), q) (number-found m)
 
 pub not-member : (m : Member) (k : ℕ) → k < firstMember → eqb (memberKind m) k ≡ false
 not-member m k h = ne-eqb (memberKind m) k (λ e. omega arith)

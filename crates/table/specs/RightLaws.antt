@@ -85,23 +85,6 @@ module _ (k : ℕ) where
   unfolding arity
   arity-member f a q e u = rw (ne-eqb k functionKind u) (rw (q, e))
 
-  pub member-low : k < firstMember → Unknown ≡ memberOfKind k
-  unfolding memberOfKind
-  member-low h = rw (lt-ltb k firstMember h)
-
-  pub member-is : (f : Found) → f ≡ memberAt (k - firstMember) → firstMember ≤ k → f ≡ memberOfKind k
-  unfolding memberOfKind
-  member-is f e h = rw (le-ltb k firstMember h) e
-
-  pub member-high : kindCount ≤ k → Unknown ≡ memberOfKind k
-  unfolding memberOfKind memberAt
-  member-high h = rw (le-ltb k firstMember (omega arith)) (sym (past members (k - firstMember) (omega arith)))
-    where
-      past : (ms : List Member) (n : ℕ) → length ms ≤ n → foundIn ms n ≡ Unknown
-      past [] n h = refl
-      past (m ∷ ms) zero h = absurd (omega arith)
-      past (m ∷ ms) (suc n) h = past ms n (omega arith)
-
 -- the key by kind
 module _ (kind key : ℕ) where
   pub key-number : kind ≡ numberKind → ltb key 4294967296 ≡ keyRight (node kind key 0 0)
@@ -234,9 +217,6 @@ pub ruleset entries = (
   name-is,
   arity-function,
   arity-member,
-  member-low,
-  member-is,
-  member-high,
   key-number,
   key-name,
   key-none,

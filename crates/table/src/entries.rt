@@ -12,9 +12,9 @@ use layout::cells::kind_of;
 use layout::cells::level_of;
 use layout::cells::second_of;
 use layout::nodes::Shape;
+use layout::nodes::member_of;
 use members::Found;
 use members::arguments;
-use members::member_at;
 ghost use mathlib.Core.Path.{_≡_};
 ghost use Prim.Native.Nat.{_%_};
 ghost use Rattle.language.specs.Limits.{nameBytes};
@@ -57,19 +57,6 @@ pub fn is_name(k: u64) -> bool
     ensures { λ r. ⌜ r ≡ isName k ⌝ }
 {
     is_word(k) & !((k == LET) | ((k == IN) | (k == DATA)))
-}
-
-// The member of a kind, if it is one.
-pub fn member_of(kind: u16) -> Found
-    ensures { λ r. ⌜ r ≡ memberOfKind kind ⌝ }
-{
-    if kind < Shape::MEMBERS {
-        return Found::Unknown;
-    }
-    if kind < Shape::KINDS {
-        return member_at((kind - Shape::MEMBERS) as u8);
-    }
-    Found::Unknown
 }
 
 // The receiver, and the argument if there is one.

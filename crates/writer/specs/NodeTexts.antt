@@ -9,7 +9,8 @@ use Rattle.meaning.specs.Forms.{Form, withLevel, nameIn, ask, call, function}
 use Rattle.meaning.specs.FormsLaws.{name-back}
 use Rattle.layout.specs.Memory.{Node}
 use Rattle.layout.specs.Nodes.{functionKind, memberOfKind, variableIn, build}
-use Rattle.table.specs.NodeKinds.{Fine, aNumber, aVariable, anUnbound, theReadings, aFunction, anAsk, aCall, member-found, build-fine}
+use Rattle.layout.specs.KindsLaws.{member-found}
+use Rattle.table.specs.NodeKinds.{Fine, aNumber, aVariable, anUnbound, theReadings, aFunction, anAsk, aCall, build-fine}
 use Rattle.printing.specs.Printed.{isFunction, textOf}
 use Rattle.writer.specs.Putting.{leafBytes}
 
