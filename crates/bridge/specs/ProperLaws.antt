@@ -27,7 +27,8 @@ use Rattle.model.specs.Lists.{All}
 use Rattle.layout.specs.Nodes.{isName}
 use Rattle.bridge.specs.Recorded.{given-right}
 use Rattle.bridge.specs.Words.{word-name}
-use Rattle.bridge.specs.Proper.{Shape, Proper, Has, nodup-awaited, has-joined, has-without, no-more}
+use Rattle.meaning.specs.HasLaws.{Has, has-joined, has-without}
+use Rattle.bridge.specs.Proper.{Shape, Proper, nodup-awaited, no-more}
 
 -- what is known at each site of a tree that a text is read to
 abbrev Known : Site → Around → Type 0

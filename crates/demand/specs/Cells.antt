@@ -26,7 +26,7 @@ use Rattle.meaning.specs.Evaluation.{valueOf, nowhere, lookup, evaluate, hasNam
 use Rattle.layout.specs.Memory.{Kept as Cells}
 use Rattle.layout.specs.Nodes.{isName, wordNumber}
 use Rattle.table.specs.WellFormed.{namesRight}
-use Rattle.bridge.specs.Proper.{Has}
+use Rattle.meaning.specs.HasLaws.{Has}
 use Rattle.demand.specs.Holds.{keptFor, markOf}
 use Rattle.demand.specs.Delays.{isPlain, plain-rule0, plain-rule1}
 use Rattle.demand.specs.Fitting.{Deep, shown-fits, name-of, delayed-awaits}

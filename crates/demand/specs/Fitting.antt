@@ -23,7 +23,8 @@ use Rattle.meaning.specs.Forms.{Form, nameIn, number, variable, unbound, readin
 use Rattle.meaning.specs.FormsLaws.{same-self, within-self}
 use Rattle.meaning.specs.Evaluation.{Result, plain, runs, valueOf, runOf, Environment, nowhere, bind, lookup, settled, functionOf, evaluate, hasName, awaited}
 use Rattle.layout.specs.Nodes.{isName}
-use Rattle.bridge.specs.Proper.{Proper, Has, joined-cases, joined-left, joined-right, has-without, has-kept}
+use Rattle.meaning.specs.HasLaws.{Has, joined-cases, joined-left, joined-right, has-without, has-kept}
+use Rattle.bridge.specs.Proper.{Proper}
 use Rattle.demand.specs.Delays.{delayed0, delayed1}
 
 -- every form at or below f is proper

@@ -22,7 +22,7 @@ use Rattle.meaning.specs.Binding.{placesE, placesC, placesA, placesM, formsByPl
 use Rattle.meaning.specs.Evaluation.{hasName, awaited}
 use Rattle.meaning.specs.SubstitutionLaws.{Forms, of-name, level-is}
 use Rattle.model.specs.Lists.{All}
-use Rattle.bridge.specs.Proper.{Has, has-joined, has-without}
+use Rattle.meaning.specs.HasLaws.{Has, has-joined, has-without}
 use Rattle.direct.specs.Bindable.{OneEach, Bindable}
 
 -- a variable of a list is its first or one of the others

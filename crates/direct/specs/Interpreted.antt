@@ -21,7 +21,7 @@ use Rattle.rules.specs.Runs.{Summary, results}
 use Rattle.rules.specs.Apply.{concludedBy, isMissing, isDelayed, byRule1, apply0, apply1}
 use Rattle.meaning.specs.Forms.{Form, number, variable, unbound, readings, ask, call, function, nameIn, levelIn}
 use Rattle.meaning.specs.Evaluation.{valueOf, runOf, Environment, nowhere, bind, lookup, settled, evaluate, hasName, joined, without, awaited, shows}
-use Rattle.bridge.specs.Proper.{joined-cases, joined-left, joined-right, has-without, has-kept}
+use Rattle.meaning.specs.HasLaws.{joined-cases, joined-left, joined-right, has-without, has-kept}
 use Rattle.refine.specs.Free.{free, free-variable, free-call, settled-no, settled-find}
 use Rattle.interpreter.specs.Interpreting.{Scope, nothing, standsFor, with, levels, isOpen, judged, interpret, ran, variableAt, shownBy}
 use Rattle.direct.specs.Bindable.{OneEach, Bindable}

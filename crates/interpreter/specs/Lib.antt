@@ -1,8 +1,12 @@
 pub mod Interpreting
 pub mod Standing
+pub mod InterpretingLaws
+pub mod StandingLaws
 pub mod Cells
 pub mod Orders
 pub mod OrdersLaws
 pub mod Memo
 pub mod Outcomes
 pub mod Walking
+pub mod WalkingLaws
+pub mod OverLaws

@@ -23,7 +23,7 @@ use Rattle.interpreter.specs.Orders.{listed, joinOf, lessOf, hasLevel, l
 
 -- ---- by the five numbers, and by the two levels
 
-five : (P : ℕ → Type 0) → P 0 → P 1 → P 2 → P 3 → P 4 → (w : ℕ) → w ≤ 4 → P w
+pub five : (P : ℕ → Type 0) → P 0 → P 1 → P 2 → P 3 → P 4 → (w : ℕ) → w ≤ 4 → P w
 five P a b c d e zero h = a
 five P a b c d e (suc zero) h = b
 five P a b c d e (suc (suc zero)) h = c
@@ -80,7 +80,7 @@ less-low w k =
 
 -- ---- the records, from those before
 
-level-of : (x k : ℕ) → k < 2 → levelIn (withLevel x k) ≡ k
+pub level-of : (x k : ℕ) → k < 2 → levelIn (withLevel x k) ≡ k
 level-of x k h = omega arith
 
 module _ (ν : ℕ → Node) (i : ℕ) (orders : List ℕ) (before : Ordered ν i orders) (few : i < textParts) where

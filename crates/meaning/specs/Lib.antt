@@ -10,3 +10,4 @@ pub mod PartSubstitution
 pub mod PartSubstitutionLaws
 pub mod Levels
 pub mod LevelsLaws
+pub mod HasLaws
