@@ -1,5 +1,6 @@
 /*
- * The formula engine: open, edit, preview and print, over memory that the caller lends. C99 or later, and C++.
+ * The formula engine: open, edit, preview and print, over memory that the caller lends; and evaluate, which needs
+ * none. C99 or later, and C++.
  *
  * The engine has no memory of its own. All that it keeps between calls stands in a cache of four slices
  * (24,584 bytes); all else is on the stack during a call. It allocates nothing, keeps no pointer after a
@@ -16,6 +17,8 @@
  *         else if (seen.finished) ... show it
  *         else ... draw "not yet" and preview again at the next frame
  *     }
+ *
+ * For a single answer there need be no cache: formula_text_evaluate shows a part of a text over a recording.
  *
  * For every slice:
  *   - it is passed as a pointer to its first cell and its length in cells, not in bytes;
@@ -61,20 +64,20 @@ extern "C" {
  */
 enum formula_refusal {
     FORMULA_ACCEPTED = 0,
-    FORMULA_REFUSAL_TEXT_TOO_LONG = 1,      /* edit: text over 1,024 bytes */
-    FORMULA_REFUSAL_RECORDING_TOO_LONG = 2, /* open: over 1,024 readings */
-    FORMULA_REFUSAL_MEMORY_TOO_SMALL = 3,   /* all: a slice of the cache, or the list of places, is too short */
+    FORMULA_REFUSAL_TEXT_TOO_LONG = 1,      /* edit, evaluate: text over 1,024 bytes */
+    FORMULA_REFUSAL_RECORDING_TOO_LONG = 2, /* open, evaluate: over 1,024 readings */
+    FORMULA_REFUSAL_MEMORY_TOO_SMALL = 3,   /* all but evaluate: the cache, or the list of places, is too short */
     FORMULA_REFUSAL_CACHE_ILL_FORMED = 4,   /* edit, preview, print: ill-formed contents; open it again */
-    FORMULA_REFUSAL_UNGRAMMATICAL = 5,      /* edit: no grammatical text goes on with this token or end */
-    FORMULA_REFUSAL_NUMBER_OUTSIDE = 6,     /* edit: number outside -2147483648 to 2147483647 */
-    FORMULA_REFUSAL_NAME_TOO_LONG = 7,      /* edit: name over 8 bytes, not after a dot */
-    FORMULA_REFUSAL_DATA_BOUND = 8,         /* edit: `data` as the name of a let or \ */
-    FORMULA_REFUSAL_WRONG_CALL = 9,         /* edit: unknown member, or too few or too many arguments */
-    FORMULA_REFUSAL_THIRD_LAMBDA = 10,      /* edit: third open \ */
+    FORMULA_REFUSAL_UNGRAMMATICAL = 5,      /* edit, evaluate: no grammatical text goes on with this token or end */
+    FORMULA_REFUSAL_NUMBER_OUTSIDE = 6,     /* edit, evaluate: number outside -2147483648 to 2147483647 */
+    FORMULA_REFUSAL_NAME_TOO_LONG = 7,      /* edit, evaluate: name over 8 bytes, not after a dot */
+    FORMULA_REFUSAL_DATA_BOUND = 8,         /* edit, evaluate: `data` as the name of a let or \ */
+    FORMULA_REFUSAL_WRONG_CALL = 9,         /* edit, evaluate: unknown member, or too few or too many arguments */
+    FORMULA_REFUSAL_THIRD_LAMBDA = 10,      /* edit, evaluate: third open \ */
     FORMULA_REFUSAL_LAMBDA_REPEATED = 11,   /* never: it was a \ with the name of a \ around it */
-    FORMULA_REFUSAL_TEXT_LIMIT = 12,        /* edit: 17th open mark or 129th part */
+    FORMULA_REFUSAL_TEXT_LIMIT = 12,        /* edit, evaluate: 17th open mark or 129th part */
     FORMULA_REFUSAL_TABLE_FULL = 13,        /* edit: entries held plus new ones exceed 512 */
-    FORMULA_REFUSAL_NO_SUCH_ENTRY = 14,     /* preview, print: the cache has no entry of this number */
+    FORMULA_REFUSAL_NO_SUCH_ENTRY = 14,     /* preview, print: no entry of this number; evaluate: no such part */
     FORMULA_REFUSAL_TEXT_UNFIT = 15,        /* print: the lent bytes are too few, or an edit would give 1 or 5 to 12 */
     FORMULA_REFUSAL_OTHER_FORM = 16         /* print: the text by itself means another part, as where one waits */
 };
@@ -128,6 +131,18 @@ typedef struct {
     uint32_t length;  /* how many bytes the text has; 0 where refused */
 } formula_print_answer;
 
+/* The answer to an evaluation, 40 bytes. A field that has no value is 0. */
+typedef struct {
+    uint32_t refusal; /* enum formula_refusal */
+    uint32_t place;   /* refused under 5 to 12: the byte of the text; the end's is the text's length */
+    uint32_t parts;   /* how many parts the text has */
+    uint32_t kind;    /* enum formula_kind; the fields from here on are those of a finished preview */
+    int32_t first;
+    uint32_t second;
+    uint64_t name;
+    uint64_t other;
+} formula_evaluate_answer;
+
 /*
  * Empties the cache and copies in a recording of 0 to 1,024 readings. The cache may hold anything before.
  * Writes: the readings of the recording, and both heads. The links and cells are not touched.
@@ -176,6 +191,17 @@ formula_print_answer formula_print(uint32_t entry, uint8_t *bytes, size_t bytes_
                                    size_t cells_length);
 
 /*
+ * Shows a part of a text over a recording, without a cache: what a cache that is opened over the recording and edited
+ * with the text shows for the part in the end. `place` is the part's place in the text, counted as formula_edit does.
+ * Nothing is kept, so that each call costs as much as reading the text and working the part out once; nothing
+ * interrupts it. The recording is read where it lies, and not copied: a window's start is counted in it.
+ * Writes: nothing.
+ * Refusals, in this order: 1, 2, 5 to 10 and 12 with a byte place, 14 for a place not below the number of parts.
+ */
+formula_evaluate_answer formula_evaluate(const uint8_t *text, size_t text_length, const int32_t *recording,
+                                         size_t recording_length, uint32_t place);
+
+/*
  * A whole cache. Only open it, edit, preview and print it by the calls below; what stands in it is described in
  * docs/MEMORY.md. The readings of a window that a preview shows are readings[first] up to
  * readings[first + second - 1].
@@ -201,6 +227,10 @@ FORMULA_ASSERT(preview_answer_has_40_bytes, sizeof(formula_preview_answer) == 40
 FORMULA_ASSERT(names_are_at_24_and_32, offsetof(formula_preview_answer, name) == 24 &&
                                            offsetof(formula_preview_answer, other) == 32);
 FORMULA_ASSERT(print_answer_has_8_bytes, sizeof(formula_print_answer) == 8);
+FORMULA_ASSERT(evaluate_answer_has_40_bytes, sizeof(formula_evaluate_answer) == 40);
+FORMULA_ASSERT(kind_is_at_12_and_names_are_at_24_and_32, offsetof(formula_evaluate_answer, kind) == 12 &&
+                                                             offsetof(formula_evaluate_answer, name) == 24 &&
+                                                             offsetof(formula_evaluate_answer, other) == 32);
 FORMULA_ASSERT(cache_has_its_bytes, sizeof(formula_cache) == FORMULA_CACHE_BYTES);
 FORMULA_ASSERT(cells_make_up_the_cache,
                4 * FORMULA_READINGS_CELLS + 4 * FORMULA_HEADS_CELLS + 2 * FORMULA_LINKS_CELLS +
@@ -246,6 +276,16 @@ static inline formula_print_answer formula_cache_print(const formula_cache *cach
     return formula_print(entry, (uint8_t *)text, text_length, cache->readings, FORMULA_READINGS_CELLS,
                          cache->heads, FORMULA_HEADS_CELLS, cache->links, FORMULA_LINKS_CELLS, cache->cells,
                          FORMULA_CELLS_CELLS);
+}
+
+/* As formula_evaluate. The text needs no zero at its end; it and the recording may be null where their length is 0. */
+static inline formula_evaluate_answer formula_text_evaluate(const char *text, size_t text_length,
+                                                            const int32_t *recording, size_t recording_length,
+                                                            uint32_t place)
+{
+    static const int32_t none = 0;
+    return formula_evaluate((const uint8_t *)(text != NULL ? text : ""), text_length,
+                            recording != NULL ? recording : &none, recording_length, place);
 }
 
 /*

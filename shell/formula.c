@@ -2,13 +2,14 @@
  * The watch's formula screen in a terminal: loads a recording, reads a formula from each line of the input, and
  * shows beside each part what it comes to. Of the engine it uses the header alone.
  *
- *     formula [RECORDING]
+ *     formula [--plain-check] [RECORDING]
  *
  * The recording is a text file of whole numbers parted by blanks; '#' begins a comment up to the end of its line.
  * Blank lines of the input, and lines that begin with '#', are passed over. A line of '?' and the number of a part
  * shows that part of the last formula that was taken in full: as a text of its own, with what its lets stand for put
- * in. The exit status is 0 at the input's end, 1 where the recording can't be used or the output can't be written, 2
- * for other arguments.
+ * in. With --plain-check each part that is drawn finished is also evaluated without the cache; where that gives
+ * something else, the part's row says what. The exit status is 0 at the input's end, 1 where the recording can't be
+ * used or the output can't be written, 2 for other arguments, 3 where a part was evaluated to something else.
  */
 #define _POSIX_C_SOURCE 200809L
 
@@ -71,6 +72,8 @@ struct screen {
     uint16_t places[FORMULA_PLACES];
     bool is_too_much[FORMULA_TEXT_PARTS];
     formula_preview_answer shown[FORMULA_TEXT_PARTS];
+    const struct recording *checked; /* with --plain-check the recording, else null */
+    unsigned long differing;         /* how many parts were evaluated to something else so far */
 };
 
 static bool is_blank(int byte)
@@ -357,7 +360,31 @@ static void print_shown(const formula_cache *cache, const formula_preview_answer
     }
 }
 
-static void print_parts(const formula_cache *cache, const struct screen *screen)
+static bool is_same(const formula_evaluate_answer *evaluated, const formula_preview_answer *shown)
+{
+    return evaluated->refusal == FORMULA_ACCEPTED && evaluated->kind == shown->kind &&
+           evaluated->first == shown->first && evaluated->second == shown->second &&
+           evaluated->name == shown->name && evaluated->other == shown->other;
+}
+
+/* Evaluates a part without the cache. Where that differs from what is shown, its fields are added to the row. */
+static void check_part(struct screen *screen, uint32_t part)
+{
+    char name[FORMULA_NAME_BYTES + 1];
+    char other[FORMULA_NAME_BYTES + 1];
+    formula_evaluate_answer answer = formula_text_evaluate(screen->text, screen->length, screen->checked->readings,
+                                                           screen->checked->length, part);
+    if (answer.parts == screen->count && is_same(&answer, &screen->shown[part])) {
+        return;
+    }
+    formula_name_text(answer.name, name);
+    formula_name_text(answer.other, other);
+    printf("; evaluated: refusal %" PRIu32 ", parts %" PRIu32 ", kind %" PRIu32 ", %" PRId32 " %" PRIu32 " [%s] [%s]",
+           answer.refusal, answer.parts, answer.kind, answer.first, answer.second, name, other);
+    screen->differing++;
+}
+
+static void print_parts(const formula_cache *cache, struct screen *screen)
 {
     char text[16];
     uint32_t part;
@@ -368,6 +395,9 @@ static void print_parts(const formula_cache *cache, const struct screen *screen)
             printf("too much work: runs %u deep", formula_cache_run_depth(cache, screen->places[part]));
         } else {
             print_shown(cache, &screen->shown[part]);
+        }
+        if (screen->checked != NULL && screen->shown[part].finished) {
+            check_part(screen, part);
         }
         printf("\n");
     }
@@ -632,7 +662,8 @@ static void take_line(formula_cache *cache, const struct recording *recording, s
     }
 }
 
-static void run(formula_cache *cache, const struct recording *recording)
+/* Answers all lines. Gives how many parts were evaluated to something else. */
+static unsigned long run(formula_cache *cache, const struct recording *recording, bool is_checked)
 {
     /* One byte more than a text may have, so that a longer line is refused as one. */
     static char line[FORMULA_TEXT_BYTES + 1];
@@ -640,6 +671,7 @@ static void run(formula_cache *cache, const struct recording *recording)
     bool is_typed = isatty(fileno(stdin)) == 1;
     uint32_t held = 0;
     screen.text = line;
+    screen.checked = is_checked ? recording : NULL;
     printf("%s", is_typed ? "type " HELP "\n" : "");
     for (;;) {
         printf("%s", is_typed ? "> " : "");
@@ -655,16 +687,20 @@ static void run(formula_cache *cache, const struct recording *recording)
             take_line(cache, recording, &screen, &held);
         }
     }
+    return screen.differing;
 }
 
 int main(int argc, char **argv)
 {
     static formula_cache cache;
     static struct recording recording;
-    const char *path = argc > 1 ? argv[1] : "shell/interval.txt";
+    bool is_checked = argc > 1 && strcmp(argv[1], "--plain-check") == 0;
+    int given = is_checked ? 2 : 1;
+    const char *path = argc > given ? argv[given] : "shell/interval.txt";
     uint32_t refusal;
-    if (argc > 2) {
-        fprintf(stderr, "usage: formula [RECORDING]\n");
+    unsigned long differing;
+    if (argc > given + 1) {
+        fprintf(stderr, "usage: formula [--plain-check] [RECORDING]\n");
         return 2;
     }
     if (!load(path, &recording)) {
@@ -676,10 +712,14 @@ int main(int argc, char **argv)
         return 1;
     }
     printf("%s: %lu readings\n", path, (unsigned long)recording.length);
-    run(&cache, &recording);
+    differing = run(&cache, &recording, is_checked);
     if (fflush(stdout) != 0 || ferror(stdout)) {
         fprintf(stderr, "formula: the output can't be written\n");
         return 1;
+    }
+    if (differing > 0) {
+        fprintf(stderr, "formula: parts that differ when evaluated without the cache: %lu\n", differing);
+        return 3;
     }
     return 0;
 }

@@ -1,12 +1,14 @@
--- 01, "When a call is declined", with 02, T-04 and T-05: the numbers and places of each call's refusals, what an edit is accepted for, what a text must be
--- so that no edit is declined for it, and what print reads. That the calls do so is in AcceptanceLaws. Assumes nothing: these are definitions.
+-- 01, "When a call is declined", with 02, T-04, T-05 and T-07: the numbers and places of each call's refusals, what an edit is accepted for, what a
+-- text must be so that no edit is declined for it, and what print and evaluate read. That the calls do so is in AcceptanceLaws and EvaluateLaws.
+-- Assumes nothing: these are definitions.
 use mathlib.Core.Path.{_≡_}
 use mathlib.Core.Logic.{_⊎_}
 use mathlib.Core.Bool.{true}
 use mathlib.Core.List.{List}
 use Prim.Native.Nat.{ℕ, _≤_, _<_}
+use lib.IntN.{ℤ}
 use lib.ListN.{length}
-use Rattle.language.specs.Limits.{textBytes, textParts, tableEntries}
+use Rattle.language.specs.Limits.{textBytes, textParts, tableEntries, tableReadings}
 use Rattle.grammar.specs.Grammar.{Expression, Spells}
 use Rattle.grammar.specs.KeptLimits.{KeepsLimits}
 use Rattle.grammar.specs.Reading.{IsTextRefusal, tree, tokensOf}
@@ -19,7 +21,7 @@ use Rattle.records.specs.Records.{recordsOf}
 use Rattle.interface.specs.Answers.{Reply}
 use Rattle.interface.specs.Calls.{boundTo, formAt}
 
--- the numbers and places of the refusals of an open, an edit, a preview and a print: a text's have a place in the text or at its end
+-- the numbers and places of the refusals of an open, an edit, a preview, a print and an evaluate: a text's have a place in the text or at its end
 abbrev pub OpenRefusal : (number place : ℕ) → Type 0
 OpenRefusal n at = ((n ≡ 2) ⊎ (n ≡ 3)) × (at ≡ 0)
 
@@ -31,6 +33,9 @@ PreviewRefusal n = ((n ≡ 3) ⊎ (n ≡ 4)) ⊎ (n ≡ 14)
 
 abbrev pub PrintRefusal : (number : ℕ) → Type 0
 PrintRefusal n = PreviewRefusal n ⊎ ((n ≡ 15) ⊎ (n ≡ 16))
+
+abbrev pub EvaluateRefusal : (text : List ℕ) (number place : ℕ) → Type 0
+EvaluateRefusal text n at = ((((n ≡ 1) ⊎ (n ≡ 2)) ⊎ (n ≡ 14)) × (at ≡ 0)) ⊎ (IsTextRefusal n × (at ≤ length text))
 
 -- the answer to an edit that was accepted
 abbrev pub IsEdited : Reply → Type 0
@@ -71,3 +76,7 @@ textAt m n = textOf (formAt m n)
 -- the answer to a print that was accepted
 abbrev pub IsPrinted : Reply → Type 0
 IsPrinted x = (text : List ℕ) × (x ≡ printed text)
+
+-- an evaluate's text and recording are no longer than allowed, and the text is read as a tree of which P holds
+abbrev pub ReadWith : (text : List ℕ) → List ℤ → (Expression → Type 0) → Type 0
+ReadWith text r P = (length text ≤ textBytes) × (length r ≤ tableReadings) × ((e : Expression) × (readText text ≡ tree e) × P e)

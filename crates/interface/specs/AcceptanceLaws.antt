@@ -79,7 +79,7 @@ edit-accepted m places text = by (edit-outcome m places text)
         (λ h. impossible (not-edited e h), λ c. let s = same-tree m text t (c .expression) u (c .read) in let z = c .held in absurd (omega arith))
     by (EditOutcome.taken t r u l e) = (λ h. record { ready = r; expression = t; read = u; held = l }, λ c. e)
 
-unread-range : (text : List ℕ) (n at : ℕ) → readText text ≡ refusedAt n at → IsTextRefusal n × (at ≤ length text)
+pub unread-range : (text : List ℕ) (n at : ℕ) → readText text ≡ refusedAt n at → IsTextRefusal n × (at ≤ length text)
 unread-range text n at h =
     let r = text-refused text n at .0 h in
     let p = r .2 in

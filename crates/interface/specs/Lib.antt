@@ -8,3 +8,4 @@ pub mod CallExamples
 pub mod Acceptance
 pub mod Outcomes
 pub mod AcceptanceLaws
+pub mod EvaluateLaws

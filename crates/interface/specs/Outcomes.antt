@@ -6,15 +6,16 @@ use Prim.Native.Nat.{ℕ, _≤_, _<_}
 use borrow.Author.Tests.{leb-true, ltb-true, ltb-false}
 use lib.Dec.{leb, ltb}
 use lib.IntN.{ℤ}
-use lib.ListN.{length}
+use lib.ListN.{length, getD}
 use Rattle.language.specs.Cases.{impossible, split}
 use Rattle.language.specs.Limits.{textBytes, textParts, tableEntries, tableReadings}
 use Rattle.grammar.specs.Grammar.{Expression}
 use Rattle.grammar.specs.Reading.{Reading, tree, refused as refusedAt}
 use Rattle.grammar.specs.Machine.{readText}
-use Rattle.meaning.specs.Forms.{same}
+use Rattle.meaning.specs.Forms.{same, readings}
 use Rattle.meaning.specs.FormsLaws.{same-exactly}
-use Rattle.meaning.specs.Binding.{formOf}
+use Rattle.meaning.specs.Binding.{formOf, formsByPlace}
+use Rattle.meaning.specs.Evaluation.{shows}
 use Rattle.model.specs.Model.{refused, opened, edited, printed, rejects, readsAs, printing}
 use Rattle.layout.specs.Memory.{Memory, fits, entryCount, readingCount}
 use Rattle.table.specs.WellFormed.{wellFormed}
@@ -23,9 +24,11 @@ use Rattle.formulas.specs.Formulas.{formulas, parsed}
 use Rattle.schedule.specs.declared.View.{View}
 use Rattle.schedule.specs.Works.{showOf}
 use Rattle.interface.specs.declared.answers.Previewed.the-variants.{NotYet, Finished, Refused}
+use Rattle.interface.specs.declared.answers.Evaluated.the-variants as Evaluate
 use Rattle.interface.specs.Answers.{Reply}
+use Rattle.interface.specs.Views.{viewOf}
 use Rattle.interface.specs.Acceptance.{IsEdited, Ready, Held, textAt}
-use Rattle.interface.specs.Calls.{boundTo, readAnswer, openAnswer, editAnswer, workOn, previewed, formAt, printAnswer}
+use Rattle.interface.specs.Calls.{boundTo, readAnswer, openAnswer, editAnswer, workOn, previewed, formAt, printAnswer, readEvaluated, evaluated}
 
 -- ---- open
 
@@ -155,3 +158,38 @@ print-outcome m n bytes =
     (λ l. none (ltb-false n (entryCount m) l) (rw (f, w, l))))
     (λ w. ill w (rw (f, w))))
     (λ f. little f (rw f))
+
+-- ---- evaluate
+
+-- neither 1 nor 2 comes up
+pub record Sized (text : List ℕ) (r : List ℤ) : Type 0 where
+  pub short : length text ≤ textBytes
+  pub few : length r ≤ tableReadings
+
+pub data EvaluateOutcome (text : List ℕ) (r : List ℤ) (p : ℕ) : Type 0 where
+  long : textBytes < length text → evaluated text r p ≡ Evaluate.Refused 1 0 → EvaluateOutcome text r p
+  many : length text ≤ textBytes → tableReadings < length r → evaluated text r p ≡ Evaluate.Refused 2 0 → EvaluateOutcome text r p
+  unread : (n at : ℕ) → Sized text r → readText text ≡ refusedAt n at → evaluated text r p ≡ Evaluate.Refused n at → EvaluateOutcome text r p
+  none : (e : Expression) → Sized text r → readText text ≡ tree e → length (formsByPlace e) ≤ p → evaluated text r p ≡ Evaluate.Refused 14 0
+      → EvaluateOutcome text r p
+  taken : (e : Expression) → Sized text r → readText text ≡ tree e → p < length (formsByPlace e)
+      → evaluated text r p ≡ Evaluate.Done (length (formsByPlace e)) (viewOf (shows r (getD (formsByPlace e) p readings))) → EvaluateOutcome text r p
+
+-- once the text is read
+part-outcome : (text : List ℕ) (r : List ℤ) (p : ℕ) → Sized text r → (x : Reading) → readText text ≡ x → evaluated text r p ≡ readEvaluated r p x
+    → EvaluateOutcome text r p
+unfolding readEvaluated
+part-outcome text r p sized (refusedAt n at) h e = unread n at sized h e
+part-outcome text r p sized (tree t) h e =
+    let parts : ℕ = length (formsByPlace t) in
+    split (ltb p parts) (λ l. taken t sized h (ltb-true p parts l) (rw l at e)) (λ l. none t sized h (ltb-false p parts l) (rw l at e))
+
+pub evaluate-outcome : (text : List ℕ) (r : List ℤ) (p : ℕ) → EvaluateOutcome text r p
+unfolding evaluated
+evaluate-outcome text r p =
+    split (ltb textBytes (length text)) (λ l. long (ltb-true textBytes (length text) l) (rw l))
+    (λ l. split (ltb tableReadings (length r))
+    (λ q. many (ltb-false textBytes (length text) l) (ltb-true tableReadings (length r) q) (rw (l, q)))
+    (λ q.
+    let sized : Sized text r = record { short = ltb-false textBytes (length text) l; few = ltb-false tableReadings (length r) q } in
+    part-outcome text r p sized (readText text) refl (rw (l, q))))

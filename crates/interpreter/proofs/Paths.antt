@@ -28,6 +28,7 @@ use Rattle.interpreter.specs.Cells.{bindings, scopeOf, cellAt, boundAt}
 use Rattle.interpreter.specs.Orders.{joinOf, lessOf, hasLevel, linkedOf, orderAt}
 use Rattle.interpreter.specs.Memo.{seenBy, isKnown, kept}
 use Rattle.interpreter.specs.Walking.{leafOf, waitsFor}
+use Rattle.interpreter.specs.Naming.{nextOf, firstLevel}
 
 -- ---- bindings
 
@@ -180,6 +181,30 @@ module _ (t : Bool) (base : ℕ) (v : Value) (q : v ≡ unpackOf base) (m : Bool
     pub judge-function : o ≡ false → unpackOf functionCell ≡ judged t (unpackOf base)
     judge-function z = rw (← q, ← e, h, ← k, z) (round Function tt)
 
+-- ---- names
+
+module _ (orders : List ℕ) (k : ℕ) (n : Shape) where
+  pub next-first : (eqb (n .kind) functionKind || eqb (n .second) 0) ≡ true → n .first ≡ nextOf orders k n
+  unfolding nextOf
+  next-first h = rw h
+
+  module _ (h : (eqb (n .kind) functionKind || eqb (n .second) 0) ≡ false) (w : ℕ) (e : w ≡ linkedOf orders (n .first)) (b : Bool) (q : b ≡ hasLevel w k) where
+    pub next-receiver : b ≡ true → n .first ≡ nextOf orders k n
+    unfolding nextOf
+    next-receiver t = rw (h, ← e, ← q, t)
+
+    pub next-argument : b ≡ false → n .second ≡ nextOf orders k n
+    unfolding nextOf
+    next-argument t = rw (h, ← e, ← q, t)
+
+pub first-inner : (w : ℕ) → (eqb w 2 || eqb w 4) ≡ true → 1 ≡ firstLevel w
+unfolding firstLevel
+first-inner w h = rw h
+
+pub first-outer : (w : ℕ) → (eqb w 2 || eqb w 4) ≡ false → 0 ≡ firstLevel w
+unfolding firstLevel
+first-outer w h = rw h
+
 pub ruleset paths = (
   needs,
   unset-is,
@@ -217,4 +242,9 @@ pub ruleset paths = (
   judge-missing,
   judge-delayed,
   judge-function,
+  next-first,
+  next-receiver,
+  next-argument,
+  first-inner,
+  first-outer,
 )

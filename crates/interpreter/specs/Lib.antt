@@ -10,3 +10,5 @@ pub mod Outcomes
 pub mod Walking
 pub mod WalkingLaws
 pub mod OverLaws
+pub mod Naming
+pub mod NamingLaws

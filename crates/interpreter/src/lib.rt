@@ -3,5 +3,6 @@
 pub mod applying;
 pub mod bindings;
 pub mod memo;
+pub mod names;
 pub mod orders;
 pub mod walk;

@@ -45,7 +45,7 @@ pub fn has_level(w: u8, level: u16) -> bool
 }
 
 // What the record of a link awaits, none where it links to none.
-fn linked(orders: &[u8; Text::PARTS], link: u16) -> u8
+pub fn linked(orders: &[u8; Text::PARTS], link: u16) -> u8
     ensures { λ r. ⌜ r ≡ linkedOf (now (orders .entry)) link ⌝ }
 {
     let at = link as usize;

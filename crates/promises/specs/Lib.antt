@@ -13,6 +13,8 @@ pub mod Fetching
 pub mod Awaiting
 pub mod Levels
 pub mod Printing
+pub mod FreshCache
+pub mod Evaluating
 pub mod Boundary
 pub mod BoundaryLaws
 pub mod Promises

@@ -1,15 +1,16 @@
 -- What the engine promises, on one page. The calls are those of interface's Calls, which the contracts of the exported functions cite; what each
 -- of these theorems says is written out where it is named. Assumes nothing.
 --   1. Any call gets a result or a numbered refusal: the definitions of Calls are total, and the exported functions ask for nothing. When a call
---      is accepted and with which numbers it is refused is said exactly (interface's Acceptance; of a print, Printing). A refusal changes no lent
---      memory (Declined), and cells beyond the sizes keep their contents (Outside), as do lent bytes behind a printed text (Printing). A cache
---      that a call accepts, whatever was in it, is accepted by the next one (Accepting).
+--      is accepted and with which numbers it is refused is said exactly (interface's Acceptance; of a print, Printing; of an evaluate, Evaluating).
+--      A refusal changes no lent memory (Declined), and cells beyond the sizes keep their contents (Outside), as do lent bytes behind a printed
+--      text (Printing). A cache that a call accepts, whatever was in it, is accepted by the next one (Accepting).
 --   2. A text is read exactly if a tree of the grammar spells its tokens and keeps the limits, and is refused exactly where 01 says; an edit is
 --      declined for its text exactly if that is too long or is not read. Packed names are equal exactly if their bytes are (Naming), and lambda
 --      variables exactly if their names and levels are; number 11 never comes up. What a finished preview of a part shows is what evaluation
 --      gives for its let-free form, and what is delayed shows the names of Figure 5 (Awaiting). Division goes down (rules' NumbersLaws), and a
---      count from either end is clipped (WindowsLaws). What is printed of an entry is read as the entry's form again and printed as the same
---      bytes (Printing).
+--      count from either end is clipped (WindowsLaws). Evaluate, without a cache, answers for each place of a readable text what a fresh cache
+--      finally shows there, and what a finished preview of that part shows in any session (Evaluating). What is printed of an entry is read as
+--      the entry's form again and printed as the same bytes (Printing).
 --   3. Over every list of calls after an opening the engine answers as the reference model does, and ends holding what it holds (model's
 --      Demand), and so over every run of a program in C (Boundary).
 use mathlib.Core.Path.{_≡_, refl, sym, ap}
@@ -20,7 +21,7 @@ use Prim.Native.Nat.{ℕ, _+_, _-_, _^_, _≤_, _<_}
 use lib.IntN.{ℤ, pos, negℤ, _+ℤ_}
 use lib.ListN.{length, take, drop, getD}
 use lib.Signed.{ltZ, _≤ℤ_}
-use Rattle.language.specs.Limits.{textParts, openLambdas, nameBytes, tableReadings}
+use Rattle.language.specs.Limits.{textBytes, textParts, openLambdas, nameBytes, tableReadings}
 use Rattle.language.specs.Names.{packed, sameName, isData, dataWord}
 use Rattle.grammar.specs.Grammar.{Expression, spellE, Spells}
 use Rattle.grammar.specs.Faults.{outermost}
@@ -30,9 +31,9 @@ use Rattle.grammar.specs.Machine.{readText}
 use Rattle.grammar.specs.Theorems.{text-read-plainly, text-refused, text-number}
 use Rattle.model.specs.Lists.{All}
 use Rattle.model.specs.Model.{refused, opened, edited, printed, said}
-use Rattle.model.specs.Since.{Sendable}
+use Rattle.model.specs.Since.{Part, Sendable}
 use Rattle.model.specs.Engine.{Sent, told}
-use Rattle.model.specs.Demand.{Demand}
+use Rattle.model.specs.Demand.{last, Given, Finishes, Demand}
 use Rattle.model.specs.DemandLaws.{demand}
 use Rattle.formulas.specs.Formulas.{IsReading, formulas}
 use Rattle.members.specs.declared.Member.{Member}
@@ -46,11 +47,11 @@ use Rattle.rules.specs.Numbers.{NotAbove, Above, GreatestNotAbove, quotient}
 use Rattle.rules.specs.NumbersLaws as Division
 use Rattle.rules.specs.Windows.{readingsIn, fromStart, clipped, Clips}
 use Rattle.rules.specs.WindowsLaws as Windows
-use Rattle.meaning.specs.Forms.{Form, levelBase, withLevel, nameIn, levelIn, variable, function, same, IsDependency, dependency, AtOrBelow, within, works}
+use Rattle.meaning.specs.Forms.{Form, readings, levelBase, withLevel, nameIn, levelIn, variable, function, same, IsDependency, dependency, AtOrBelow, within, works}
 use Rattle.meaning.specs.FormsLaws as Forms
 use Rattle.rules.specs.Apply.{isDelayed, apply1}
 use Rattle.meaning.specs.Binding.{Meaning, named, variableOf, asLambda, formOf, formsByPlace}
-use Rattle.meaning.specs.Evaluation.{valueOf, runOf, Environment, bind, lookup, settled, evaluate, putFor, hasName, awaited, aWindow, aDelay, aReason, shows}
+use Rattle.meaning.specs.Evaluation.{valueOf, runOf, Environment, bind, lookup, settled, evaluate, putFor, hasName, awaited, Shown, aWindow, aDelay, aReason, shows}
 use Rattle.meaning.specs.EvaluationLaws.{evaluate-put}
 use Rattle.meaning.specs.Levels.{LevelledE}
 use Rattle.meaning.specs.LevelsLaws as Written
@@ -70,16 +71,20 @@ use Rattle.interface.specs.declared.answers.Edited.{Edited}
 use Rattle.interface.specs.declared.answers.Previewed.{Previewed}
 use Rattle.interface.specs.declared.answers.Previewed.the-variants.{Finished, Refused}
 use Rattle.interface.specs.declared.answers.Printed.{Printed}
+use Rattle.interface.specs.declared.answers.Evaluated.the-variants as Evaluate
 use Rattle.interface.specs.declared.answers.EditAnswer.{EditAnswer}
 use Rattle.interface.specs.declared.answers.PreviewAnswer.{PreviewAnswer}
 use Rattle.interface.specs.declared.answers.PrintAnswer.{PrintAnswer}
+use Rattle.interface.specs.declared.answers.EvaluateAnswer.{EvaluateAnswer}
 use Rattle.interface.specs.Answers.{openReply, editReply, previewReply, printedAs, shownOf}
 use Rattle.interface.specs.Calls.{openAnswer, openMemory, editAnswer, editMemory, editPlaces, previewed, previewAnswer, previewMemory, partOf, fetched}
-use Rattle.interface.specs.Calls.{formAt, printAnswer, printBytes}
-use Rattle.interface.specs.Effects.{Opens, Edits, Previews, Prints, OpensForC, EditsForC, PreviewsForC, PrintsForC}
-use Rattle.interface.specs.Acceptance.{OpenRefusal, EditRefusal, PreviewRefusal, PrintRefusal, IsEdited, InLanguage, TextDeclined, Held, textAt}
+use Rattle.interface.specs.Calls.{formAt, printAnswer, printBytes, evaluated}
+use Rattle.interface.specs.Effects.{Opens, Edits, Previews, Prints, OpensForC, EditsForC, PreviewsForC, PrintsForC, EvaluatesForC}
+use Rattle.interface.specs.Acceptance.{OpenRefusal, EditRefusal, PreviewRefusal, PrintRefusal, EvaluateRefusal}
+use Rattle.interface.specs.Acceptance.{IsEdited, InLanguage, TextDeclined, Held, textAt}
 use Rattle.interface.specs.AcceptanceLaws as Acceptance
-use Rattle.demand.specs.Holds.{workedOut}
+use Rattle.interface.specs.EvaluateLaws as EvaluateLaws
+use Rattle.demand.specs.Holds.{holds, workedOut}
 use Rattle.promises.specs.Lending.{lend, FirstOf, back}
 use Rattle.promises.specs.LendingLaws as Lending
 use Rattle.promises.specs.Implementing.{implements}
@@ -88,7 +93,7 @@ use Rattle.promises.specs.Boundary.{ForC, Run, DemandForC}
 use Rattle.promises.specs.BoundaryLaws as Boundary
 use Rattle.promises.specs.Awaiting as Awaiting
 use Rattle.promises.specs.Levels as Levels
-use Rattle.promises.specs.Terms.{HasWord, beyond, CanEdit, CanPrint, TextFits, readingsOf, AwaitedNames}
+use Rattle.promises.specs.Terms.{HasWord, beyond, CanEdit, CanPrint, TextFits, readingsOf, previews, AwaitedNames}
 use Rattle.promises.specs.Naming as Naming
 use Rattle.promises.specs.Declined as Declined
 use Rattle.promises.specs.Outside as Outside
@@ -96,6 +101,7 @@ use Rattle.promises.specs.Showing as Showing
 use Rattle.promises.specs.Fetching as Fetching
 use Rattle.promises.specs.Accepting as Accepting
 use Rattle.promises.specs.Printing as Printing
+use Rattle.promises.specs.Evaluating as Evaluating
 
 -- What the functions answer is, by 01's numbers and values of their enums, the answer of Calls.
 pub open-answers : (m : Memory) (r : List ℤ) (m′ : Memory) (x : Opened) → Opens m r m′ x → openReply x ≡ openAnswer m r
@@ -144,8 +150,33 @@ pub print-sixteen : (m : Memory) (n : ℕ) (bytes : List ℕ)
     × ((e : Expression) → readText (textAt m n) ≡ tree e → ¬ (formOf e ≡ formAt m n)))
 print-sixteen = Printing.print-sixteen
 
+-- 02, T-07: an evaluate: the text has at most 1,024 bytes and the recording at most 1,024 readings, the reader reads the text, and the place is
+-- below the number of its parts.
+pub evaluate-accepted : (text : List ℕ) (r : List ℤ) (p : ℕ)
+    → ((k : ℕ) × (v : View) × (evaluated text r p ≡ Evaluate.Done k v))
+    ↔ ((length text ≤ textBytes) × (length r ≤ tableReadings) × ((e : Expression) × (readText text ≡ tree e) × (p < partsE e)))
+evaluate-accepted = Evaluating.evaluate-accepted
+
+-- Its refusals come in this order, each exactly where none before it does: 1, the text is too long; 2, the recording is; 5 to 12, the reader's
+-- numbers with their places; and last 14, there is no such place.
+pub evaluate-one : (text : List ℕ) (r : List ℤ) (p : ℕ) → (evaluated text r p ≡ Evaluate.Refused 1 0) ↔ (textBytes < length text)
+evaluate-one = EvaluateLaws.evaluate-one
+
+pub evaluate-two : (text : List ℕ) (r : List ℤ) (p : ℕ)
+    → (evaluated text r p ≡ Evaluate.Refused 2 0) ↔ ((length text ≤ textBytes) × (tableReadings < length r))
+evaluate-two = EvaluateLaws.evaluate-two
+
+pub evaluate-read : (text : List ℕ) (r : List ℤ) (p n at : ℕ) → 5 ≤ n → n ≤ 12
+    → (evaluated text r p ≡ Evaluate.Refused n at) ↔ ((length text ≤ textBytes) × (length r ≤ tableReadings) × (readText text ≡ refusedAt n at))
+evaluate-read = EvaluateLaws.evaluate-read
+
+pub evaluate-fourteen : (text : List ℕ) (r : List ℤ) (p : ℕ)
+    → (evaluated text r p ≡ Evaluate.Refused 14 0)
+    ↔ ((length text ≤ textBytes) × (length r ≤ tableReadings) × ((e : Expression) × (readText text ≡ tree e) × (partsE e ≤ p)))
+evaluate-fourteen = Evaluating.evaluate-fourteen
+
 -- One of the numbered refusals and no other: of an open 2 or 3; of an edit 1, 3, 4 or 13, or 5 to 12 without 11 with a place in the text or at its
--- end; of a preview 3, 4 or 14; of a print these, 15 or 16. The place of all others is 0.
+-- end; of a preview 3, 4 or 14; of a print these, 15 or 16; of an evaluate 1, 2 or 14, or 5 to 12 as of an edit. The place of all others is 0.
 pub open-refusals : (m : Memory) (r : List ℤ) (n at : ℕ) → openAnswer m r ≡ refused n at → OpenRefusal n at
 open-refusals = Acceptance.open-refusals
 
@@ -157,6 +188,9 @@ preview-refusals = Acceptance.preview-refusals
 
 pub print-refusals : (m : Memory) (n : ℕ) (bytes : List ℕ) (k at : ℕ) → printAnswer m n bytes ≡ refused k at → PrintRefusal k × (at ≡ 0)
 print-refusals = Acceptance.print-refusals
+
+pub evaluate-refusals : (text : List ℕ) (r : List ℤ) (p n at : ℕ) → evaluated text r p ≡ Evaluate.Refused n at → EvaluateRefusal text n at
+evaluate-refusals = EvaluateLaws.evaluate-refusals
 
 -- The number that a caller in C gets is 0 exactly if the call was accepted.
 pub open-zero : (m : Memory) (r : List ℤ) (m′ : Memory) (c : ℕ) → OpensForC m r m′ c → (c ≡ 0) ↔ (openAnswer m r ≡ opened)
@@ -173,6 +207,10 @@ preview-zero = Acceptance.preview-zero
 pub print-zero : (m : Memory) (n : ℕ) (bytes bytes′ : List ℕ) (c : PrintAnswer) → PrintsForC m n bytes bytes′ c
     → (c .refusal ≡ 0) ↔ ((t : List ℕ) × (printAnswer m n bytes ≡ printed t))
 print-zero = Acceptance.print-zero
+
+pub evaluate-zero : (text : List ℕ) (r : List ℤ) (p : ℕ) (c : EvaluateAnswer) → EvaluatesForC text r p c
+    → (c .refusal ≡ 0) ↔ ((k : ℕ) × (v : View) × (evaluated text r p ≡ Evaluate.Done k v))
+evaluate-zero = EvaluateLaws.evaluate-zero
 
 -- A declined call changes nothing.
 pub open-declined : (m : Memory) (r : List ℤ) (n at : ℕ) → openAnswer m r ≡ refused n at → openMemory m r ≡ m
@@ -446,6 +484,36 @@ fetch-windowless = Fetching.fetch-windowless
 
 pub fetch-none : (m : Memory) (n : ℕ) → (fits m && (wellFormed m && doneAt (entriesOf m) n)) ≡ false → partOf m n ≡ record { start = 0; length = 0 }
 fetch-none = Fetching.fetch-none
+
+-- 02, T-07: evaluate answers the number of parts, and of the part at the place what evaluation gives for its let-free form, as the numbers and names
+-- that a finished preview gives.
+pub evaluate-shows : (text : List ℕ) (r : List ℤ) (p : ℕ) (e : Expression) → length text ≤ textBytes → length r ≤ tableReadings
+    → readText text ≡ tree e → p < partsE e → evaluated text r p ≡ Evaluate.Done (partsE e) (viewOf (shows r (getD (formsByPlace e) p readings)))
+evaluate-shows = Evaluating.evaluate-shows
+
+-- It is what a fresh cache finally shows there. Memory of any contents is opened with the recording and edited with the text, both are accepted,
+-- and the number written at the place is previewed again and again, with any allowance from 1 on: in the end the preview is finished and shows it.
+pub evaluate-finally : (m : Memory) (r : List ℤ) (places text : List ℕ) (p k : ℕ) (v : View) (a : ℕ) → fits m ≡ true → textParts ≤ length places
+    → All IsReading r → 1 ≤ a → evaluated text r p ≡ Evaluate.Done k v
+    → let n : ℕ = getD (editPlaces (openMemory m r) places text) p 0 in
+    (openAnswer m r ≡ opened) × IsEdited (editAnswer (openMemory m r) places text)
+    × ((times : ℕ) × (worked : ℕ) × (previewed (previews times (editMemory (openMemory m r) places text) n a) n a ≡ Finished worked v))
+evaluate-finally = Evaluating.evaluate-finally
+
+-- And no finished preview of that number, however often it is sent, shows anything else.
+pub evaluate-only : (m : Memory) (r : List ℤ) (places text : List ℕ) (p k : ℕ) (v : View) (a : ℕ) → fits m ≡ true → textParts ≤ length places
+    → All IsReading r → 1 ≤ a → evaluated text r p ≡ Evaluate.Done k v
+    → let n : ℕ = getD (editPlaces (openMemory m r) places text) p 0 in
+    (times worked : ℕ) (w : View) → previewed (previews times (editMemory (openMemory m r) places text) n a) n a ≡ Finished worked w → w ≡ v
+evaluate-only = Evaluating.evaluate-only
+
+-- Nor does one in any session: memory of any contents is opened, and then any calls are sent. Whenever a preview of a part is finished, it shows what
+-- evaluate answers for the part's text and place over the recording that the cache then holds.
+pub evaluate-in-session : (m : Memory) (r : List ℤ) (cs : List (Sent engine)) → openAnswer m r ≡ opened → All IsReading r
+    → Sendable formulas (map (told engine) cs) → (x : Part formulas) → Given formulas engine m r cs x
+    → (c : Sent engine) (v : Shown) → Finishes formulas engine (last formulas engine m r cs) c (x .number) v
+    → (k : ℕ) × (evaluated (x .text) (holds (last formulas engine m r cs) .recording) (x .place) ≡ Evaluate.Done k (viewOf v))
+evaluate-in-session = Evaluating.evaluate-in-session
 
 -- 02, T-04. Of any cache that passes 4: the text of an entry's form has, longest first, the tokens that the form's tree spells; so the reader
 -- reads it as that tree, exactly if the tree keeps the limits, and never declines it with 5. The tree's let-free form is the entry's exactly if

@@ -1,9 +1,10 @@
 -- What the promise page speaks of beside the calls and the model: the words of a text, cells beyond the sizes, when an edit and a print are
--- accepted, the readings of what is shown, and the variables that a form awaits. Assumes nothing: these are definitions.
+-- accepted, the readings of what is shown, a preview sent again and again, and the variables that a form awaits. Assumes nothing: these are
+-- definitions.
 use mathlib.Core.Path.{_≡_}
 use mathlib.Core.Bool.{true, cond, not, _&&_, _||_}
 use mathlib.Core.List.{List, [], _∷_, _++_}
-use Prim.Native.Nat.{ℕ, _≤_, _<_}
+use Prim.Native.Nat.{ℕ, zero, suc, _≤_, _<_}
 use lib.Dec.{eqb}
 use lib.IntN.{ℤ}
 use lib.ListN.{length, take, drop}
@@ -25,7 +26,7 @@ use Rattle.layout.specs.Links.{tableLinks, tableCells}
 use Rattle.layout.specs.Memory.{Memory, memory, fits, entryCount}
 use Rattle.schedule.specs.declared.View.{View}
 use Rattle.interface.specs.Answers.{natural}
-use Rattle.interface.specs.Calls.{formAt}
+use Rattle.interface.specs.Calls.{formAt, previewMemory}
 use Rattle.interface.specs.Acceptance.{textAt}
 use Rattle.table.specs.WellFormed.{wellFormed}
 use Rattle.demand.specs.Holds.{holds}
@@ -70,6 +71,11 @@ TextFits m n bytes = (length (textAt m n) ≤ length bytes) × (length (textAt m
 -- the readings of what is shown: kind 2 is a window
 unfoldable pub readingsOf : List ℤ → View → List ℤ
 readingsOf xs v = cond (eqb (v .kind) 2) (take (v .second) (drop (natural (v .first)) xs)) []
+
+-- the cache after so many previews of entry n, each with allowance a
+unfoldable pub previews : (times : ℕ) → Memory → (number allowance : ℕ) → Memory
+previews zero m n a = m
+previews (suc times) m n a = previews times (previewMemory m n a) n a
 
 -- Figure 5: a variable awaits itself (var); a member what its dependencies await, the receiver's variables first and each once (mem-expr); a
 -- function what its body awaits but its own variable (fun-bind, fun-expr); all else is a value and awaits nothing (val)

@@ -22,7 +22,7 @@ use Rattle.meaning.specs.Evaluation.{awaited, shownAs}
 use Rattle.layout.specs.Links.{keyAt}
 use Rattle.table.specs.Waits.{slotA, slotB}
 use Rattle.schedule.specs.Works.{slotName, nameFor, otherFor, view}
-use Rattle.refine.specs.Views.{viewOf}
+use Rattle.interface.specs.Views.{viewOf}
 
 abbrev nameAt : List ℕ → ℕ → ℕ
 nameAt names k = getD names k 0

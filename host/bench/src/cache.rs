@@ -3,7 +3,7 @@
 use crate::member::Member;
 use crate::proved;
 use crate::tree::Shown;
-use engine::ffi::{self, EditAnswer, PreviewAnswer, PrintAnswer};
+use engine::ffi::{self, EditAnswer, EvaluateAnswer, PreviewAnswer, PrintAnswer};
 use engine::memory::{CELLS, DATA, FUNCTION, LINKS, NUMBER, READINGS, VARIABLE};
 
 pub const ENTRIES: usize = 512;
@@ -95,7 +95,10 @@ impl Cache {
     }
 
     pub fn edit(&mut self, text: &[u8]) -> EditAnswer {
-        let mut places = [0; PLACES];
+        self.edit_into(text, &mut [0; PLACES])
+    }
+
+    fn edit_into(&mut self, text: &[u8], places: &mut [u16; PLACES]) -> EditAnswer {
         // SAFETY: each pointer and length are those of one live slice, and no two overlap.
         unsafe {
             ffi::formula_edit(
@@ -168,6 +171,23 @@ impl Cache {
         self.links[..4 * count].copy_from_slice(&earlier.links[..4 * count]);
         self.cells[..4 * count].copy_from_slice(&earlier.cells[..4 * count]);
     }
+}
+
+/// An evaluation without a cache.
+pub fn evaluate(text: &[u8], recording: &[i32], place: u32) -> EvaluateAnswer {
+    // SAFETY: each pointer and length are those of one live slice, and no two overlap.
+    unsafe {
+        ffi::formula_evaluate(text.as_ptr(), text.len(), recording.as_ptr(), recording.len(), place)
+    }
+}
+
+/// A place of the whole of a text, which is accepted.
+pub fn place_of_whole(text: &[u8]) -> u32 {
+    let mut places = [0; PLACES];
+    let answer = Cache::new(&[]).edit_into(text, &mut places);
+    assert_eq!(answer.refusal, 0);
+    let whole = places.iter().position(|place| u32::from(*place) == answer.whole);
+    whole.expect("the whole is a part") as u32
 }
 
 /// What a finished preview shows.

@@ -136,8 +136,8 @@ pub fn limit(x: i32) -> Formula {
     )
 }
 
-/// Each formula behind its name, and those that are typed.
-pub fn list() -> String {
+/// Each formula, with its constants as they are before an edit.
+pub fn all() -> Vec<Formula> {
     let formulas = [
         windows(2),
         sum(),
@@ -150,13 +150,18 @@ pub fn list() -> String {
         beside_nested(2),
         within_nested(2),
     ];
+    formulas.into_iter().chain(WIDTHS.map(best_sum)).collect()
+}
+
+/// Each formula behind its name, and those that are typed.
+pub fn list() -> String {
     let typed = [
         ("typed, windows and sums", texts::windows_and_sums()),
         ("typed, with a nested sum", texts::with_nested()),
     ];
     let typed = typed.map(|(name, text)| (name.to_string(), text));
-    let formulas = formulas.into_iter().chain(WIDTHS.map(best_sum));
-    let all = formulas.map(|Formula { name, text, .. }| (name, text)).chain(typed);
+    let formulas = all().into_iter().map(|Formula { name, text, .. }| (name, text));
+    let all = formulas.chain(typed);
     let indented = |text: String| text.replace('\n', "\n    ");
     let lines: String =
         all.map(|(name, text)| format!("{name}:\n    {}\n", indented(text))).collect();

@@ -1,4 +1,5 @@
-//! Benchmarks: the engine's calls against a plain recomputation and Lua, parts of the engine against plain Rust, stack and code size.
+//! Benchmarks: the engine's calls against a plain recomputation and Lua, parts of the engine against plain Rust, evaluations without a cache
+//! against those through one, stack and code size.
 //!
 //! With no words all groups run; the figures go to docs/benchmarks/figures.csv, and the tables of docs/BENCHMARKS.md and the plots are made
 //! from them. The name of a group runs it alone and writes nothing. Behind some of them the word `keep` puts what was measured in place of
@@ -6,6 +7,7 @@
 
 mod bodies;
 mod cache;
+mod cacheless;
 mod compare;
 mod edits;
 mod entries;
@@ -52,6 +54,7 @@ const GROUPS: &[(&str, Measure)] = &[
     ("bodies", bodies::measure),
     ("reading", |_, figures| reading::measure(figures)),
     ("printing", |_, figures| printing::measure(figures)),
+    ("plain", cacheless::measure),
     ("tables", tables::measure),
     ("stack", stack::measure),
     ("size", |_, figures| size::measure(figures)),
@@ -59,7 +62,7 @@ const GROUPS: &[(&str, Measure)] = &[
 
 /// The groups that can be kept by themselves: bytes, which don't depend on what else the machine does, and times of which no other table or
 /// plot is made.
-const KEPT: [&str; 5] = ["stack", "size", "stretches", "reading", "printing"];
+const KEPT: [&str; 6] = ["stack", "size", "stretches", "reading", "printing", "plain"];
 
 /// All groups run so often, so that other work on the machine for a while does not decide a figure.
 const PASSES: u32 = 3;

@@ -3,7 +3,7 @@
 
 use crate::figures::{ENGINE, Figures, PLAIN, name};
 use crate::plot::{self, Panel};
-use crate::{formulas, lua};
+use crate::{cacheless, formulas, lua};
 use std::path::Path;
 use std::{fs, io};
 
@@ -31,6 +31,7 @@ fn tables(figures: &Figures) -> Vec<(&'static str, String)> {
         ("reading", ratios(figures, "reading", &[PLAIN])),
         ("printing", ratios(figures, "printing", &[PLAIN])),
         ("printer", ratios(figures, "printer", &[PLAIN])),
+        ("plain", values(figures, "plain", &cacheless::SIDES, microseconds)),
         ("stretches", ratios(figures, "stretches", &others)),
         ("stretch", ratios(figures, "stretch", &[PLAIN])),
         ("stack", values(figures, "stack", &[ENGINE], plot::number)),

@@ -1,10 +1,11 @@
 //! Bytes of stack that the calls and parts of the engine use: a call runs on a painted buffer, and what is no longer paint was used.
 
-use crate::cache::{Cache, ENTRIES};
+use crate::cache::{self, Cache, ENTRIES};
 use crate::evaluating::{NESTED, SINGLE, THREE_DEEP, formula};
 use crate::figures::{ENGINE, Figures};
 use crate::member::Member::{Add, SumBy, Take};
 use crate::{proved, tables, texts};
+use plain::samples::taken::{doubled_deep, nested_runs};
 use std::arch::asm;
 
 const BYTES: usize = 1 << 23;
@@ -15,6 +16,9 @@ const FUNCTIONS: &str = r"\a -> \b -> a.add(b)";
 const RUN_AND_FUNCTION: &str = r"data.sumBy(\p -> (\q -> q.add(p)).add(1))";
 const RUNS_AND_FUNCTION: &str =
     r"let f = \q -> (\s -> s.add(q)).add(1) in data.sumBy(\p -> data.take(p).sumBy(f))";
+
+/// The recording of runs in one another: each window is one reading, so that they come to an end.
+const FEW: [i32; 1] = [1];
 
 /// Runs a closure at the bottom of the new stack.
 extern "C" fn enter<F: FnMut()>(run: *mut F) {
@@ -130,6 +134,7 @@ pub fn measure(readings: &[i32], figures: &mut Figures) {
     preview("nothing to work out and 512 entries held", full.clone(), figures);
     previews(figures);
     prints(figures);
+    evaluations(figures);
     parts(&full, figures);
 }
 
@@ -162,11 +167,9 @@ fn preview(name: &str, mut cache: Cache, figures: &mut Figures) {
     bytes(&format!("preview: {name}"), preview, figures);
 }
 
-fn previews(figures: &mut Figures) {
-    // The window of a run is one reading, so that runs in one another come to an end.
-    let few = [1];
-    let deep = texts::nested_runs();
-    for (name, text) in [
+/// Runs and functions in one another.
+fn runs() -> [(&'static str, String); 8] {
+    [
         ("no run", "data.skip(1).sum()"),
         ("no run, a function in a function", FUNCTIONS),
         ("1 run", SINGLE),
@@ -174,13 +177,18 @@ fn previews(figures: &mut Figures) {
         ("2 runs in one another", NESTED),
         ("2 runs in one another, a function in the inner body", RUNS_AND_FUNCTION),
         ("3 runs in one another", THREE_DEEP),
-        ("22 runs in one another: the most in 128 parts", &deep),
-    ] {
-        preview(name, formula(text, &few).cache, figures);
+        ("22 runs in one another: the most in 128 parts", &nested_runs(22)),
+    ]
+    .map(|(name, text)| (name, text.to_string()))
+}
+
+fn previews(figures: &mut Figures) {
+    for (name, text) in runs() {
+        preview(name, formula(&text, &FEW).cache, figures);
     }
-    let (cache, runs) = deepest(&few);
+    let (cache, runs) = deepest(&FEW);
     preview(&format!("{runs} runs in one another: a cache that no text makes"), cache, figures);
-    let (cache, functions) = deepest_functions(&few);
+    let (cache, functions) = deepest_functions(&FEW);
     let name = format!("no run, {functions} functions in one another: a cache that no text makes");
     preview(&name, cache, figures);
 }
@@ -213,6 +221,24 @@ fn prints(figures: &mut Figures) {
     for (name, cache) in towers() {
         let name = format!("{name}: a cache that no text makes; refused");
         print(&name, &cache, ENTRIES as u32 - 1, 15);
+    }
+}
+
+/// Evaluations of the whole of a text: the deepest texts, runs in one another, and lets that each use the one before them.
+fn evaluations(figures: &mut Figures) {
+    let runs = runs().map(|(name, text)| (name, text.into_bytes()));
+    let lets = [
+        ("lets in bodies that double 14 times", texts::doubled(14)),
+        ("lets in values that double 31 times", doubled_deep("1", 31).into_bytes()),
+        (
+            "1 run, lets in values that double 31 times",
+            format!(r"data.sumBy(\x -> {})", doubled_deep("x", 31)).into_bytes(),
+        ),
+    ];
+    for (name, text) in texts().into_iter().chain(runs).chain(lets) {
+        let place = cache::place_of_whole(&text);
+        let evaluate = used(|| assert_eq!(cache::evaluate(&text, &FEW, place).refusal, 0));
+        bytes(&format!("evaluate: {name}"), evaluate, figures);
     }
 }
 

@@ -199,12 +199,3 @@ pub fn stretches_in_body() -> String {
     let sums: String = (1..=29).map(|w| format!(".sub(w.bestSum({w}))")).collect();
     format!(r"data.sumBy(\b -> let w = data.take(b.mul(1024)) in b{sums})")
 }
-
-/// Runs within runs, 22 deep, in 127 parts: each let's function runs the one before it, over a window that depends on its own variable. No
-/// text is deeper: docs/NESTING.md.
-pub fn nested_runs() -> String {
-    let two = r"\a -> data.take(a).sumBy(\b -> data.take(b).sumBy(f))";
-    let mut text = r"let f = \a -> data.sumBy(\b -> a) in ".to_string();
-    text += &format!("let f = {two} in ").repeat(9);
-    text + &format!("data.sumBy({two})")
-}

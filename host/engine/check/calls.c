@@ -5,6 +5,8 @@
 #include <stdio.h>
 #include <string.h>
 
+static const int32_t recording[] = {140, 152, 160, 148, 155};
+static const int32_t long_recording[FORMULA_RECORDING_READINGS + 1] = {1};
 static formula_cache cache;
 static uint16_t places[FORMULA_PLACES];
 
@@ -42,6 +44,44 @@ static void print(uint32_t entry, size_t room)
     printf("print %" PRIu32 " %" PRIu32 " [%.*s]\n", answer.refusal, answer.length, (int)answer.length + 2, text);
 }
 
+static void evaluate(const char *text, size_t length, const int32_t *readings, size_t readings_length, uint32_t place)
+{
+    char name[FORMULA_NAME_BYTES + 1];
+    char other[FORMULA_NAME_BYTES + 1];
+    formula_evaluate_answer answer = formula_text_evaluate(text, length, readings, readings_length, place);
+    formula_name_text(answer.name, name);
+    formula_name_text(answer.other, other);
+    printf("evaluate %" PRIu32 " %" PRIu32 " %" PRIu32 " %" PRIu32 " %" PRId32 " %" PRIu32 " [%s] [%s]\n",
+           answer.refusal, answer.place, answer.parts, answer.kind, answer.first, answer.second, name, other);
+}
+
+/* The first places of a text. */
+static void evaluate_places(const char *text, uint32_t count)
+{
+    uint32_t place;
+    for (place = 0; place < count; place++) {
+        evaluate(text, strlen(text), recording, 5, place);
+    }
+}
+
+/* Text and recording are constants: a call that writes to them ends the program. */
+static void evaluations(void)
+{
+    static const char long_text[FORMULA_TEXT_BYTES + 1] = "1";
+    evaluate_places("let x = 2 in data.skip(1).take(x)", 8);
+    evaluate_places("\\abcdefgh -> \\z9 -> abcdefgh.add(z9)", 5);
+    evaluate_places("-2147483648.div(-1)", 3);
+    evaluate_places("data.", 1);
+    evaluate_places("abcdefgh.add(abcdefghi)", 1);
+    evaluate("1", 1, recording, 5, UINT32_MAX);
+    evaluate("data.count()!", 12, NULL, 0, 1);
+    evaluate(NULL, 0, NULL, 0, 0);
+    evaluate(NULL, 0, long_recording, FORMULA_RECORDING_READINGS, 0);
+    evaluate(NULL, 0, long_recording, FORMULA_RECORDING_READINGS + 1, 0);
+    evaluate(long_text, FORMULA_TEXT_BYTES, long_recording, FORMULA_RECORDING_READINGS, 1);
+    evaluate(long_text, FORMULA_TEXT_BYTES + 1, long_recording, FORMULA_RECORDING_READINGS + 1, 1);
+}
+
 static void depth(uint32_t entry)
 {
     printf("depth %u\n", formula_cache_run_depth(&cache, entry));
@@ -49,8 +89,6 @@ static void depth(uint32_t entry)
 
 int main(void)
 {
-    static const int32_t recording[] = {140, 152, 160, 148, 155};
-    static const int32_t long_recording[FORMULA_RECORDING_READINGS + 1];
     memset(&cache, 0xff, sizeof cache);
     printf("open %" PRIu32 "\n", formula_cache_open(&cache, long_recording, FORMULA_RECORDING_READINGS + 1));
     edit("data");
@@ -136,5 +174,6 @@ int main(void)
     memset(&cache, 0xff, sizeof cache);
     depth(511);
     depth(512);
+    evaluations();
     return 0;
 }

@@ -15,6 +15,8 @@ static formula_preview_answer (*const preview_call)(uint32_t, uint32_t, const in
 static formula_print_answer (*const print_call)(uint32_t, uint8_t *, size_t, const int32_t *, size_t,
                                                 const uint32_t *, size_t, const uint16_t *, size_t,
                                                 const uint64_t *, size_t) = formula_print;
+static formula_evaluate_answer (*const evaluate_call)(const uint8_t *, size_t, const int32_t *, size_t,
+                                                      uint32_t) = formula_evaluate;
 
 #define SAY(name, number) printf("%s %lu\n", name, (unsigned long)(number))
 #define SIZE(type) SAY("sizeof " #type, sizeof(type))
@@ -26,6 +28,7 @@ static void sizes(void)
     SIZE(formula_edit_answer);
     SIZE(formula_preview_answer);
     SIZE(formula_print_answer);
+    SIZE(formula_evaluate_answer);
     SIZE(formula_cache);
     FIELD(formula_edit_answer, refusal);
     FIELD(formula_edit_answer, place);
@@ -42,6 +45,14 @@ static void sizes(void)
     FIELD(formula_preview_answer, other);
     FIELD(formula_print_answer, refusal);
     FIELD(formula_print_answer, length);
+    FIELD(formula_evaluate_answer, refusal);
+    FIELD(formula_evaluate_answer, place);
+    FIELD(formula_evaluate_answer, parts);
+    FIELD(formula_evaluate_answer, kind);
+    FIELD(formula_evaluate_answer, first);
+    FIELD(formula_evaluate_answer, second);
+    FIELD(formula_evaluate_answer, name);
+    FIELD(formula_evaluate_answer, other);
     VALUE(FORMULA_RECORDING_READINGS);
     VALUE(FORMULA_TEXT_BYTES);
     VALUE(FORMULA_TEXT_PARTS);
@@ -90,7 +101,7 @@ static void numbers(void)
 
 int main(void)
 {
-    if (open_call == NULL || edit_call == NULL || preview_call == NULL || print_call == NULL) {
+    if (open_call == NULL || edit_call == NULL || preview_call == NULL || print_call == NULL || evaluate_call == NULL) {
         return 1;
     }
     sizes();

@@ -5,11 +5,10 @@ use crate::ffi::{
     EditAnswer, PreviewAnswer, PrintAnswer, formula_edit, formula_open, formula_preview,
     formula_print,
 };
-use crate::lent::{Cell, Lent};
-use crate::memory::{CELLS, HEADS, LINKS, Memory, READINGS, name, names};
+use crate::fields::Fields;
+use crate::lent::{Cell, Lent, Read};
+use crate::memory::{CELLS, HEADS, LINKS, Memory, READINGS};
 use plain::model::{Answer, Call};
-use plain::name::Name;
-use plain::shown::{Shown, Window};
 
 /// What the lent places hold before an edit.
 const OLD_PLACE: u16 = 0xd17e;
@@ -124,7 +123,7 @@ impl Cache {
         // SAFETY: each pointer is good for its length, and no two slices overlap.
         let refusal = unsafe {
             formula_open(
-                recording.lent.pointer(),
+                recording.pointer(),
                 recording.length(),
                 self.readings.pointer(),
                 lengths.readings,
@@ -146,7 +145,7 @@ impl Cache {
         // SAFETY: each pointer is good for its length, and no two slices overlap.
         let answer = unsafe {
             formula_edit(
-                text.lent.pointer(),
+                text.pointer(),
                 text.length(),
                 places.pointer(),
                 places.contents().len(),
@@ -207,27 +206,6 @@ impl Cache {
     }
 }
 
-/// A slice that is lent to be read only.
-struct Read<T> {
-    lent: Lent<T>,
-    contents: Vec<T>,
-}
-
-impl<T: Cell> Read<T> {
-    fn new(contents: &[T]) -> Read<T> {
-        Read { lent: Lent::new(contents), contents: contents.to_vec() }
-    }
-
-    fn length(&self) -> usize {
-        self.contents.len()
-    }
-
-    fn check(&self, what: &str) {
-        let is_kept = self.lent.contents() == self.contents && self.lent.is_guarded();
-        assert!(is_kept, "the {what} was written");
-    }
-}
-
 fn refused(number: u32, place: u32) -> Answer {
     Answer::Refused { number: u8::try_from(number).expect("refusals are 1 to 16"), place }
 }
@@ -265,74 +243,18 @@ fn edit_answer(raw: EditAnswer, places: &[u16]) -> Answer {
 
 /// A preview's answer in the model's terms. Fields without a value are 0.
 fn preview_answer(raw: PreviewAnswer) -> Answer {
-    let answer = match (raw.refusal, raw.finished) {
-        (0, 0) => Answer::NotYet { worked: raw.worked },
-        (0, _) => Answer::Finished { worked: raw.worked, shown: shown(raw) },
-        (refusal, _) => refused(refusal, 0),
-    };
-    assert_eq!(raw, raw_preview(&answer), "a field without a value is not 0");
-    answer
-}
-
-fn shown(raw: PreviewAnswer) -> Shown {
-    match raw.kind {
-        1 => Shown::Number(raw.first),
-        2 => Shown::Window(Window {
-            start: usize::try_from(raw.first).expect("a start is not negative"),
-            length: raw.second as usize,
-        }),
-        3 => Shown::Function(name(raw.name)),
-        4 => Shown::Delayed(names([raw.name, raw.other])),
-        5 => Shown::Missing(u8::try_from(raw.first).expect("reasons are 1 to 5")),
-        _ => panic!("{raw:?}"),
-    }
-}
-
-/// The answer as the C interface gives it.
-fn raw_preview(answer: &Answer) -> PreviewAnswer {
-    let nothing = PreviewAnswer {
-        refusal: 0,
-        finished: 0,
-        worked: 0,
-        kind: 0,
-        first: 0,
-        second: 0,
-        name: 0,
-        other: 0,
-    };
-    match answer {
-        Answer::NotYet { worked } => PreviewAnswer { worked: *worked, ..nothing },
-        Answer::Refused { number, .. } => PreviewAnswer { refusal: (*number).into(), ..nothing },
-        Answer::Finished { worked, shown } => {
-            raw_shown(PreviewAnswer { finished: 1, worked: *worked, ..nothing }, shown)
-        }
-        Answer::Opened | Answer::Edited { .. } | Answer::Printed { .. } => {
-            panic!("no preview is answered so")
+    let (worked, fields) = (raw.worked, Fields::from(raw));
+    match (raw.refusal, raw.finished) {
+        (0, 1) => Answer::Finished { worked, shown: fields.shown() },
+        (refusal, finished) => {
+            assert_eq!((finished, fields), (0, Fields::default()), "{raw:?}");
+            if refusal == 0 {
+                return Answer::NotYet { worked };
+            }
+            assert_eq!(worked, 0, "{raw:?}");
+            refused(refusal, 0)
         }
     }
-}
-
-fn raw_shown(raw: PreviewAnswer, shown: &Shown) -> PreviewAnswer {
-    match shown {
-        Shown::Number(value) => PreviewAnswer { kind: 1, first: *value, ..raw },
-        Shown::Window(window) => PreviewAnswer {
-            kind: 2,
-            first: window.start as i32,
-            second: window.length as u32,
-            ..raw
-        },
-        Shown::Function(name) => PreviewAnswer { kind: 3, name: packed(name), ..raw },
-        Shown::Delayed(names) => {
-            let number = |i: usize| names.get(i).map_or(0, packed);
-            PreviewAnswer { kind: 4, name: number(0), other: number(1), ..raw }
-        }
-        Shown::Missing(reason) => PreviewAnswer { kind: 5, first: (*reason).into(), ..raw },
-    }
-}
-
-/// A name in base 256, the first byte highest.
-pub fn packed(name: &Name) -> u64 {
-    name.word().bytes().fold(0, |number, byte| number * 256 + u64::from(byte))
 }
 
 /// That the call wrote what its answer says, and nothing else.

@@ -71,3 +71,11 @@ pub fn follow(cache: &mut Cache, steps: &[Step]) {
         assert_eq!(cache.call(call), *answer, "{call:?}");
     }
 }
+
+/// A number that the environment sets, for more or other random data.
+pub fn setting(name: &str, otherwise: u64) -> u64 {
+    match std::env::var(name) {
+        Ok(value) => value.parse().unwrap_or_else(|_| panic!("{name} is no number: {value}")),
+        Err(_) => otherwise,
+    }
+}

@@ -33,6 +33,20 @@ pub struct PrintAnswer {
     pub length: u32,
 }
 
+/// The answer to an evaluation.
+#[repr(C)]
+#[derive(Clone, Copy, PartialEq, Eq, Debug)]
+pub struct EvaluateAnswer {
+    pub refusal: u32,
+    pub place: u32,
+    pub parts: u32,
+    pub kind: u32,
+    pub first: i32,
+    pub second: u32,
+    pub name: u64,
+    pub other: u64,
+}
+
 unsafe extern "C" {
     pub fn formula_open(
         recording: *const i32,
@@ -88,4 +102,12 @@ unsafe extern "C" {
         cells: *const u64,
         cells_length: usize,
     ) -> PrintAnswer;
+
+    pub fn formula_evaluate(
+        text: *const u8,
+        text_length: usize,
+        recording: *const i32,
+        recording_length: usize,
+        place: u32,
+    ) -> EvaluateAnswer;
 }

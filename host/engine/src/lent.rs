@@ -66,3 +66,28 @@ impl<T: Cell> Lent<T> {
         self.all[..GUARDS].iter().all(is_guard) && self.all[behind..].iter().all(is_guard)
     }
 }
+
+/// A slice that is lent to be read only.
+pub struct Read<T> {
+    lent: Lent<T>,
+    contents: Vec<T>,
+}
+
+impl<T: Cell> Read<T> {
+    pub fn new(contents: &[T]) -> Read<T> {
+        Read { lent: Lent::new(contents), contents: contents.to_vec() }
+    }
+
+    pub fn pointer(&mut self) -> *const T {
+        self.lent.pointer()
+    }
+
+    pub fn length(&self) -> usize {
+        self.contents.len()
+    }
+
+    pub fn check(&self, what: &str) {
+        let is_kept = self.lent.contents() == self.contents && self.lent.is_guarded();
+        assert!(is_kept, "the {what} was written");
+    }
+}

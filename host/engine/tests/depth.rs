@@ -13,6 +13,7 @@ use plain::random::nested::nested;
 use plain::random::pasted::pasted;
 use plain::random::rng::Rng;
 use plain::samples::previews;
+use plain::samples::taken::nested_runs;
 use plain::syntax::parse;
 use std::path::{Path, PathBuf};
 use std::process::Command;
@@ -26,13 +27,6 @@ fn program(name: &str) -> PathBuf {
 const MEAN_AND_DISTANCE: &str = r"let mean = data.sumBy(\b -> b).div(data.count()) in
     let far = data.sumBy(\b -> b.sub(mean).mul(b.sub(mean))).div(data.count()) in
     data.countWhere(\b -> b.sub(mean).mul(b.sub(mean)).gt(far))";
-
-/// The deepest text of docs/NESTING.md.
-fn deepest_text() -> String {
-    let two = r"\a -> data.take(a).sumBy(\b -> data.take(b).sumBy(f))";
-    let lets = format!("let f = {two} in ").repeat(9);
-    format!(r"let f = \a -> data.sumBy(\b -> a) in {lets}data.sumBy({two})")
-}
 
 /// Texts with the depth of their whole entry.
 fn known_depths() -> Vec<(String, u32)> {
@@ -76,7 +70,7 @@ fn known_depths() -> Vec<(String, u32)> {
         ),
     ];
     let texts = known.map(|(text, depth)| (text.to_string(), depth)).into_iter();
-    texts.chain([(deepest_text(), 22)]).collect()
+    texts.chain([(nested_runs(22), 22)]).collect()
 }
 
 /// For each form the deepest nest of runs at it or below it.

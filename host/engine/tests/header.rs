@@ -2,7 +2,7 @@
 //! C and C++ of all standards, and calls through its wrappers get the engine's answers.
 //! And docs/MEMORY.md, which it refers to, has the kinds of the member table.
 
-use engine::ffi::{EditAnswer, PreviewAnswer, PrintAnswer};
+use engine::ffi::{EditAnswer, EvaluateAnswer, PreviewAnswer, PrintAnswer};
 use engine::memory;
 use engine::program::{check, compiler, exists, linked, root, run, text, written};
 use plain::member::Member;
@@ -31,6 +31,7 @@ fn layout() -> Vec<(&'static str, usize)> {
         ("sizeof formula_edit_answer", size_of::<EditAnswer>()),
         ("sizeof formula_preview_answer", size_of::<PreviewAnswer>()),
         ("sizeof formula_print_answer", size_of::<PrintAnswer>()),
+        ("sizeof formula_evaluate_answer", size_of::<EvaluateAnswer>()),
         ("sizeof formula_cache", 24_584),
         ("formula_edit_answer.refusal", offset_of!(EditAnswer, refusal)),
         ("formula_edit_answer.place", offset_of!(EditAnswer, place)),
@@ -47,6 +48,14 @@ fn layout() -> Vec<(&'static str, usize)> {
         ("formula_preview_answer.other", offset_of!(PreviewAnswer, other)),
         ("formula_print_answer.refusal", offset_of!(PrintAnswer, refusal)),
         ("formula_print_answer.length", offset_of!(PrintAnswer, length)),
+        ("formula_evaluate_answer.refusal", offset_of!(EvaluateAnswer, refusal)),
+        ("formula_evaluate_answer.place", offset_of!(EvaluateAnswer, place)),
+        ("formula_evaluate_answer.parts", offset_of!(EvaluateAnswer, parts)),
+        ("formula_evaluate_answer.kind", offset_of!(EvaluateAnswer, kind)),
+        ("formula_evaluate_answer.first", offset_of!(EvaluateAnswer, first)),
+        ("formula_evaluate_answer.second", offset_of!(EvaluateAnswer, second)),
+        ("formula_evaluate_answer.name", offset_of!(EvaluateAnswer, name)),
+        ("formula_evaluate_answer.other", offset_of!(EvaluateAnswer, other)),
     ]
 }
 
@@ -140,7 +149,7 @@ uint32_t use(formula_cache *cache, uint16_t *places, char *name)
     formula_name_text(0x61, name);
     return formula_cache_open(cache, NULL, 0) + formula_cache_edit(cache, \"1\", 1, places).whole +
            formula_cache_preview(cache, 0, 1).worked + formula_cache_run_depth(cache, 0) +
-           formula_cache_print(cache, 0, name, 1).length;
+           formula_cache_print(cache, 0, name, 1).length + formula_text_evaluate(name, 1, NULL, 0, 0).parts;
 }
 ";
 
@@ -190,8 +199,13 @@ fn the_assertions_refuse_other_sizes() {
         ("FORMULA_LINKS_CELLS 2048", "FORMULA_LINKS_CELLS 1536"),
         ("FORMULA_HEADS_CELLS 2", "FORMULA_HEADS_CELLS 4"),
         ("uint32_t added;", "uint64_t added;"),
-        ("int32_t first;", "int64_t first;"),
+        ("uint32_t worked;", "uint64_t worked;"),
         ("uint32_t length;", "uint64_t length;"),
+        ("uint64_t other;\n} formula_evaluate", "uint64_t other, another;\n} formula_evaluate"),
+        (
+            "uint32_t parts;   /* how many parts the text has */\n    uint32_t kind;",
+            "uint32_t kind;",
+        ),
     ];
     for (old, new) in changes {
         assert_eq!(header().matches(old).count(), 1, "{old}");
@@ -293,6 +307,31 @@ fn calls_from_c() {
         preview 0 1 1 5 5 0 [] []\n\
         edit 0 0 61 3 1: 1 61 12\n\
         preview 0 1 1 2 0 0 [] []\n\
-        depth 0\ndepth 0\n";
+        depth 0\ndepth 0\n\
+        evaluate 0 0 7 2 1 2 [] []\n\
+        evaluate 0 0 7 1 2 0 [] []\n\
+        evaluate 0 0 7 2 0 5 [] []\n\
+        evaluate 0 0 7 2 1 4 [] []\n\
+        evaluate 0 0 7 1 1 0 [] []\n\
+        evaluate 0 0 7 2 1 2 [] []\n\
+        evaluate 0 0 7 1 2 0 [] []\n\
+        evaluate 14 0 0 0 0 0 [] []\n\
+        evaluate 0 0 5 3 0 0 [abcdefgh] []\n\
+        evaluate 0 0 5 4 0 0 [abcdefgh] []\n\
+        evaluate 0 0 5 4 0 0 [abcdefgh] []\n\
+        evaluate 0 0 5 4 0 0 [abcdefgh] [z9]\n\
+        evaluate 0 0 5 4 0 0 [z9] []\n\
+        evaluate 0 0 3 1 -2147483648 0 [] []\n\
+        evaluate 0 0 3 5 4 0 [] []\n\
+        evaluate 0 0 3 1 -1 0 [] []\n\
+        evaluate 5 5 0 0 0 0 [] []\n\
+        evaluate 7 13 0 0 0 0 [] []\n\
+        evaluate 14 0 0 0 0 0 [] []\n\
+        evaluate 0 0 2 1 0 0 [] []\n\
+        evaluate 5 0 0 0 0 0 [] []\n\
+        evaluate 5 0 0 0 0 0 [] []\n\
+        evaluate 2 0 0 0 0 0 [] []\n\
+        evaluate 5 1 0 0 0 0 [] []\n\
+        evaluate 1 0 0 0 0 0 [] []\n";
     assert_eq!(said("calls"), expected);
 }

@@ -3,7 +3,7 @@
 //! FORMULA_SEED and FORMULA_CALLS set another first seed and number of calls:
 //!     FORMULA_SEED=77 FORMULA_CALLS=5000000 cargo test --release -p engine --test sessions
 
-use engine::compare::Pair;
+use engine::compare::{Pair, setting};
 use plain::limits::{TABLE_ENTRIES, TEXT_BYTES};
 use plain::model::Answer;
 use plain::random::formula::{formula, join};
@@ -23,13 +23,6 @@ use std::thread;
 const CALLS_OF_SESSION: usize = 80;
 
 const FULL: Answer = Answer::Refused { number: TABLE_FULL, place: 0 };
-
-fn setting(name: &str, otherwise: u64) -> u64 {
-    match std::env::var(name) {
-        Ok(value) => value.parse().unwrap_or_else(|_| panic!("{name} is no number: {value}")),
-        Err(_) => otherwise,
-    }
-}
 
 /// One session in both, from memory of any contents.
 fn run(seed: u64) -> Tally {

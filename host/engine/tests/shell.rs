@@ -3,7 +3,7 @@
 
 use engine::program::{self, check, linked, root, text, written};
 use plain::samples::printed::{declined, printed_at_limits};
-use plain::samples::taken::forms_128;
+use plain::samples::taken::{forms_128, nested_runs};
 use std::path::{Path, PathBuf};
 use std::process::{Command, Output};
 use std::sync::OnceLock;
@@ -36,6 +36,57 @@ fn the_stored_example() {
     let output = written(&run(&["shell/interval.txt"], &input));
     assert_eq!(output, stored.expect("the example is there"));
     assert_eq!(written(&run(&[], &input)), output);
+    assert_eq!(written(&run(&["--plain-check", "shell/interval.txt"], &input)), output);
+    assert_eq!(written(&run(&["--plain-check"], &input)), output);
+}
+
+/// With --plain-check a part that is evaluated to something else says so in its row, in
+/// whichever field it is, and the exit status is 3. A part that is not finished is not
+/// evaluated, and without the option none is.
+#[test]
+fn evaluations_that_differ() {
+    let program = linked(&check("differing.c"), &folder().join("differing"));
+    let path = folder().join("three.txt");
+    std::fs::write(&path, "7 8 9").expect("the folder can be written");
+    let seen = |option: Option<&str>, formula: &str| {
+        let mut command = Command::new(&program);
+        program::run(command.args(option).arg(&path), formula.as_bytes())
+    };
+    let checked = |formula: &str| {
+        let output = seen(Some("--plain-check"), formula);
+        assert_eq!(output.status.code(), Some(3), "{formula}");
+        let rows: Vec<String> = text(&output.stdout)
+            .lines()
+            .filter(|line| line.contains("entry "))
+            .map(evaluated)
+            .collect();
+        let count = rows.iter().filter(|row| !row.is_empty()).count();
+        assert!(text(&output.stderr).ends_with(&format!("without the cache: {count}\n")));
+        rows
+    };
+    assert_eq!(
+        checked(r"\a -> \b -> a.add(b)"),
+        [
+            "refusal 0, parts 5, kind 3, 0 0 [b] []",
+            "refusal 0, parts 5, kind 4, 0 0 [a] [a]",
+            "refusal 0, parts 5, kind 4, 0 0 [a] [a]",
+            "refusal 0, parts 5, kind 4, 0 0 [a] [a]",
+            "refusal 0, parts 5, kind 4, 0 0 [b] [b]",
+        ]
+    );
+    let window = "refusal 0, parts 3, kind 2, 0 4 [] []";
+    let outside = "refusal 0, parts 4, kind 5, 5 0 [] []";
+    assert_eq!(checked("data.at(3)"), [window, outside, "refusal 0, parts 3, kind 1, 4 0 [] []"]);
+    assert_eq!(checked("y"), ["refusal 0, parts 1, kind 1, 1 0 [] []"]);
+    assert_eq!(checked("1.div(0)")[1], "refusal 14, parts 3, kind 5, 3 0 [] []");
+    let deep = checked(&nested_runs(4));
+    assert_eq!(deep.iter().filter(|row| row.is_empty()).count(), 2, "{deep:?}");
+    assert!(!written(&seen(None, "data.at(3)")).contains("evaluated"));
+}
+
+/// What a row says about the evaluation of its part, or nothing.
+fn evaluated(row: &str) -> String {
+    row.split_once("; evaluated: ").map_or(String::new(), |(_, words)| words.to_string())
 }
 
 #[test]
@@ -79,8 +130,9 @@ fn recordings_that_cannot_be_used() {
     check_bad(&output, "zero.txt:1: '12' is no number");
     let long = "7 ".repeat(1025);
     check_bad(&run_over("long.txt", &long, b"data\n"), "long.txt:1: over 1024 readings");
-    let output = run(&["one", "two"], b"");
-    assert_eq!(output.status.code(), Some(2));
+    for arguments in [&["one", "two"][..], &["--plain-check", "one", "two"]] {
+        assert_eq!(run(arguments, b"").status.code(), Some(2));
+    }
 }
 
 #[test]
@@ -197,14 +249,10 @@ fn parts_in_full() {
 #[test]
 fn runs_too_deep_for_the_stack() {
     let seen = |formula: &str| written(&run_over("one.txt", "1", formula.as_bytes()));
-    let three = r"let f = \a -> data.sumBy(\b -> a) in data.sumBy(\a -> data.take(a).sumBy(f))";
-    assert!(!seen(three).contains("too much work"), "{}", seen(three));
-    let four = r"let f = \a -> data.sumBy(\b -> a) in
-        data.sumBy(\a -> data.take(a).sumBy(\b -> data.take(b).sumBy(f)))";
-    let four = seen(&four.replace('\n', " "));
+    let three = seen(&nested_runs(3));
+    assert!(!three.contains("too much work"), "{three}");
+    let four = seen(&nested_runs(4));
     assert_eq!(four.matches("too much work: runs 4 deep\n").count(), 2, "{four}");
-    let two = r"\a -> data.take(a).sumBy(\b -> data.take(b).sumBy(f))";
-    let lets = format!("let f = {two} in ").repeat(9);
-    let deepest = seen(&format!(r"let f = \a -> data.sumBy(\b -> a) in {lets}data.sumBy({two})"));
+    let deepest = seen(&nested_runs(22));
     assert!(deepest.contains("too much work: runs 22 deep\n"), "{deepest}");
 }

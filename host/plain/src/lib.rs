@@ -7,11 +7,12 @@
 //! refuses one, `bind` turns the tree into let-free forms, `form` numbers them. One
 //! preview takes `eval`, which knows the members by the table in `member` and their rules
 //! in `rule`. `print` writes a form as a text. `model` holds the state and decides each
-//! call. `samples` and `random` are data for tests, and `tally` counts what random data
-//! reaches.
+//! call. `evaluate` (02, T-07) shows a part of a text without a state. `samples` and `random`
+//! are data for tests, and `tally` counts what random data reaches.
 
 pub mod bind;
 pub mod eval;
+pub mod evaluate;
 pub mod form;
 pub mod limits;
 pub mod member;

@@ -31,7 +31,7 @@ const MOST_RUNS: usize = 5_000;
 /// A session of `calls` calls. The first is an open that is accepted.
 pub fn session(seed: u64, calls: usize) -> Vec<Call> {
     let mut generator = Generator::new(seed);
-    let readings = generator.short_recording();
+    let readings = short_recording(&mut generator.rng);
     let mut list = Vec::new();
     let mut call = Call::Open { readings, enough: true };
     while list.len() < calls {
@@ -88,7 +88,7 @@ impl Generator {
         let readings = match self.rng.below(8) {
             0 => vec![self.rng.reading(); 1025],
             1 => (0..1024).map(|_| self.rng.reading()).collect(),
-            _ => self.short_recording(),
+            _ => short_recording(&mut self.rng),
         };
         Call::Open { readings, enough: self.is_enough() }
     }
@@ -125,12 +125,6 @@ impl Generator {
             5..=8 => self.rng.pick(&self.last_places),
             _ => self.last_whole,
         }
-    }
-
-    /// Short, since runs within runs multiply a recording's length.
-    fn short_recording(&mut self) -> Vec<i32> {
-        let length = self.rng.pick(&[0, 1, 2, 3, 4, 5, 6, 7, 8, 12, 30]);
-        (0..length).map(|_| self.rng.reading()).collect()
     }
 
     /// A text that takes few runs over the recording.
@@ -190,6 +184,33 @@ impl Generator {
             text[place] = b'0' + self.rng.below(10) as u8;
         }
         text
+    }
+}
+
+/// Short, since runs within runs multiply a recording's length.
+pub fn short_recording(rng: &mut Rng) -> Vec<i32> {
+    let length = rng.pick(&[0, 1, 2, 3, 4, 5, 6, 7, 8, 12, 30]);
+    (0..length).map(|_| rng.reading()).collect()
+}
+
+/// A text of any sort: mostly a formula, some of them damaged or near a limit, and now and
+/// then any bytes.
+pub fn any_text(rng: &mut Rng) -> Vec<u8> {
+    match rng.below(24) {
+        0 | 1 => wide(rng),
+        2 | 3 => deep(rng),
+        4 | 5 => grown(rng),
+        6 => token_soup(rng),
+        7 => (0..rng.below(20)).map(|_| rng.draw() as u8).collect(),
+        8..=12 => pasted(rng),
+        kind => {
+            let tokens = match kind {
+                13..=15 => nested(rng),
+                16 | 17 => single(rng),
+                _ => formula(rng),
+            };
+            if kind >= 20 { damaged(rng, tokens) } else { join(rng, &tokens) }
+        }
     }
 }
 

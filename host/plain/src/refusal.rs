@@ -28,7 +28,7 @@ pub const LAMBDA_NAME_REPEATED: u8 = 11;
 pub const TEXT_LIMIT: u8 = 12;
 /// 13: entries held plus new forms exceed 512.
 pub const TABLE_FULL: u8 = 13;
-/// 14: no such entry.
+/// 14: no such entry; of an evaluation (02, T-07), no such part.
 pub const NO_SUCH_ENTRY: u8 = 14;
 /// 15: the printed text exceeds the lent bytes, or the reader would decline it with 1 or
 /// 5 to 12.
@@ -36,7 +36,7 @@ pub const TEXT_UNFIT: u8 = 15;
 /// 16: the printed text, read by itself, has a different let-free form.
 pub const OTHER_FORM: u8 = 16;
 
-/// Why a text is refused under 5 to 12, and the byte place of the token.
+/// Why a text is refused, and for 5 to 12 the byte place of the token, else 0.
 #[derive(Clone, Copy, PartialEq, Eq, Debug)]
 pub struct Refusal {
     pub number: u8,

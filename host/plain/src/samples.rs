@@ -2,6 +2,7 @@
 //! Tests of the model use them, and tests of the engine can use them as well.
 
 pub mod calls;
+pub mod evaluated;
 pub mod printed;
 pub mod refused;
 pub mod taken;

@@ -8,7 +8,7 @@ use crate::limits::TEXT_BYTES;
 use crate::member::{Kind, Member};
 use crate::model::{Answer, Call, Model};
 use crate::print::{Fault, print, written};
-use crate::refusal::{LAMBDA_NAME_REPEATED, OTHER_FORM, TEXT_TOO_LONG};
+use crate::refusal::{LAMBDA_NAME_REPEATED, OTHER_FORM, Refusal, TEXT_TOO_LONG};
 use crate::shown::{OUTSIDE_WINDOW, Shown, UNBOUND_NAME};
 use crate::syntax::parse;
 use std::collections::BTreeMap;
@@ -31,6 +31,15 @@ pub struct Tally {
 impl Tally {
     pub fn count(&mut self, answer: &Answer) {
         *self.answers.entry(label(answer)).or_default() += 1;
+    }
+
+    /// Counts what an evaluation (02, T-07) came to.
+    pub fn count_evaluated(&mut self, answer: Result<&Shown, Refusal>) {
+        let label = match answer {
+            Ok(shown) => shown_label(shown),
+            Err(refusal) => format!("refused {}", refusal.number),
+        };
+        *self.answers.entry(label).or_default() += 1;
     }
 
     /// Counts what a member shows by its own rule. With a dependency that is missing or

@@ -9,6 +9,7 @@ use plain::random::formula::{formula, join};
 use plain::random::nested::nested;
 use plain::random::rng::Rng;
 use plain::refusal::TEXT_LIMIT;
+use plain::samples::taken::nested_runs;
 use plain::syntax::{Text, parse};
 
 /// Texts of up to so many parts are all tried.
@@ -30,23 +31,10 @@ fn depth(text: &Text) -> usize {
     nesting(&forms).into_iter().max().expect("a text has a form") as usize
 }
 
-/// A text of `depth` runs in one another, at least two: each let's function runs the
-/// one before it, over a window that depends on its own variable.
-fn deepest(depth: usize) -> String {
-    if depth == 2 {
-        return r"data.sumBy(\a -> data.sumBy(\b -> a))".to_string();
-    }
-    let two = r"\a -> data.take(a).sumBy(\b -> data.take(b).sumBy(f))";
-    let one = r"\a -> data.take(a).sumBy(f)";
-    let mut text = r"let f = \a -> data.sumBy(\b -> a) in ".to_string();
-    text += &format!("let f = {two} in ").repeat((depth - 3) / 2);
-    text + &format!("data.sumBy({})", if depth.is_multiple_of(2) { two } else { one })
-}
-
 #[test]
 fn each_depth_up_to_22_is_reached() {
     for wanted in 2..=22 {
-        let text = parse(deepest(wanted).as_bytes()).expect("a text within the limits");
+        let text = parse(nested_runs(wanted).as_bytes()).expect("a text within the limits");
         assert_eq!((depth(&text), text.parts), (wanted, least_parts(wanted)));
     }
 }
@@ -54,7 +42,7 @@ fn each_depth_up_to_22_is_reached() {
 #[test]
 fn depth_23_needs_more_parts_than_a_text_has() {
     assert!(least_parts(22) <= TEXT_PARTS && TEXT_PARTS < least_parts(23));
-    let refusal = parse(deepest(23).as_bytes()).expect_err("a text with too many parts");
+    let refusal = parse(nested_runs(23).as_bytes()).expect_err("a text with too many parts");
     assert_eq!(refusal.number, TEXT_LIMIT);
 }
 

@@ -5,11 +5,7 @@ mod common;
 use common::opened;
 use plain::model::Answer;
 use plain::name::Name;
-use plain::random::damage::{damaged, token_soup};
-use plain::random::formula::{formula, join};
-use plain::random::limit::{deep, grown, wide};
-use plain::random::nested::nested;
-use plain::random::pasted::pasted;
+use plain::random::any_text;
 use plain::random::rng::Rng;
 use plain::refusal::{LAMBDA_NAME_REPEATED, Refusal};
 use plain::samples::refused::{RefusedText, refused_texts, table};
@@ -90,20 +86,6 @@ fn has_hidden(expression: &Expression, around: &[Name]) -> bool {
         }
         Expression::Brackets(inner) => has_hidden(inner, around),
         Expression::Name { .. } | Expression::Number { .. } => false,
-    }
-}
-
-fn any_text(rng: &mut Rng) -> Vec<u8> {
-    match rng.below(9) {
-        0 => wide(rng),
-        1 => deep(rng),
-        2 => grown(rng),
-        3 => token_soup(rng),
-        4 | 5 => pasted(rng),
-        kind => {
-            let tokens = if kind == 6 { nested(rng) } else { formula(rng) };
-            if kind == 8 { damaged(rng, tokens) } else { join(rng, &tokens) }
-        }
     }
 }
 

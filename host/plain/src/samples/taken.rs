@@ -46,6 +46,35 @@ pub fn doubled(value: &str, times: usize, body: &str) -> String {
     text + &body.replace("LAST", &last)
 }
 
+/// Runs `depth` deep in one another, from 2 on: each let's function runs the one before it, over
+/// a window that depends on its own variable. docs/NESTING.md has the parts that it takes.
+pub fn nested_runs(depth: usize) -> String {
+    if depth == 2 {
+        return r"data.sumBy(\a -> data.sumBy(\b -> a))".to_string();
+    }
+    let two = r"\a -> data.take(a).sumBy(\b -> data.take(b).sumBy(f))";
+    let one = r"\a -> data.take(a).sumBy(f)";
+    let mut text = r"let f = \a -> data.sumBy(\b -> a) in ".to_string();
+    text += &format!("let f = {two} in ").repeat((depth - 3) / 2);
+    text + &format!("data.sumBy({})", if depth.is_multiple_of(2) { two } else { one })
+}
+
+/// A value doubled so many times, each time by a let of four parts: 31 times in 125 parts, if
+/// the value is one part. The lets stand in one another's values, ten of them at most; then the
+/// text goes on in the body of a let around these.
+pub fn doubled_deep(value: &str, times: usize) -> String {
+    let in_values = |value: &str, times: usize| {
+        (0..times).fold(value.to_string(), |text, _| format!("let x = {text} in x.add(x)"))
+    };
+    match times {
+        ..=10 => in_values(value, times),
+        _ => {
+            let rest = doubled_deep("x.add(x)", times - 11);
+            format!("let x = {} in {rest}", in_values(value, 10))
+        }
+    }
+}
+
 fn taken(text: impl AsRef<[u8]>, parts: u32) -> TakenText {
     TakenText { text: text.as_ref().to_vec(), parts }
 }
