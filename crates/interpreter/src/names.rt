@@ -29,12 +29,7 @@ fn next(n: Shape, orders: &[u8; Text::PARTS], level: u16) -> u16
 }
 
 // The name of the variable of a level that record i awaits.
-fn name_at(
-    records: &[u64; TEXT_WORDS],
-    orders: &[u8; Text::PARTS],
-    i: u16,
-    level: u16,
-) -> u64
+fn name_at(records: &[u64; TEXT_WORDS], orders: &[u8; Text::PARTS], i: u16, level: u16) -> u64
     requires { ⌜ Awaits (now records) (now orders) i level ⌝ }
     ensures { λ r. ⌜ NamedBy (now (records .entry)) i level r ⌝ }
 {

@@ -42,9 +42,11 @@ loop-less c =
 
 loop-again : tie.Need-loop-again Inv-loop μ-loop
 loop-again c =
-    let at-loop = c .before .before .before .before .before in
-    (c .record-at2 .ensures, way-on _ _ _ _ (at-loop .loop .at) (at-loop .loop .inv .1) (at-loop .loop .n) (at-loop .loop .inv .0) (c .before .before .before .if1 .taken)
-    (c .before .before .next .result) (c .before .before .next .ensures))
+    let at-loop = c .before .before .before .before .before in (
+      c .record-at2 .ensures,
+      way-on _ _ _ _ (at-loop .loop .at) (at-loop .loop .inv .1) (at-loop .loop .n) (at-loop .loop .inv .0) (c .before .before .before .if1 .taken)
+          (c .before .before .next .result) (c .before .before .next .ensures),
+    )
 
 returns : tie.Need-returns Inv-loop μ-loop
 returns c =
