@@ -28,12 +28,17 @@ use Rattle.interface.specs.declared.answers.Previewed.{Previewed}
 use Rattle.interface.specs.declared.answers.Previewed.the-variants as P
 use Rattle.interface.specs.declared.answers.Printed.{Printed}
 use Rattle.interface.specs.declared.answers.Printed.the-variants as R
+use Rattle.interface.specs.declared.answers.Evaluated.{Evaluated}
+use Rattle.interface.specs.declared.answers.Evaluated.the-variants as Evaluate
 use Rattle.interface.specs.declared.answers.EditAnswer.{EditAnswer}
 use Rattle.interface.specs.declared.answers.PreviewAnswer.{PreviewAnswer}
 use Rattle.interface.specs.declared.answers.PrintAnswer.{PrintAnswer}
-use Rattle.interface.specs.Answers.{Reply, openNumber, editNumbers, previewNumbers, printNumbers}
-use Rattle.interface.specs.Calls.{tooMany, boundTo, readAnswer, editAnswer}
-use Rattle.interface.specs.Effects.{Opens, Edits, Previews, Prints, OpensForC, EditsForC, PreviewsForC, PrintsForC, PlaceFits}
+use Rattle.interface.specs.declared.answers.EvaluateAnswer.{EvaluateAnswer}
+use Rattle.interface.specs.Answers.{Reply, openNumber, editNumbers, previewNumbers, printNumbers, evaluateNumbers}
+use Rattle.interface.specs.Calls.{tooMany, boundTo, readAnswer, editAnswer, evaluated}
+use Rattle.interface.specs.Outcomes.{EvaluateOutcome, evaluate-outcome}
+use Rattle.interface.specs.AcceptanceLaws.{unread-range}
+use Rattle.interface.specs.Effects.{Opens, Edits, Previews, Prints, OpensForC, EditsForC, PreviewsForC, PrintsForC, EvaluatesForC, PlaceFits, EvaluatedFits}
 
 module _ (x : Edited) where
   pub edit-done : (w p a : ℕ) → x ≡ E.Done w p a → editNumbers (E.Done w p a) ≡ editNumbers x
@@ -62,7 +67,28 @@ module _ (x : Printed) where
   pub print-refused : (n : ℕ) → x ≡ R.Refused n → printNumbers (R.Refused n) ≡ printNumbers x
   print-refused n e = ap printNumbers (sym e)
 
-pub ruleset numbers = (needs, edit-done, edit-refused, preview-not-yet, preview-finished, preview-refused, print-done, print-refused)
+module _ (x : Evaluated) where
+  pub evaluate-done : (parts : ℕ) (v : View) → x ≡ Evaluate.Done parts v → evaluateNumbers (Evaluate.Done parts v) ≡ evaluateNumbers x
+  evaluate-done parts v e = ap evaluateNumbers (sym e)
+
+  pub evaluate-refused : (n at : ℕ) → x ≡ Evaluate.Refused n at → evaluateNumbers (Evaluate.Refused n at) ≡ evaluateNumbers x
+  evaluate-refused n at e = ap evaluateNumbers (sym e)
+
+  pub evaluated-small : (n at : ℕ) → x ≡ Evaluate.Refused n at → EvaluatedFits x → at < 4294967296
+  evaluated-small n at e h = subst EvaluatedFits e h
+
+pub ruleset numbers = (
+  needs,
+  edit-done,
+  edit-refused,
+  preview-not-yet,
+  preview-finished,
+  preview-refused,
+  print-done,
+  print-refused,
+  evaluate-done,
+  evaluate-refused,
+)
 
 -- the place of a refusal is one of the text's, or its end
 abbrev ReplyFits : Reply → Type 0
@@ -90,6 +116,16 @@ pub place-fits : (m : Memory) (places text : List ℕ) (m′ : Memory) (places�
 place-fits m places text m′ places′ (E.Done whole parts added) h = tt
 place-fits m places text m′ places′ (E.Refused n at) h = subst ReplyFits (sym (h .answer)) (answer-place m places text)
 
+evaluated-place : (text : List ℕ) (r : List ℤ) (p : ℕ) → EvaluateOutcome text r p → EvaluatedFits (evaluated text r p)
+evaluated-place text r p (EvaluateOutcome.long l e) = subst EvaluatedFits (sym e) (omega arith)
+evaluated-place text r p (EvaluateOutcome.many l q e) = subst EvaluatedFits (sym e) (omega arith)
+evaluated-place text r p (EvaluateOutcome.unread n at s u e) = let i = unread-range text n at u .1 in subst EvaluatedFits (sym e) (omega (arith, s .short))
+evaluated-place text r p (EvaluateOutcome.none t s u l e) = subst EvaluatedFits (sym e) (omega arith)
+evaluated-place text r p (EvaluateOutcome.taken t s u l e) = subst EvaluatedFits (sym e) tt
+
+pub evaluated-fits : (text : List ℕ) (r : List ℤ) (p : ℕ) (x : Evaluated) → x ≡ evaluated text r p → EvaluatedFits x
+evaluated-fits text r p x e = subst EvaluatedFits (sym e) (evaluated-place text r p (evaluate-outcome text r p))
+
 -- the promises
 pub opens-for-c : (m : Memory) (recording : List ℤ) (m′ : Memory) (x : Opened) (r : ℕ) → Opens m recording m′ x → r ≡ openNumber x → OpensForC m recording m′ r
 opens-for-c m recording m′ x r h e = record { answer = x; opens = h; numbers = e }
@@ -104,3 +140,7 @@ previews-for-c m n a m′ x r h e = record { answer = x; previews = h; numbers =
 pub prints-for-c : (m : Memory) (n : ℕ) (bytes bytes′ : List ℕ) (x : Printed) (r : PrintAnswer) → Prints m n bytes bytes′ x → r ≡ printNumbers x
     → PrintsForC m n bytes bytes′ r
 prints-for-c m n bytes bytes′ x r h e = record { answer = x; prints = h; numbers = e }
+
+pub evaluates-for-c : (text : List ℕ) (recording : List ℤ) (p : ℕ) (x : Evaluated) (r : EvaluateAnswer) → x ≡ evaluated text recording p → r ≡ evaluateNumbers x
+    → EvaluatesForC text recording p r
+evaluates-for-c text recording p x r h e = record { answer = x; evaluates = h; numbers = e }

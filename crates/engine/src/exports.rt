@@ -2,8 +2,11 @@
 use calls::edit::edit;
 use calls::open::open;
 use calls::preview::preview;
+use direct::evaluate::evaluate;
 use interface::answers::EditAnswer;
 use interface::answers::Edited;
+use interface::answers::EvaluateAnswer;
+use interface::answers::Evaluated;
 use interface::answers::Opened;
 use interface::answers::PreviewAnswer;
 use interface::answers::Previewed;
@@ -14,8 +17,8 @@ use schedule::View;
 ghost use mathlib.Core.Path.{_≡_};
 ghost use Rattle.layout.specs.Memory.{memory};
 ghost use Rattle.interface.specs.declared.answers.Previewed.the-variants.{Finished};
-ghost use Rattle.interface.specs.Answers.{openNumber, editNumbers, previewNumbers, printNumbers};
-ghost use Rattle.interface.specs.Effects.{PlaceFits, OpensForC, EditsForC, PreviewsForC, PrintsForC};
+ghost use Rattle.interface.specs.Answers.{openNumber, editNumbers, previewNumbers, printNumbers, evaluateNumbers};
+ghost use Rattle.interface.specs.Effects.{PlaceFits, EvaluatedFits, OpensForC, EditsForC, PreviewsForC, PrintsForC, EvaluatesForC};
 
 fn open_number(x: Opened) -> u32
     ensures { λ r. ⌜ r ≡ openNumber x ⌝ }
@@ -110,6 +113,34 @@ fn print_numbers(x: Printed) -> PrintAnswer
     }
 }
 
+fn evaluate_numbers(x: Evaluated) -> EvaluateAnswer
+    requires { ⌜ EvaluatedFits x ⌝ }
+    ensures { λ r. ⌜ r ≡ evaluateNumbers x ⌝ }
+{
+    match x {
+        Evaluated::Done { parts, shown } => EvaluateAnswer {
+            refusal: 0,
+            place: 0,
+            parts: parts as u32,
+            kind: shown.kind,
+            first: shown.first,
+            second: shown.second,
+            name: shown.name,
+            other: shown.other,
+        },
+        Evaluated::Refused { number, place } => EvaluateAnswer {
+            refusal: number as u32,
+            place: place as u32,
+            parts: 0,
+            kind: 0,
+            first: 0,
+            second: 0,
+            name: 0,
+            other: 0,
+        },
+    }
+}
+
 // 0, or the number of the refusal.
 #[no_mangle]
 pub extern "C" fn formula_open(
@@ -179,4 +210,12 @@ pub extern "C" fn formula_print(
         entry (now (bytes .entry)) (now (bytes .exit)) r ⌝ }
 {
     print_numbers(print(entry, bytes, readings, heads, links, cells))
+}
+
+// The evaluation's answer as plain numbers. No memory is lent.
+#[no_mangle]
+pub extern "C" fn formula_evaluate(text: &[u8], recording: &[i32], place: u32) -> EvaluateAnswer
+    ensures { λ r. ⌜ EvaluatesForC (now (text .entry)) (now (recording .entry)) place r ⌝ }
+{
+    evaluate_numbers(evaluate(text, recording, place))
 }

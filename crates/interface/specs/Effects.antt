@@ -10,6 +10,7 @@ use Rattle.interface.specs.declared.answers.Edited.the-variants as Edit
 use Rattle.interface.specs.declared.answers.Previewed.{Previewed}
 use Rattle.interface.specs.declared.answers.Printed.{Printed}
 use Rattle.interface.specs.declared.answers.Evaluated.{Evaluated}
+use Rattle.interface.specs.declared.answers.Evaluated.the-variants as Evaluate
 use Rattle.interface.specs.declared.answers.EditAnswer.{EditAnswer}
 use Rattle.interface.specs.declared.answers.PreviewAnswer.{PreviewAnswer}
 use Rattle.interface.specs.declared.answers.PrintAnswer.{PrintAnswer}
@@ -65,3 +66,7 @@ pub record EvaluatesForC (text : List ℕ) (recording : List ℤ) (place : ℕ) 
 abbrev pub PlaceFits : Edited → Type 0
 PlaceFits (Edit.Done whole parts added) = Unit {0}
 PlaceFits (Edit.Refused n at) = at < 4294967296
+
+abbrev pub EvaluatedFits : Evaluated → Type 0
+EvaluatedFits (Evaluate.Done parts v) = Unit {0}
+EvaluatedFits (Evaluate.Refused n at) = at < 4294967296
