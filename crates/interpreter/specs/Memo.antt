@@ -24,7 +24,8 @@ unfoldable pub seenBy : Bindings → ℕ → Bindings
 seenBy s w = bindings (cond (hasLevel w 0) (s .outer) 0) (cond (hasLevel w 1) (s .inner) 0)
 
 unfoldable pub isKnown : List ℕ → ℕ → Bindings → Bool
-isKnown memo i seen = not (eqb (getD memo (3 * i) 0) 0) && (eqb (getD memo (3 * i + 1) 0) (seen .outer) && eqb (getD memo (3 * i + 2) 0) (seen .inner))
+isKnown memo i seen =
+    not (eqb (getD memo (3 * i) 0) 0) && (eqb (getD memo (3 * i + 1) 0) (seen .outer) && eqb (getD memo (3 * i + 2) 0) (seen .inner))
 
 unfoldable pub kept : List ℕ → ℕ → Bindings → ℕ → List ℕ
 kept memo i seen cell = set (set (set memo (3 * i) cell) (3 * i + 1) (seen .outer)) (3 * i + 2) (seen .inner)

@@ -13,7 +13,9 @@ pub data Stands (ν : ℕ → Node) : ℕ → Form → Type 0 where
   aVariable : (i x k : ℕ) → ν i ≡ nodeWith variableKind x 0 0 k → k < 2 → Stands ν i (variable (withLevel x k))
   anUnbound : (i x : ℕ) → ν i ≡ node unboundKind x 0 0 → Stands ν i (unbound x)
   theReadings : (i : ℕ) → ν i ≡ node readingsKind 0 0 0 → Stands ν i readings
-  aFunction : (i x b k : ℕ) (B : Form) → ν i ≡ nodeWith functionKind x (suc b) 0 k → k < 2 → b < i → Stands ν b B → Stands ν i (function (withLevel x k) B)
-  anAsk : (i : ℕ) (m : Member) (f : ℕ) (F : Form) → ν i ≡ node (memberKind m) 0 (suc f) 0 → arguments m ≡ 0 → f < i → Stands ν f F → Stands ν i (ask m F)
-  aCall : (i : ℕ) (m : Member) (f a : ℕ) (F A : Form) → ν i ≡ node (memberKind m) 0 (suc f) (suc a) → arguments m ≡ 1 → f < i → Stands ν f F → a < i → Stands ν a A
-      → Stands ν i (call m F A)
+  aFunction : (i x b k : ℕ) (B : Form) → ν i ≡ nodeWith functionKind x (suc b) 0 k → k < 2 → b < i → Stands ν b B
+      → Stands ν i (function (withLevel x k) B)
+  anAsk : (i : ℕ) (m : Member) (f : ℕ) (F : Form) → ν i ≡ node (memberKind m) 0 (suc f) 0 → arguments m ≡ 0 → f < i → Stands ν f F
+      → Stands ν i (ask m F)
+  aCall : (i : ℕ) (m : Member) (f a : ℕ) (F A : Form) → ν i ≡ node (memberKind m) 0 (suc f) (suc a) → arguments m ≡ 1 → f < i → Stands ν f F
+      → a < i → Stands ν a A → Stands ν i (call m F A)

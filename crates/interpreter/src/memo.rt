@@ -1,5 +1,5 @@
-// What records came to, each for the bindings that it was last worked out for, as far as it awaits them. So a let's value, and all else that a run does
-// not change, is worked out once. Three cells a record: its packed value, 0 for none, and the two bindings.
+// What records came to, each for the bindings that it was last worked out for, as far as it awaits them. So a let's value, and all else that a
+// run does not change, is worked out once. Three cells a record: its packed value, 0 for none, and the two bindings.
 use crate::bindings::Bindings;
 use crate::orders::has_level;
 use language::limits::Text;
