@@ -25,7 +25,7 @@ use Rattle.reading.specs.ReadToLaws.{read-refused, read-done}
 use Rattle.interface.specs.declared.answers.Evaluated.the-variants as Evaluate
 use Rattle.interface.specs.Views.{viewOf}
 use Rattle.interface.specs.Calls.{readEvaluated, evaluated}
-use Rattle.interpreter.specs.Interpreting.{shownBy}
+use Rattle.levels.specs.Interpreting.{shownBy}
 use Rattle.interpreter.specs.Standing.{Stands}
 use Rattle.direct.specs.Bindable.{Bindable}
 use Rattle.direct.specs.BindableLaws.{text-bindable}

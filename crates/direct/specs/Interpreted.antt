@@ -23,7 +23,7 @@ use Rattle.meaning.specs.Forms.{Form, number, variable, unbound, readings, ask,
 use Rattle.meaning.specs.Evaluation.{valueOf, runOf, Environment, nowhere, bind, lookup, settled, evaluate, hasName, joined, without, awaited, shows}
 use Rattle.meaning.specs.HasLaws.{joined-cases, joined-left, joined-right, has-without, has-kept}
 use Rattle.refine.specs.Free.{free, free-variable, free-call, settled-no, settled-find}
-use Rattle.interpreter.specs.Interpreting.{Scope, nothing, standsFor, with, levels, isOpen, judged, interpret, ran, variableAt, shownBy}
+use Rattle.levels.specs.Interpreting.{Scope, nothing, standsFor, with, levels, isOpen, judged, interpret, ran, variableAt, shownBy}
 use Rattle.direct.specs.Bindable.{OneEach, Bindable}
 
 -- ---- the levels that a form awaits are those of its variables, in order

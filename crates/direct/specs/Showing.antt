@@ -10,7 +10,7 @@ use Rattle.meaning.specs.Forms.{Form}
 use Rattle.layout.specs.Held.{recordAt}
 use Rattle.schedule.specs.declared.View.{View}
 use Rattle.interface.specs.Views.{viewOf}
-use Rattle.interpreter.specs.Interpreting.{shownBy}
+use Rattle.levels.specs.Interpreting.{shownBy}
 use Rattle.interpreter.specs.Standing.{Stands}
 
 -- a value as plain numbers, with two names

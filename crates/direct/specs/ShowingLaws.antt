@@ -23,7 +23,7 @@ use Rattle.layout.specs.declared.nodes.Shape.{Shape}
 use Rattle.schedule.specs.declared.View.{View}
 use Rattle.interface.specs.Views.{viewOf}
 use Rattle.interpreter.specs.declared.bindings.Bindings.{Bindings}
-use Rattle.interpreter.specs.Interpreting.{Scope, nothing, standsFor, interpret, levels, variableAt, shownBy}
+use Rattle.levels.specs.Interpreting.{Scope, nothing, standsFor, interpret, levels, variableAt, shownBy}
 use Rattle.interpreter.specs.Standing.{Stands, aNumber, aVariable, anUnbound, theReadings, aFunction, anAsk, aCall}
 use Rattle.interpreter.specs.Cells.{scopeOf}
 use Rattle.interpreter.specs.Orders.{Ordered}

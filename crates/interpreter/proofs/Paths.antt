@@ -23,7 +23,7 @@ use Rattle.layout.specs.Held.{shaped}
 use Rattle.layout.specs.declared.nodes.Shape.{Shape}
 use Rattle.layout.specs.Nodes.{numberKind, variableKind, unboundKind, functionKind}
 use Rattle.interpreter.specs.declared.bindings.Bindings.{Bindings}
-use Rattle.interpreter.specs.Interpreting.{nothing, scope, judged}
+use Rattle.levels.specs.Interpreting.{nothing, scope, judged}
 use Rattle.interpreter.specs.Cells.{bindings, scopeOf, cellAt, boundAt}
 use Rattle.interpreter.specs.Orders.{joinOf, lessOf, hasLevel, linkedOf, orderAt}
 use Rattle.interpreter.specs.Memo.{seenBy, isKnown, kept}

@@ -4,7 +4,7 @@ use Prim.Native.Nat.{ℕ}
 use lib.Dec.{eqb}
 use Rattle.values.specs.Packing.{unpackOf}
 use Rattle.interpreter.specs.declared.bindings.Bindings.{Bindings}
-use Rattle.interpreter.specs.Interpreting.{Scope, scope}
+use Rattle.levels.specs.Interpreting.{Scope, scope}
 
 abbrev pub bindings : ℕ → ℕ → Bindings
 bindings a b = record { outer = a; inner = b }

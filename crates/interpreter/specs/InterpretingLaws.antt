@@ -18,7 +18,7 @@ use Rattle.values.specs.KeepableApply.{closed-apply0, closed-apply1}
 use Rattle.meaning.specs.Forms.{Form, number, variable, unbound, readings, ask, call, function, levelIn}
 use Rattle.meaning.specs.Evaluation.{hasName, without}
 use Rattle.meaning.specs.HasLaws.{joined-left, joined-right, has-kept}
-use Rattle.interpreter.specs.Interpreting.{Scope, scope, standsFor, with, levels, isOpen, judged, interpret, ran}
+use Rattle.levels.specs.Interpreting.{Scope, scope, standsFor, with, levels, isOpen, judged, interpret, ran}
 
 -- ---- scopes that agree at some levels
 

@@ -1,4 +1,3 @@
-pub mod Interpreting
 pub mod Standing
 pub mod InterpretingLaws
 pub mod StandingLaws

@@ -12,7 +12,7 @@ use Rattle.values.specs.Packing.{unpackOf}
 use Rattle.meaning.specs.Forms.{Form}
 use Rattle.layout.specs.Memory.{Node}
 use Rattle.interpreter.specs.declared.bindings.Bindings.{Bindings}
-use Rattle.interpreter.specs.Interpreting.{interpret}
+use Rattle.levels.specs.Interpreting.{interpret}
 use Rattle.interpreter.specs.Standing.{Stands}
 use Rattle.interpreter.specs.Cells.{bindings, scopeOf}
 use Rattle.interpreter.specs.Orders.{hasLevel}

@@ -11,7 +11,7 @@ use Rattle.meaning.specs.Evaluation.{hasName}
 use Rattle.layout.specs.Nodes.{functionKind}
 use Rattle.layout.specs.Held.{recordAt}
 use Rattle.layout.specs.declared.nodes.Shape.{Shape}
-use Rattle.interpreter.specs.Interpreting.{levels, variableAt}
+use Rattle.levels.specs.Interpreting.{levels, variableAt}
 use Rattle.interpreter.specs.Standing.{Stands}
 use Rattle.interpreter.specs.Orders.{hasLevel, linkedOf, Ordered}
 

@@ -17,7 +17,7 @@ use Rattle.layout.specs.Memory.{Node}
 use Rattle.layout.specs.Nodes.{variableKind, functionKind, memberKind}
 use Rattle.layout.specs.Held.{shaped, recordAt}
 use Rattle.layout.specs.declared.nodes.Shape.{Shape}
-use Rattle.interpreter.specs.Interpreting.{levels, variableAt}
+use Rattle.levels.specs.Interpreting.{levels, variableAt}
 use Rattle.interpreter.specs.Standing.{Stands, aNumber, aVariable, anUnbound, theReadings, aFunction, anAsk, aCall}
 use Rattle.interpreter.specs.Orders.{listed, hasLevel, linkedOf, Ordered}
 use Rattle.interpreter.specs.OrdersLaws.{five, has-listed}

@@ -10,7 +10,7 @@ use Rattle.language.specs.Limits.{textParts}
 use Rattle.meaning.specs.Forms.{Form}
 use Rattle.layout.specs.Memory.{Node}
 use Rattle.layout.specs.Nodes.{variableKind, functionKind}
-use Rattle.interpreter.specs.Interpreting.{levels}
+use Rattle.levels.specs.Interpreting.{levels}
 use Rattle.interpreter.specs.Standing.{Stands}
 
 -- the levels that a number is

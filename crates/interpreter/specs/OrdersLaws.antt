@@ -17,7 +17,7 @@ use Rattle.meaning.specs.Forms.{Form, withLevel, levelIn}
 use Rattle.meaning.specs.Evaluation.{hasName, joined, without}
 use Rattle.layout.specs.Memory.{Node, node}
 use Rattle.layout.specs.Nodes.{variableKind, functionKind, memberKind}
-use Rattle.interpreter.specs.Interpreting.{levels}
+use Rattle.levels.specs.Interpreting.{levels}
 use Rattle.interpreter.specs.Standing.{Stands, aNumber, aVariable, anUnbound, theReadings, aFunction, anAsk, aCall}
 use Rattle.interpreter.specs.Orders.{listed, joinOf, lessOf, hasLevel, linkedOf, orderAt, Ordered}
 

@@ -20,7 +20,7 @@ use Rattle.meaning.specs.Forms.{Form}
 use Rattle.layout.specs.Nodes.{memberKind}
 use Rattle.layout.specs.Held.{recordAt}
 use Rattle.interpreter.specs.declared.bindings.Bindings.{Bindings}
-use Rattle.interpreter.specs.Interpreting.{ran}
+use Rattle.levels.specs.Interpreting.{ran}
 use Rattle.interpreter.specs.Standing.{Stands}
 use Rattle.interpreter.specs.Cells.{scopeOf}
 use Rattle.interpreter.specs.Walking.{Keeps, Ran, Over}

@@ -22,7 +22,7 @@ use Rattle.layout.specs.Memory.{Node}
 use Rattle.layout.specs.Nodes.{numberKind, variableKind, unboundKind, memberKind}
 use Rattle.layout.specs.Held.{recordAt}
 use Rattle.interpreter.specs.declared.bindings.Bindings.{Bindings}
-use Rattle.interpreter.specs.Interpreting.{Scope, standsFor, interpret, ran}
+use Rattle.levels.specs.Interpreting.{Scope, standsFor, interpret, ran}
 use Rattle.interpreter.specs.Standing.{Stands}
 use Rattle.interpreter.specs.Cells.{scopeOf}
 use Rattle.interpreter.specs.Orders.{hasLevel, Ordered}

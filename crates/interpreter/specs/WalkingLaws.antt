@@ -33,7 +33,7 @@ use Rattle.layout.specs.Held.{shaped, recordAt}
 use Rattle.layout.specs.declared.nodes.Shape.{Shape}
 use Rattle.interpreter.specs.declared.bindings.Bindings.{Bindings}
 use Rattle.interpreter.specs.declared.applying.Outcome.{Outcome}
-use Rattle.interpreter.specs.Interpreting.{Scope, scope, standsFor, with, levels, isOpen, judged, interpret, ran}
+use Rattle.levels.specs.Interpreting.{Scope, scope, standsFor, with, levels, isOpen, judged, interpret, ran}
 use Rattle.interpreter.specs.InterpretingLaws.{Alike, interpret-alike, inside}
 use Rattle.interpreter.specs.Standing.{Stands, aNumber, aVariable, anUnbound, theReadings, aFunction, anAsk, aCall}
 use Rattle.interpreter.specs.StandingLaws.{IsFunction, IsMember, a-function, a-member}

@@ -1,7 +1,7 @@
 // What the variables stand for while functions run, by level: at most two lambdas are open at a place, so that a variable is told by its level.
 use values::packing::Packed;
 ghost use mathlib.Core.Path.{_≡_};
-ghost use Rattle.interpreter.specs.Interpreting.{nothing};
+ghost use Rattle.levels.specs.Interpreting.{nothing};
 ghost use Rattle.interpreter.specs.Cells.{scopeOf, cellAt, boundAt};
 
 // The packed value of the variable of level 0, and of that of level 1.

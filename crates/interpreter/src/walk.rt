@@ -27,7 +27,7 @@ use values::windows::part;
 ghost use mathlib.Core.Path.{_≡_};
 ghost use Rattle.values.specs.Packing.{unpackOf};
 ghost use Rattle.layout.specs.Held.{shaped};
-ghost use Rattle.interpreter.specs.Interpreting.{judged};
+ghost use Rattle.levels.specs.Interpreting.{judged};
 ghost use Rattle.interpreter.specs.Cells.{scopeOf};
 ghost use Rattle.interpreter.specs.Walking.{leafOf, waitsFor, Ready, Comes, Ran, Over};
 
