@@ -1,6 +1,6 @@
 // Runs the sample previews of 01 and 02, and 01's small examples of calls that are declined. For each text it writes a line: what the edit
 // answers; what the whole text then shows, with the readings of a shown window; and how many entries that preview worked out. Some texts
-// are shown entry by entry, each also in full (02, T-04).
+// are shown entry by entry, each also in full (02, T-04). At the end texts are evaluated without a cache (02, T-07), with a line for each place.
 // The file `stdout` is written by hand from these papers.
 mod say;
 
@@ -8,6 +8,7 @@ use calls::edit::edit;
 use calls::fetch::fetch;
 use calls::open::open;
 use calls::preview::preview;
+use direct::evaluate::evaluate;
 use interface::answers::Printed;
 use language::limits::Table;
 use language::limits::Text;
@@ -414,6 +415,74 @@ fn every_part(recording: &[i32]) {
     few_bytes(recording);
 }
 
+// A place's line. Gives whether the text has a part there.
+fn evaluated_at(recording: &[i32], text: &[u8], place: u32) -> bool {
+    say::words(b"  ");
+    say::number(place as u64);
+    say::words(b": ");
+    let taken = say::evaluate_answer(evaluate(text, recording, place));
+    say::words(b"\n");
+    taken
+}
+
+// The places of a text, up to the first that is refused.
+fn each_place(recording: &[i32], text: &[u8]) {
+    let mut place: u32 = 0;
+    while place <= Text::PARTS as u32 {
+        if !evaluated_at(recording, text, place) {
+            return;
+        }
+        place += 1;
+    }
+}
+
+// A text without a cache, over the recording.
+fn evaluation(recording: &[i32], text: &[u8]) {
+    say::text(text);
+    say::words(b" => evaluated over ");
+    say::number(recording.len() as u64);
+    say::words(b" readings\n");
+    each_place(recording, text);
+}
+
+// The texts, one to a line.
+fn evaluations(recording: &[i32], texts: &[u8]) {
+    let mut at: usize = 0;
+    while at < texts.len() {
+        let end = text_end(texts, at);
+        evaluation(recording, &texts[at..end]);
+        at = end + 1;
+    }
+}
+
+// Sample previews; functions that a let hands out and that hide one another; what is missing, also where nothing needs it; and refusals: 1 comes
+// before 2, that before what the text is refused for, and 14 last.
+fn without_a_cache(recording: &[i32]) {
+    evaluations(
+        recording,
+        b"let x = 2 in data.skip(1).take(x)\nlet x = 3 in data.skip(1).take(x)",
+    );
+    evaluations(
+        recording,
+        b"data.countWhere(\\b -> b.gt(150))\ndata.sum()\ndata.longestRun(\\b -> b.gt(145))\ndata.sumBy(\\p -> data.countWhere(\\q -> q.gt(p)))",
+    );
+    evaluations(
+        recording,
+        b"-7.div(2)\n-2147483648.div(-1)\nlet u = 1.div(0) in 6\nlet y = b in \\b -> y",
+    );
+    evaluations(
+        recording,
+        b"data.take(0).countWhere(\\b -> b.div(0))\ndata.take(0).countWhere(\\b -> 1.div(0))\ndata.skip(9).min()",
+    );
+    evaluations(
+        recording,
+        b"data.sumBy(let a = 5 in \\x -> x.add(a))\n\\a -> let x = a in \\a -> x.add(a)\nlet x = y in 1\n\\a -> a.add(y)\ndata.",
+    );
+    let many = [0; Table::READINGS + 1];
+    evaluation(&many, b"data.");
+    evaluation(&many, &[b' '; Text::BYTES + 1]);
+}
+
 fn main() {
     let run = [140, 152, 160, 148, 155];
     // Sample previews
@@ -475,4 +544,5 @@ fn main() {
         &run,
         b"data.\n2147483648\nheartrate\nlet data = 1 in 2\ndata.skip()\n\\a -> \\b -> \\c -> 1\n(((((((((((((((((",
     );
+    without_a_cache(&run);
 }

@@ -1,5 +1,6 @@
 // Writes numbers, names and the answers of the calls to standard output.
 use interface::answers::Edited;
+use interface::answers::Evaluated;
 use interface::answers::Opened;
 use interface::answers::Previewed;
 use interface::answers::Printed;
@@ -107,6 +108,12 @@ fn refusal(n: u8) {
     number(n as u64);
 }
 
+fn refusal_at(n: u8, at: usize) {
+    refusal(n);
+    words(b" at ");
+    number(at as u64);
+}
+
 // A line for an open of this many readings, where it is declined.
 pub fn open_answer(answer: Opened, size: usize) {
     match answer {
@@ -138,9 +145,7 @@ pub fn edit_answer(answer: Edited, places: &[u16]) -> u32 {
             number: n,
             place: at,
         } => {
-            refusal(n);
-            words(b" at ");
-            number(at as u64);
+            refusal_at(n, at);
             NO_ENTRY
         }
     }
@@ -214,5 +219,28 @@ pub fn print_answer(answer: Printed, bytes: &[u8]) {
     match answer {
         Printed::Done { length } => text(front(bytes, length)),
         Printed::Refused { number: n } => refusal(n),
+    }
+}
+
+// What an evaluation answers, and how many parts the text has. Gives whether it was accepted.
+pub fn evaluate_answer(answer: Evaluated) -> bool {
+    match answer {
+        Evaluated::Done {
+            parts: count,
+            shown,
+        } => {
+            shown_as(shown);
+            words(b", ");
+            number(count as u64);
+            words(b" parts");
+            true
+        }
+        Evaluated::Refused {
+            number: n,
+            place: at,
+        } => {
+            refusal_at(n, at);
+            false
+        }
     }
 }
