@@ -5,6 +5,7 @@ pub mod CallsLaws
 pub mod Effects
 pub mod Examples
 pub mod CallExamples
+pub mod EvaluateExamples
 pub mod Acceptance
 pub mod Outcomes
 pub mod AcceptanceLaws

@@ -1,1 +1,2 @@
 pub mod Interpreting
+pub mod Examples
