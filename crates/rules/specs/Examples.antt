@@ -106,6 +106,7 @@ onWindows =
     ∷ (alone Sum recording (Window 5 0), Number (pos 0))
     ∷ (alone Sum high (Window 0 3), Number (pos 2147483647))
     ∷ (alone Sum high (Window 0 2), Missing 4)
+    ∷ (alone Sum (negsuc 0 ∷ pos 1 ∷ pos 2147483647 ∷ []) (Window 0 3), Number (pos 2147483647))
     ∷ (alone Min recording whole, Number (pos 140))
     ∷ (alone Max recording whole, Number (pos 160))
     ∷ (alone Min recording (Window 5 0), Missing 5)
