@@ -1,4 +1,5 @@
-# make run: the watch's formula screen in the terminal; RECORDING=path for another recording. Formulas are read line by line.
+# make run: the watch's formula screen in the terminal, where a formula is edited key by key; RECORDING=path for another recording. Formulas are
+# read line by line where the input or the output is no terminal.
 # make samples: the sample previews by the plain evaluator; TEXT='data.sum()' for one formula.
 # make test: the gate. make check-shell: the stored example. make sanitize: the screen under sanitizers.
 # make bench: benchmarks; writes docs/benchmarks/figures.csv, and from it the tables and plots of docs/BENCHMARKS.md.

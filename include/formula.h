@@ -400,6 +400,194 @@ static inline unsigned formula_cache_run_depth(const formula_cache *cache, uint3
     return nests[entry].depth;
 }
 
+/* The steps of beginning a frame of the stack, for a run or to judge a function. */
+#define FORMULA_STEPS_FRAME 40
+
+/* Sums and products of steps stop at the greatest number. */
+static inline uint64_t formula_steps_sum(uint64_t one, uint64_t other)
+{
+    return one > UINT64_MAX - other ? UINT64_MAX : one + other;
+}
+
+static inline uint64_t formula_steps_product(uint64_t one, uint64_t other)
+{
+    return other != 0 && one > UINT64_MAX / other ? UINT64_MAX : one * other;
+}
+
+/* The variable of the function that entry `at` is, one more than its number, if the body awaits it; else 0. */
+static inline uint16_t formula_steps_variable(const formula_cache *cache, const formula_nest *nests, uint32_t at)
+{
+    uint16_t body = cache->links[4 * at + 1];
+    unsigned slot;
+    if (body < 1 || body > at) {
+        return 0;
+    }
+    for (slot = 0; slot < 2; slot++) {
+        uint16_t variable = nests[body - 1].awaited[slot];
+        if (variable != 0 && formula_nest_binds(cache, at, variable)) {
+            return variable;
+        }
+    }
+    return 0;
+}
+
+/* Marks those that entry `at` depends on, if they await the variable. */
+static inline void formula_steps_reach(const formula_cache *cache, const formula_nest *nests, uint16_t variable,
+                                       uint32_t at, uint8_t reached[FORMULA_TABLE_ENTRIES])
+{
+    unsigned link;
+    for (link = 1; link <= 2; link++) {
+        uint16_t below = cache->links[4 * at + link];
+        if (below >= 1 && below <= at &&
+            (nests[below - 1].awaited[0] == variable || nests[below - 1].awaited[1] == variable)) {
+            reached[below - 1] = 1;
+        }
+    }
+}
+
+/*
+ * The steps of a body each time that a variable which it awaits is set: those of the entries that await the variable
+ * and that the body reaches through such entries, each once. The variable itself, the lowest of them, is not counted.
+ */
+static inline uint64_t formula_steps_body(const formula_cache *cache, const formula_nest *nests,
+                                          const uint64_t *steps, uint32_t body, uint16_t variable)
+{
+    uint8_t reached[FORMULA_TABLE_ENTRIES] = {0};
+    uint64_t sum = 0;
+    uint32_t at;
+    reached[body] = 1;
+    for (at = body; at >= variable; at--) {
+        if (reached[at]) {
+            sum = formula_steps_sum(sum, steps[at]);
+            formula_steps_reach(cache, nests, variable, at, reached);
+        }
+    }
+    return sum;
+}
+
+/* The steps of entry `at`, a function: its body is judged once, with the variable delayed. */
+static inline uint64_t formula_steps_function(const formula_cache *cache, const formula_nest *nests,
+                                              const uint64_t *steps, uint32_t at)
+{
+    uint16_t variable = formula_steps_variable(cache, nests, at);
+    if (variable == 0) {
+        return 1;
+    }
+    return formula_steps_sum(1 + FORMULA_STEPS_FRAME,
+                             formula_steps_body(cache, nests, steps, cache->links[4 * at + 1] - 1u, variable));
+}
+
+/*
+ * The steps of a member that runs a function, from the function's own. If those are 1, the body does not await the
+ * variable and is not worked out again; else they are 1, a frame's and the body's. If they are the greatest number, so
+ * are the member's, unless there are no readings.
+ */
+static inline uint64_t formula_steps_run(uint64_t function, uint32_t readings)
+{
+    uint64_t body = function > 1 ? function - 1 - FORMULA_STEPS_FRAME : 0;
+    return formula_steps_sum(1 + FORMULA_STEPS_FRAME, formula_steps_product(readings, 1 + body));
+}
+
+/* The steps of a member that runs no function, by its kind. */
+static inline uint64_t formula_steps_member(uint16_t kind, uint32_t readings)
+{
+    switch (kind) {
+    case 11: /* skip, take, at */
+    case 12:
+    case 17:
+        return 2;
+    case 14: /* sum, min, max */
+    case 15:
+    case 16:
+        return 1 + (readings + 31) / 32;
+    case 21: /* bestSum, bestAt */
+    case 22:
+        return 1 + (readings + 7) / 8;
+    default:
+        return 1;
+    }
+}
+
+/* The steps of entry `at`, from those before it. */
+static inline uint64_t formula_steps_at(const formula_cache *cache, const formula_nest *nests, const uint64_t *steps,
+                                        uint32_t at)
+{
+    const uint16_t *links = cache->links + 4 * at;
+    uint32_t readings =
+        cache->heads[1] < FORMULA_RECORDING_READINGS ? cache->heads[1] : FORMULA_RECORDING_READINGS;
+    if (links[0] < 4) {
+        return 0;
+    }
+    if (links[0] == 4) {
+        return formula_steps_function(cache, nests, steps, at);
+    }
+    if (formula_nest_run(cache, nests, at) != 0) {
+        return formula_steps_run(steps[links[2] - 1], readings);
+    }
+    return formula_steps_member(links[0], readings);
+}
+
+/*
+ * For each entry held, a bound on the steps of working it out by itself, once those that it depends on are worked out;
+ * 0 for numbers past the entries held. Nothing interrupts an entry: this bounds the time that a preview takes for it.
+ * A step is about the time of a member on two numbers inside a run; docs/INTEGRATION.md has figures. Over r readings,
+ * with quotients rounded up, the steps are
+ *   - 0 for a number, a name and the recording;
+ *   - 2 for skip, take and at;
+ *   - 1 + r / 32 for sum, min and max;
+ *   - 1 + r / 8 for bestSum and bestAt;
+ *   - 1 + a frame's + the body's for a function whose body awaits its variable;
+ *   - 1 + a frame's + r x (1 + the body's) for a member that runs a function over what can be a window;
+ *   - 1 for any other.
+ * The body's are those of all in it that awaits the variable, each entry once; what else it needs keeps its result. A
+ * number over UINT64_MAX is given as that.
+ * Ask this after an edit, and don't preview a part if an entry at or below it may take too long, by
+ * formula_cache_most_steps. For the stack there is formula_cache_run_depth. This call takes about 4.7 KB of stack,
+ * besides the steps; and a pass over the entries, with one for each function from its body down to its variable: 5
+ * microseconds for 476 entries with one function, 70 for 485 with 240. Over contents that no cache has it still ends,
+ * and gives some numbers.
+ */
+static inline void formula_cache_steps(const formula_cache *cache, uint64_t steps[FORMULA_TABLE_ENTRIES])
+{
+    formula_nest nests[FORMULA_TABLE_ENTRIES];
+    uint32_t at;
+    for (at = 0; at < FORMULA_TABLE_ENTRIES && at < cache->heads[0]; at++) {
+        nests[at] = formula_nest_at(cache, nests, at);
+        steps[at] = formula_steps_at(cache, nests, steps, at);
+    }
+    for (; at < FORMULA_TABLE_ENTRIES; at++) {
+        steps[at] = 0;
+    }
+}
+
+/*
+ * The most steps of one entry among those that a preview of this entry may work out: itself and all below it. The
+ * steps are those that formula_cache_steps gives for the cache. It takes 0.5 KB of stack and a pass over the entries up
+ * to this one. Over contents that no cache has it still ends, and gives some number; 0 for an entry that is not there.
+ */
+static inline uint64_t formula_cache_most_steps(const formula_cache *cache,
+                                                const uint64_t steps[FORMULA_TABLE_ENTRIES], uint32_t entry)
+{
+    uint8_t reached[FORMULA_TABLE_ENTRIES] = {0};
+    uint64_t most = 0;
+    uint32_t at;
+    unsigned link;
+    if (entry >= FORMULA_TABLE_ENTRIES || entry >= cache->heads[0]) {
+        return 0;
+    }
+    reached[entry] = 1;
+    for (at = entry + 1; at-- > 0;) {
+        for (link = 1; link <= 2 && reached[at]; link++) {
+            uint16_t below = cache->links[4 * at + link];
+            if (below >= 1 && below <= at) {
+                reached[below - 1] = 1;
+            }
+        }
+        most = reached[at] && steps[at] > most ? steps[at] : most;
+    }
+    return most;
+}
+
 /*
  * Writes a packed name as text, with a zero at its end. A name is packed in base 256, its first byte
  * highest, and is 0 where there is none: that gives the empty text. Two packed names are equal exactly

@@ -1,14 +1,18 @@
 /*
- * Asks formula_cache_run_depth about every entry of caches with contents that no edit makes, and writes the greatest
- * answer for each sort of them. Run under sanitizers. The argument is the first number that is no kind of an entry.
+ * Asks formula_cache_run_depth, formula_cache_steps and formula_cache_most_steps about every entry of caches with
+ * contents that no edit makes, and writes the greatest depth for each sort of them. Run under sanitizers. The argument
+ * is the first number that is no kind of an entry. Ends with 1 where an entry has steps that must have none, or has
+ * none and must, or where the most at or below it are fewer, or are there for no entry.
  */
 #include "formula.h"
 
+#include <inttypes.h>
 #include <stdio.h>
 #include <stdlib.h>
 #include <string.h>
 
 static formula_cache cache;
+static uint64_t steps[FORMULA_TABLE_ENTRIES];
 
 /* A generator of numbers, the same at each run. */
 static uint64_t draw(void)
@@ -16,6 +20,25 @@ static uint64_t draw(void)
     static uint64_t state = 1;
     state = state * UINT64_C(6364136223846793005) + UINT64_C(1442695040888963407);
     return state >> 33;
+}
+
+/* The entries that have steps are those that are worked out: functions and members, and what is no kind. */
+static void count_steps(void)
+{
+    uint32_t entry;
+    memset(steps, 0xff, sizeof steps);
+    formula_cache_steps(&cache, steps);
+    for (entry = 0; entry < FORMULA_TABLE_ENTRIES; entry++) {
+        int is_worked_out = entry < cache.heads[0] && cache.links[4 * entry] >= 4;
+        if ((steps[entry] != 0) != is_worked_out || formula_cache_most_steps(&cache, steps, entry) < steps[entry]) {
+            fprintf(stderr, "entry %" PRIu32 ": %" PRIu64 " steps\n", entry, steps[entry]);
+            exit(1);
+        }
+    }
+    if (formula_cache_most_steps(&cache, steps, cache.heads[0]) + formula_cache_most_steps(&cache, steps, entry) > 0) {
+        fprintf(stderr, "steps below no entry\n");
+        exit(1);
+    }
 }
 
 static unsigned deepest(void)
@@ -26,6 +49,7 @@ static unsigned deepest(void)
         unsigned depth = formula_cache_run_depth(&cache, entry);
         most = most > depth ? most : depth;
     }
+    count_steps();
     return most;
 }
 
@@ -76,6 +100,7 @@ static void put(uint16_t kind, uint64_t key, uint32_t first, uint32_t second)
 static unsigned most_runs(void)
 {
     memset(&cache, 0, sizeof cache);
+    cache.heads[1] = FORMULA_RECORDING_READINGS;
     put(3, 0, 0, 0);
     put(1, 'a', 0, 0);
     put(12, 0, 1, 2);
@@ -85,6 +110,17 @@ static unsigned most_runs(void)
         put(4, 'a', cache.heads[0], 0);
     }
     return deepest();
+}
+
+/* The steps of a sum where the head has more readings than there are cells. */
+static uint64_t sum_of_too_many(void)
+{
+    memset(&cache, 0, sizeof cache);
+    cache.heads[1] = UINT32_MAX;
+    put(3, 0, 0, 0);
+    put(14, 0, 1, 0);
+    count_steps();
+    return steps[1];
 }
 
 int main(int argc, char **argv)
@@ -101,7 +137,9 @@ int main(int argc, char **argv)
     for (round = 0; round < 300; round++) {
         uint64_t kinds = round % 2 == 0 ? unknown + 1 : 65536;
         uint64_t links = round % 3 == 0 ? 514 : 65536;
-        unsigned depth = any_contents(kinds, links, round % 5 == 0 ? 65536 : 3, 3);
+        unsigned depth;
+        cache.heads[1] = round % 4 == 0 ? UINT32_MAX : round;
+        depth = any_contents(kinds, links, round % 5 == 0 ? 65536 : 3, 3);
         any = any > depth ? any : depth;
         depth = any_runs();
         runs = runs > depth ? runs : depth;
@@ -109,5 +147,7 @@ int main(int argc, char **argv)
     printf("any contents: %u\n", any);
     printf("any runs: %u\n", runs);
     printf("most runs: %u\n", most_runs());
+    printf("most steps: %" PRIu64 "\n", steps[cache.heads[0] - 1]);
+    printf("sum of too many readings: %" PRIu64 " steps\n", sum_of_too_many());
     return 0;
 }

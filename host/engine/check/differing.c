@@ -1,6 +1,4 @@
 /* The screen over an evaluation that is wrong: for each thing that can be shown, in another field of the answer. */
-#define _POSIX_C_SOURCE 200809L
-
 #include "formula.h"
 
 static formula_evaluate_answer wrong_evaluate(const char *text, size_t text_length, const int32_t *recording,
@@ -26,4 +24,4 @@ static formula_evaluate_answer wrong_evaluate(const char *text, size_t text_leng
 }
 
 #define formula_text_evaluate wrong_evaluate
-#include "../../../shell/formula.c"
+#include "../../../shell/plain_rows.c"

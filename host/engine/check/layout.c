@@ -66,6 +66,7 @@ static void sizes(void)
     VALUE(FORMULA_CELLS_CELLS);
     VALUE(FORMULA_PLACES);
     VALUE(FORMULA_CACHE_BYTES);
+    VALUE(FORMULA_STEPS_FRAME);
 }
 
 static void numbers(void)

@@ -29,20 +29,30 @@ pub fn compiler(name: &str, standard: &str, include: &Path) -> Command {
     command
 }
 
-/// Compiles a C99 source, links it with the engine and gives the program.
-pub fn linked(source: &Path, program: &Path) -> PathBuf {
-    built(source, program, &["-O1"])
+/// The sources of the formula screen, but for those with these names.
+pub fn screen_without(names: &[&str]) -> Vec<PathBuf> {
+    let files = std::fs::read_dir(root().join("shell")).expect("the folder is there");
+    files
+        .map(|file| file.expect("the folder can be read").path())
+        .filter(|path| path.extension().is_some_and(|extension| extension == "c"))
+        .filter(|path| !names.iter().any(|name| path.ends_with(name)))
+        .collect()
+}
+
+/// Compiles C99 sources, links them with the engine and gives the program.
+pub fn linked(sources: &[PathBuf], program: &Path) -> PathBuf {
+    built(sources, program, &["-O1"])
 }
 
 /// The same with sanitizers in the C code. They stop the program at a fault.
-pub fn sanitized(source: &Path, program: &Path) -> PathBuf {
+pub fn sanitized(sources: &[PathBuf], program: &Path) -> PathBuf {
     let sanitizers = ["-fsanitize=address,undefined", "-fno-sanitize-recover=all"];
-    built(source, program, &[&["-g", "-O1"], &sanitizers[..]].concat())
+    built(sources, program, &[&["-g", "-O1"], &sanitizers[..]].concat())
 }
 
-fn built(source: &Path, program: &Path, flags: &[&str]) -> PathBuf {
+fn built(sources: &[PathBuf], program: &Path, flags: &[&str]) -> PathBuf {
     let mut command = compiler("cc", "c99", &root().join("include"));
-    command.args(flags).arg(source).arg(root().join("target/staticlib/libengine.a"));
+    command.args(flags).args(sources).arg(root().join("target/staticlib/libengine.a"));
     let output = command.arg("-o").arg(program).output().expect("cc is needed");
     assert!(output.status.success(), "{}", text(&output.stderr));
     program.to_path_buf()

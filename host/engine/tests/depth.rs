@@ -1,27 +1,16 @@
 //! The header's run depth: the deepest nest of runs at an entry or below it, as the plain
 //! evaluator finds it in the forms.
 
+mod script;
+
 use engine::memory::first_unknown;
-use engine::program::{check, linked, run, sanitized, text, written};
-use plain::bind::bind;
+use engine::program::{check, linked, run, sanitized, written};
 use plain::form::Forms;
-use plain::limits::TABLE_ENTRIES;
 use plain::nesting::nesting;
-use plain::random::formula::{formula, join};
-use plain::random::limit::{deep, wide};
-use plain::random::nested::nested;
-use plain::random::pasted::pasted;
-use plain::random::rng::Rng;
 use plain::samples::previews;
 use plain::samples::taken::nested_runs;
-use plain::syntax::parse;
-use std::path::{Path, PathBuf};
+use script::{Script, program, random_texts};
 use std::process::Command;
-
-/// A program that a test writes.
-fn program(name: &str) -> PathBuf {
-    Path::new(env!("CARGO_TARGET_TMPDIR")).join(name)
-}
 
 /// Runs one after another: no run stands in another.
 const MEAN_AND_DISTANCE: &str = r"let mean = data.sumBy(\b -> b).div(data.count()) in
@@ -29,7 +18,7 @@ const MEAN_AND_DISTANCE: &str = r"let mean = data.sumBy(\b -> b).div(data.count(
     data.countWhere(\b -> b.sub(mean).mul(b.sub(mean)).gt(far))";
 
 /// Texts with the depth of their whole entry.
-fn known_depths() -> Vec<(String, u32)> {
+fn known_depths() -> Vec<(String, u64)> {
     let known = [
         (r"data.sumBy(\p -> data.countWhere(\q -> q.gt(p)))", 2),
         // the inner run awaits nothing, and is worked out before the outer one
@@ -74,8 +63,8 @@ fn known_depths() -> Vec<(String, u32)> {
 }
 
 /// For each form the deepest nest of runs at it or below it.
-fn depths(forms: &Forms) -> Vec<u32> {
-    let mut depths = nesting(forms);
+fn depths(forms: &Forms) -> Vec<u64> {
+    let mut depths: Vec<u64> = nesting(forms).into_iter().map(u64::from).collect();
     for (number, form) in forms.list.iter().enumerate() {
         let below = form.dependencies().into_iter().map(|number| depths[number]).max();
         depths[number] = depths[number].max(below.unwrap_or(0));
@@ -83,57 +72,14 @@ fn depths(forms: &Forms) -> Vec<u32> {
     depths
 }
 
-/// Texts for one cache after another, and what depths.c writes about them: an empty text
-/// opens the cache where the table has no room for the next one.
-#[derive(Default)]
-struct Script {
-    input: Vec<u8>,
-    expected: Vec<(String, Vec<u32>)>,
-    forms: Forms,
-}
-
-impl Script {
-    /// Opens the cache.
-    fn open(&mut self) {
-        self.input.push(0);
-        self.forms = Forms::default();
-    }
-
-    /// Adds a text, if it is one that is read. Gives the depth of the whole.
-    fn add(&mut self, bytes: &[u8]) -> Option<u32> {
-        let read = parse(bytes).ok()?;
-        let mut forms = self.forms.clone();
-        let mut whole = bind(&read, &mut forms).whole;
-        if self.expected.is_empty() || forms.list.len() > TABLE_ENTRIES {
-            self.open();
-            forms = Forms::default();
-            whole = bind(&read, &mut forms).whole;
-        }
-        self.forms = forms;
-        self.input.extend_from_slice(bytes);
-        self.input.push(0);
-        let depths = depths(&self.forms);
-        let depth = depths[whole];
-        self.expected.push((text(bytes), depths));
-        Some(depth)
-    }
-
-    /// Runs depths.c over the texts and compares each depth.
-    fn check(self, name: &str) {
-        let program = linked(&check("depths.c"), &program(name));
-        let lines = written(&run(&mut Command::new(program), &self.input));
-        assert_eq!(lines.lines().count(), self.expected.len());
-        for ((text, expected), line) in self.expected.iter().zip(lines.lines()) {
-            let said: Vec<u32> =
-                line.split(' ').map(|depth| depth.parse().expect("a number")).collect();
-            assert_eq!(&said, expected, "{text}");
-        }
-    }
+/// depths.c as a program of this name.
+fn depths_program(name: &str) -> Command {
+    Command::new(linked(&[check("depths.c")], &program(name)))
 }
 
 #[test]
 fn known_texts() {
-    let mut script = Script::default();
+    let mut script = Script::new(depths);
     for (text, depth) in known_depths() {
         assert_eq!(script.add(text.as_bytes()), Some(depth), "{text}");
         script.open();
@@ -141,41 +87,29 @@ fn known_texts() {
     for sample in previews() {
         script.add(sample.text.as_bytes()).expect("a sample is read");
     }
-    script.check("known_depths");
+    script.check(&mut depths_program("known_depths"));
 }
 
 #[test]
-fn random_texts() {
-    let mut rng = Rng::new(7);
-    let mut script = Script::default();
+fn random_texts_at_every_depth() {
+    let mut script = Script::new(depths);
     let mut seen = [0; 5];
-    for _ in 0..4_000 {
-        let bytes = match rng.below(16) {
-            0 => wide(&mut rng),
-            1 => deep(&mut rng),
-            2 | 3 => pasted(&mut rng),
-            4..=6 => {
-                let tokens = formula(&mut rng);
-                join(&mut rng, &tokens)
-            }
-            _ => {
-                let tokens = nested(&mut rng);
-                join(&mut rng, &tokens)
-            }
-        };
+    for bytes in random_texts(7, 4_000) {
         if let Some(depth) = script.add(&bytes) {
             seen[depth.min(4) as usize] += 1;
         }
     }
     assert!(seen[..4].iter().all(|count| *count >= 20), "{seen:?}");
-    script.check("random_depths");
+    script.check(&mut depths_program("random_depths"));
 }
 
-/// The depth of contents that no edit makes: it reads nothing outside of the cache.
+/// The depth and the steps of contents that no edit makes: they read nothing outside of the cache.
 #[test]
 fn any_contents() {
-    let program = sanitized(&check("contents.c"), &program("contents"));
+    let program = sanitized(&[check("contents.c")], &program("contents"));
     let kinds = first_unknown().to_string();
     let lines = written(&run(Command::new(program).arg(kinds), b""));
-    assert_eq!(lines, "all bits set: 0\nany contents: 1\nany runs: 4\nmost runs: 254\n");
+    let depths = "all bits set: 0\nany contents: 1\nany runs: 4\nmost runs: 254\n";
+    let steps = format!("most steps: {}\nsum of too many readings: 33 steps\n", u64::MAX);
+    assert_eq!(lines, depths.to_string() + &steps);
 }

@@ -21,7 +21,7 @@ fn folder(test: &str) -> PathBuf {
 
 /// What a program of the folder check writes.
 fn said(name: &str) -> String {
-    let program = linked(&check(&format!("{name}.c")), &folder(name).join(name));
+    let program = linked(&[check(&format!("{name}.c"))], &folder(name).join(name));
     written(&run(&mut Command::new(program), b""))
 }
 
@@ -59,7 +59,7 @@ fn layout() -> Vec<(&'static str, usize)> {
     ]
 }
 
-/// The limits and sizes of the rules and of docs/MEMORY.md.
+/// The limits and sizes of the rules and of docs/MEMORY.md, and the steps of a frame.
 fn sizes() -> Vec<(&'static str, usize)> {
     let bytes = 4 * memory::READINGS + 4 * memory::HEADS + 2 * memory::LINKS + 8 * memory::CELLS;
     vec![
@@ -76,6 +76,7 @@ fn sizes() -> Vec<(&'static str, usize)> {
         ("FORMULA_CELLS_CELLS", memory::CELLS),
         ("FORMULA_PLACES", limits::PLACES),
         ("FORMULA_CACHE_BYTES", bytes),
+        ("FORMULA_STEPS_FRAME", 40),
     ]
 }
 
@@ -143,13 +144,15 @@ fn header() -> String {
 
 /// Uses of all that the header defines besides the calls.
 const USE: &str = "#include \"formula.h\"
-uint32_t use(formula_cache *cache, uint16_t *places, char *name);
-uint32_t use(formula_cache *cache, uint16_t *places, char *name)
+uint32_t use(formula_cache *cache, uint16_t *places, uint64_t *steps, char *name);
+uint32_t use(formula_cache *cache, uint16_t *places, uint64_t *steps, char *name)
 {
     formula_name_text(0x61, name);
+    formula_cache_steps(cache, steps);
     return formula_cache_open(cache, NULL, 0) + formula_cache_edit(cache, \"1\", 1, places).whole +
            formula_cache_preview(cache, 0, 1).worked + formula_cache_run_depth(cache, 0) +
-           formula_cache_print(cache, 0, name, 1).length + formula_text_evaluate(name, 1, NULL, 0, 0).parts;
+           formula_cache_print(cache, 0, name, 1).length + formula_text_evaluate(name, 1, NULL, 0, 0).parts +
+           (uint32_t)formula_cache_most_steps(cache, steps, 0);
 }
 ";
 

@@ -1,7 +1,7 @@
-//! The formula screen, shell/formula.c: the stored example, recordings that can't be used,
-//! and texts that no example file holds.
+//! The formula screen of the folder shell, line by line: its arguments, the stored example,
+//! recordings that can't be used, and texts that no example file holds.
 
-use engine::program::{self, check, linked, root, text, written};
+use engine::program::{self, check, linked, root, screen_without, text, written};
 use plain::samples::printed::{declined, printed_at_limits};
 use plain::samples::taken::{forms_128, nested_runs};
 use std::path::{Path, PathBuf};
@@ -14,7 +14,13 @@ fn folder() -> &'static Path {
 
 fn shell() -> &'static Path {
     static SHELL: OnceLock<PathBuf> = OnceLock::new();
-    SHELL.get_or_init(|| linked(&root().join("shell/formula.c"), &folder().join("formula")))
+    SHELL.get_or_init(|| linked(&screen_without(&[]), &folder().join("formula")))
+}
+
+/// A program of the folder check, linked with the screen's sources but for these.
+fn linked_without(names: &[&str], program: &str) -> PathBuf {
+    let sources = [vec![check(&format!("{program}.c"))], screen_without(names)].concat();
+    linked(&sources, &folder().join(program))
 }
 
 /// Runs the screen with arguments and an input.
@@ -23,10 +29,19 @@ fn run(arguments: &[&str], input: &[u8]) -> Output {
 }
 
 /// Runs the screen over a recording with these contents.
-fn run_over(name: &str, recording: &str, input: &[u8]) -> Output {
+fn run_over(name: &str, recording: impl AsRef<[u8]>, input: &[u8]) -> Output {
     let path = folder().join(name);
     std::fs::write(&path, recording).expect("the folder can be written");
     run(&[path.to_str().expect("a path in UTF-8")], input)
+}
+
+/// Runs a command of sh in a terminal of its own, where the input is typed.
+fn run_in_terminal(command: &str, input: &[u8]) -> Output {
+    let spawn = "import os, pty, sys\n\
+        sys.exit(os.waitstatus_to_exitcode(pty.spawn(['sh', '-c', sys.argv[1]])))";
+    let mut python = Command::new("python3");
+    python.args(["-c", spawn, command]).env("TERM", "xterm").current_dir(root());
+    program::run(&mut python, input)
 }
 
 #[test]
@@ -35,9 +50,103 @@ fn the_stored_example() {
     let stored = std::fs::read_to_string(root().join("shell/example.out"));
     let output = written(&run(&["shell/interval.txt"], &input));
     assert_eq!(output, stored.expect("the example is there"));
-    assert_eq!(written(&run(&[], &input)), output);
-    assert_eq!(written(&run(&["--plain-check", "shell/interval.txt"], &input)), output);
-    assert_eq!(written(&run(&["--plain-check"], &input)), output);
+    for arguments in [
+        &[][..],
+        &["--plain"],
+        &["--plain-check"],
+        &["--plain-check", "shell/interval.txt"],
+        &["shell/interval.txt", "--plain", "--plain-check"],
+        &["--", "shell/interval.txt"],
+    ] {
+        assert_eq!(written(&run(arguments, &input)), output, "{arguments:?}");
+    }
+}
+
+#[test]
+fn help() {
+    let output = written(&run(&["--help"], b""));
+    let has_line = |start: &str| output.lines().any(|line| line.starts_with(start));
+    assert!(has_line("Usage: formula [--plain] [--plain-check] [--help] [--] [RECORDING]"));
+    let arguments = ["RECORDING ", "--plain ", "--plain-check ", "--help ", "-- "];
+    for word in arguments.into_iter().chain(["NO_COLOR ", "TERM ", "0 ", "1 ", "2 ", "3 "]) {
+        assert!(has_line(&format!("  {word}")), "{word}");
+    }
+    for key in "Left Right Home End Backspace Delete Up Down Enter Alt-B Alt-F".split(' ') {
+        assert!(output.contains(key), "{key}");
+    }
+    for key in "Left Right U K W L Z C D".split(' ') {
+        assert!(output.contains(&format!("Ctrl-{key}")), "{key}");
+    }
+    assert!(output.lines().all(|line| line.len() <= 80));
+    assert_eq!(written(&run(&["--plain", "no/such/file", "--help"], b"")), output);
+}
+
+/// The exit status is 2, the argument is named, and nothing is shown.
+#[test]
+fn arguments_that_cannot_be_used() {
+    let option = "is no option";
+    let path = "is a second recording";
+    for (arguments, named, fault) in [
+        (&["--bogus"][..], "--bogus", option),
+        (&["-h"], "-h", option),
+        (&["--plain-chec"], "--plain-chec", option),
+        (&["--plain-checks"], "--plain-checks", option),
+        (&["--help", "--plain=1"], "--plain=1", option),
+        (&["shell/interval.txt", "---"], "---", option),
+        (&["--\x1b[31m\u{9b}31m\n"], "--?[31m??31m ", option),
+        (&["one", "two"], "two", path),
+        (&["--plain-check", "one", "two", "three"], "two", path),
+        (&["-", "-"], "-", path),
+        (&["--", "--plain", "--help"], "--help", path),
+    ] {
+        let output = run(arguments, b"1\n");
+        assert_eq!(output.status.code(), Some(2), "{arguments:?}");
+        let words = format!("formula: '{named}' {fault}; see formula --help\n");
+        assert_eq!(text(&output.stderr), words);
+        assert_eq!(text(&output.stdout), "");
+    }
+    check_bad(&run(&["--", "--plain"], b""), "formula: --plain: No such file");
+}
+
+#[test]
+fn output_that_cannot_be_written() {
+    for option in ["--help", "--plain"] {
+        let command = format!("'{}' {option} > /dev/full", shell().display());
+        let mut sh = Command::new("sh");
+        let output = program::run(sh.args(["-c", &command]).current_dir(root()), b"1\n");
+        check_bad(&output, "formula: the output can't be written\n");
+    }
+}
+
+/// With --plain and --plain-check lines are read in a terminal too, and are asked for.
+#[test]
+fn lines_that_are_typed() {
+    for option in ["--plain", "--plain-check"] {
+        let command = format!("'{}' {option}", shell().display());
+        let output = written(&run_in_terminal(&command, b"data.count()\n? 1\n\x04"));
+        assert!(output.contains("240 readings\r\ntype a formula, or ? and the"), "{output}");
+        assert!(output.contains("\r\n> "), "{output}");
+        assert!(output.contains("    1  .count           entry   1  240\r\n"), "{output}");
+        // once by the terminal, once in full, and not again by the program
+        assert_eq!(output.matches("data.count()").count(), 2, "{output}");
+    }
+}
+
+/// A recording from the standard input, with formulas from the terminal.
+#[test]
+fn a_recording_from_the_standard_input() {
+    let command = format!("printf '7 8\\n9' | '{}' --plain -", shell().display());
+    let output = written(&run_in_terminal(&command, b"data.sum()\n\x04"));
+    assert!(output.contains("-: 3 readings\r\ntype a formula"), "{output}");
+    assert!(output.contains("    1  .sum             entry   1  24\r\n"), "{output}");
+    let run_without_terminal = |recording: &[u8]| {
+        let mut command = Command::new("setsid");
+        program::run(command.arg("--wait").arg(shell()).arg("-"), recording)
+    };
+    let none = "formula: -: the recording takes all of the standard input, and there is no \
+        terminal for formulas\n";
+    check_bad(&run_without_terminal(b"7 8\n9"), none);
+    check_bad(&run_without_terminal(b"7 8\n9 x"), "formula: -:2:3: 'x' is no number\n");
 }
 
 /// With --plain-check a part that is evaluated to something else says so in its row, in
@@ -45,7 +154,7 @@ fn the_stored_example() {
 /// evaluated, and without the option none is.
 #[test]
 fn evaluations_that_differ() {
-    let program = linked(&check("differing.c"), &folder().join("differing"));
+    let program = linked_without(&["plain_rows.c"], "differing");
     let path = folder().join("three.txt");
     std::fs::write(&path, "7 8 9").expect("the folder can be written");
     let seen = |option: Option<&str>, formula: &str| {
@@ -122,17 +231,47 @@ fn recordings_that_cannot_be_used() {
     ] {
         let recording = format!("# a comment\n1 2\n3 {word}\n");
         let output = run_over("bad.txt", &recording, b"data\n");
-        check_bad(&output, &format!("bad.txt:3: '{}", &word[..word.len().min(31)]));
-        check_bad(&output, fault);
+        let shown = &word[..word.len().min(31)];
+        check_bad(&output, &format!("bad.txt:3:3: '{shown}' {fault}\n"));
     }
-    // a zero byte hides nothing
-    let output = run_over("zero.txt", "12\0xyz 3", b"data\n");
-    check_bad(&output, "zero.txt:1: '12' is no number");
-    let long = "7 ".repeat(1025);
-    check_bad(&run_over("long.txt", &long, b"data\n"), "long.txt:1: over 1024 readings");
-    for arguments in [&["one", "two"][..], &["--plain-check", "one", "two"]] {
-        assert_eq!(run(arguments, b"").status.code(), Some(2));
+}
+
+/// The line and the column of a word are those of its first byte, counted from 1.
+#[test]
+fn places_in_recordings() {
+    let place = |recording: &str, place: &str, fault: &str| {
+        let output = run_over("place.txt", recording, b"data\n");
+        check_bad(&output, &format!("place.txt:{place}: {fault}\n"));
+    };
+    let none = "'x' is no number";
+    place("x", "1:1", none);
+    place("\t 7 x 8", "1:5", none);
+    place("1\r\n\r\n x#", "3:2", none);
+    place("1 # 2 x\n\n#\n  x", "4:3", none);
+    place("12#3 x\nx", "2:1", none);
+    place("é x", "1:1", "'??' is no number");
+    place("1 #é\n# é\n2 x", "3:3", none);
+    place(&"7 ".repeat(1025), "1:2049", "over 1024 readings");
+    place(&format!("{}\n -8#", "7\n".repeat(1024)), "1026:2", "over 1024 readings");
+    place(&format!("{}x", "7 ".repeat(1024)), "1:2049", none);
+}
+
+/// No byte of a word or a path can steer the terminal, and a zero byte hides nothing.
+#[test]
+fn words_and_paths_are_shown_safely() {
+    for (word, shown) in [
+        (&b"12\0xyz"[..], "12?xyz"),
+        (b"\0", "?"),
+        (b"\x1b[31mred\x07", "?[31mred?"),
+        (b"\x9b31m\x7f\x0b\x0c\x80\xff", "?31m?????"),
+        (b"7\x1b[2J7890123456789012345678901234", "7?[2J78901234567890123456789012"),
+    ] {
+        let output = run_over("safe.txt", [b"1 ", word, b" 2"].concat(), b"data\n");
+        check_bad(&output, &format!("safe.txt:1:3: '{shown}' is no number\n"));
     }
+    check_bad(&run(&["no\x1b[31m\n/such"], b""), "formula: no?[31m /such: No such file");
+    let output = written(&run_over("steer\x1b[31m.txt", "1", b""));
+    assert!(output.ends_with("/steer?[31m.txt: 1 readings\n"), "{output}");
 }
 
 #[test]
@@ -180,7 +319,7 @@ fn a_full_table() {
 /// shown as refused, and is not awaited.
 #[test]
 fn a_damaged_cache() {
-    let program = linked(&check("recovery.c"), &folder().join("recovery"));
+    let program = linked_without(&["main.c", "plain.c"], "recovery");
     let ill_formed = "refused (4): the cache is ill-formed\n";
     let expected = [
         &format!("  {ill_formed}  the recording is opened again\n"),
