@@ -140,8 +140,9 @@ fn a_recording_from_the_standard_input() {
     assert!(output.contains("-: 3 readings\r\ntype a formula"), "{output}");
     assert!(output.contains("    1  .sum             entry   1  24\r\n"), "{output}");
     let run_without_terminal = |recording: &[u8]| {
-        let mut command = Command::new("setsid");
-        program::run(command.arg("--wait").arg(shell()).arg("-"), recording)
+        let leave = "import os, sys\nos.setsid()\nos.execv(sys.argv[1], sys.argv[1:])";
+        let mut python = Command::new("python3");
+        program::run(python.args(["-c", leave]).arg(shell()).arg("-"), recording)
     };
     let none = "formula: -: the recording takes all of the standard input, and there is no \
         terminal for formulas\n";
