@@ -1,7 +1,9 @@
 #include "draw.h"
 
+#include "bytes.h"
 #include "graph.h"
 #include "note.h"
+#include "rows.h"
 
 #include <inttypes.h>
 #include <string.h>
@@ -70,13 +72,14 @@ static enum style byte_style(const struct live *live, size_t at)
 {
     const struct session *session = live->session;
     const struct part *part = &session->parts.at[live->at_cursor];
+    bool is_too_long = live->edit.answer.refusal == FORMULA_REFUSAL_TEXT_TOO_LONG;
     char byte = live->line.text[at];
     size_t place;
     if (live->is_taken) {
         bool is_part = is_in(at, part->mark, part->mark_length) || is_in(at, part->word, part->word_length);
         return is_part ? STYLE_STRONG : STYLE_PLAIN;
     }
-    if (live_fault(live, &place) && (at == place || (at > place && live->edit.answer.refusal == 1))) {
+    if (live_fault(live, &place) && (at == place || (at > place && is_too_long))) {
         return STYLE_FAULT;
     }
     return byte < ' ' || byte > '~' ? STYLE_FAULT : STYLE_PLAIN;
@@ -126,9 +129,8 @@ static void draw_counts(const struct live *live, struct grid *grid, const struct
     char words[128];
     int column;
     (void)snprintf(words, sizeof words,
-                   "%" PRIu32 " part%s, %" PRIu32 " entr%s: %" PRIu32 " reused, %" PRIu32 " worked out", count,
-                   count == 1 ? "" : "s", progress->entries, progress->entries == 1 ? "y" : "ies", live->edit.reused,
-                   live->worked);
+                   "%" PRIu32 " part%s; entries: %" PRIu32 " new, %" PRIu32 " reused, %" PRIu32 " worked out", count,
+                   count == 1 ? "" : "s", live->edit.answer.added, live->edit.reused, live->worked);
     column = grid_put(grid, layout->status, 0, STYLE_PLAIN, words);
     if (progress->away > 0) {
         (void)snprintf(words, sizeof words, ", %" PRIu32 " turned away", progress->away);
@@ -141,20 +143,33 @@ static void draw_counts(const struct live *live, struct grid *grid, const struct
     }
 }
 
+/* The members that the word at a refused place may become. */
+static void draw_members(const struct live *live, struct grid *grid, int row)
+{
+    const struct line *line = &live->line;
+    size_t place = live->edit.answer.place;
+    size_t end = place;
+    char words[sizeof MEMBERS];
+    while (end < line->length && is_letter(line->text[end])) {
+        end++;
+    }
+    members_like(line->text + place, end - place, words);
+    grid_put(grid, row, grid_put(grid, row, 0, STYLE_DIM, "members: "), STYLE_DIM, words);
+}
+
 static void draw_status(const struct live *live, struct grid *grid, const struct layout *layout)
 {
     const struct session *session = live->session;
     struct progress progress = live_progress(live);
-    if (session->parts.count == 0) {
-        return;
-    }
-    if (!live->is_taken) {
+    if (progress.left > 0) {
+        draw_progress(live, grid, layout->status, &progress);
+    } else if (live->edit.answer.refusal == FORMULA_REFUSAL_WRONG_CALL) {
+        draw_members(live, grid, layout->status);
+    } else if (live->is_taken) {
+        draw_counts(live, grid, layout, &progress);
+    } else if (session->parts.count > 0) {
         int column = grid_put(grid, layout->status, 0, STYLE_DIM, "the last one taken: ");
         grid_put_bytes(grid, layout->status, column, STYLE_DIM, session->text, session->length);
-    } else if (progress.left > 0) {
-        draw_progress(live, grid, layout->status, &progress);
-    } else {
-        draw_counts(live, grid, layout, &progress);
     }
 }
 

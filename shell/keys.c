@@ -160,7 +160,8 @@ static enum key take_escape(struct keys *keys, unsigned char byte)
 /* A byte that no sequence has breaks one off, and counts for itself. */
 static enum key take_control(struct keys *keys, unsigned char byte)
 {
-    bool is_console = byte == '[' && keys->parameter == 0 && keys->parameters[0] == 0 && !keys->is_ignored;
+    bool is_console = byte == '[' && keys->state == KEYS_CONTROL && keys->parameter == 0 &&
+                      keys->parameters[0] == 0 && !keys->is_ignored;
     if (byte < ' ' || byte > '~') {
         keys->state = KEYS_GROUND;
         return take_ground(keys, byte);
@@ -186,23 +187,17 @@ enum key keys_take(struct keys *keys, unsigned char byte)
     switch (keys->state) {
     case KEYS_ESCAPE: return take_escape(keys, byte);
     case KEYS_CONTROL: return take_control(keys, byte);
-    case KEYS_SINGLE:
-        if (byte < ' ' || byte > '~') {
-            keys->state = KEYS_GROUND;
-            return take_ground(keys, byte);
-        }
-        return finish_control(keys, byte);
+    case KEYS_SINGLE: return take_control(keys, byte);
     default: return take_ground(keys, byte);
     }
 }
 
 bool keys_are_midway(const struct keys *keys)
 {
-    return keys->state != KEYS_GROUND || (keys->paste_length > 0 && !keys->is_paste_taken);
+    return keys->state != KEYS_GROUND && !keys->is_pasting;
 }
 
-enum key keys_settle(struct keys *keys)
+void keys_settle(struct keys *keys)
 {
     keys->state = KEYS_GROUND;
-    return keys_are_midway(keys) ? pasted(keys) : KEY_OTHER;
 }

@@ -54,10 +54,10 @@ struct keys {
 /* Takes a byte. Gives the key that it ends. */
 enum key keys_take(struct keys *keys, unsigned char byte);
 
-/* Whether more bytes are awaited for a key that has begun. */
+/* Whether more bytes are awaited for a key that has begun. A paste may take any time, and goes on up to its end. */
 bool keys_are_midway(const struct keys *keys);
 
-/* No more bytes came for a while: gives the key that they make by themselves. A paste goes on behind it. */
-enum key keys_settle(struct keys *keys);
+/* No more bytes came for a while: what has begun is no sequence, and an ESC by itself is no key. */
+void keys_settle(struct keys *keys);
 
 #endif

@@ -27,7 +27,10 @@ struct line {
 /* Inserts bytes at the cursor. Gives whether there was room; if not, nothing is inserted. */
 bool line_insert(struct line *line, const char *bytes, size_t count);
 
-/* Inserts a paste: each line break and tab in it is one blank, and those at its ends are left out. */
+/*
+ * Inserts a paste, as much of it as there is room for: each line break and tab in it is one blank, and line breaks at
+ * its ends are left out. Gives whether all was inserted.
+ */
 bool line_paste(struct line *line, const char *bytes, size_t count);
 
 void line_left(struct line *line);

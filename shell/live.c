@@ -39,10 +39,10 @@ static uint32_t first_awaited(const struct session *session)
 }
 
 /*
- * Works out entries within the steps of a frame. One that takes more than these has a frame of its own, if `is_alone`
- * says so. Gives whether there is more to work out.
+ * Works out entries within so many steps. One that takes more than these has a frame of its own, if `is_alone` says so.
+ * Gives whether there is more to work out.
  */
-static bool work(struct live *live, bool is_alone)
+static bool work(struct live *live, uint64_t most, bool is_alone)
 {
     struct session *session = live->session;
     uint64_t spent = 0;
@@ -50,7 +50,7 @@ static bool work(struct live *live, bool is_alone)
     while ((entry = first_awaited(session)) < FORMULA_TABLE_ENTRIES) {
         formula_preview_answer shown;
         uint64_t steps = PREVIEW_STEPS + live->steps[entry];
-        if (spent + steps > FRAME_STEPS && (spent > 0 || !is_alone)) {
+        if (spent + steps > most && (spent > 0 || !is_alone)) {
             return true;
         }
         shown = formula_cache_preview(&session->cache, entry, 1);
@@ -63,7 +63,7 @@ static bool work(struct live *live, bool is_alone)
 
 bool live_work(struct live *live)
 {
-    return work(live, true);
+    return work(live, FRAME_STEPS, true);
 }
 
 /* Which parts are turned away, and what the others show without any work. */
@@ -217,7 +217,7 @@ void live_key(struct live *live, enum key key, const struct keys *keys)
     live->notice = NOTICE_NONE;
     change_line(live, key, keys);
     edit(live);
-    (void)work(live, false);
+    (void)work(live, KEY_STEPS, false);
 }
 
 /* ---- What is shown ---- */

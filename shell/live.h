@@ -22,7 +22,10 @@
 #define FRAME_STEPS 1000000
 #define PREVIEW_STEPS 1000
 
-/* Why nothing was inserted, or why the cache was opened again. */
+/* Steps of the frame that belongs to a key: many keys may come at once, and each has its own. */
+#define KEY_STEPS 100000
+
+/* Why not all was inserted, or why the cache was opened again. */
 enum notice { NOTICE_NONE, NOTICE_LINE_FULL, NOTICE_TABLE_FULL, NOTICE_CACHE_DAMAGED };
 
 struct live {
@@ -54,8 +57,8 @@ struct progress {
 void live_start(struct live *live, struct session *session, const char *name);
 
 /*
- * Takes a key: changes the line, edits and previews, but for entries that take more than the steps of a frame. The
- * bytes of a paste, and the byte that was typed, are in `keys`.
+ * Takes a key: changes the line, edits and previews, within the steps of a key. The bytes of a paste, and the byte that
+ * was typed, are in `keys`.
  */
 void live_key(struct live *live, enum key key, const struct keys *keys);
 

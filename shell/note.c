@@ -1,6 +1,6 @@
 #include "note.h"
 
-#include "words.h"
+#include "rows.h"
 
 #include <inttypes.h>
 #include <stdio.h>
@@ -38,22 +38,32 @@ static void note_fault(const struct live *live, const struct view *view, struct 
 static const char *notice_words(enum notice notice)
 {
     switch (notice) {
-    case NOTICE_LINE_FULL: return "the line is full: it takes 4,096 bytes";
+    case NOTICE_LINE_FULL: return "the line is full: what is beyond 4,096 bytes is left out";
     case NOTICE_TABLE_FULL: return "the table was full: the recording is opened again, and nothing is reused";
     case NOTICE_CACHE_DAMAGED: return "the cache was damaged: the recording is opened again, and nothing is reused";
     default: return "";
     }
 }
 
-/* What to do where a part is turned away, by the first such part. */
-static void note_hint(const struct live *live, struct note *note)
+/* What the part at the cursor shows, where its row has no room for that. */
+static void note_cut(const struct live *live, int columns, struct note *note)
+{
+    char words[SHOWN_BYTES];
+    if (part_words(live, live->at_cursor, columns, words)) {
+        note->style = STYLE_PLAIN;
+        (void)snprintf(note->words, sizeof note->words, "%s", words);
+    }
+}
+
+/* What to do where a part is turned away, by the first such part. Gives whether there is one. */
+static bool note_hint(const struct live *live, struct note *note)
 {
     uint32_t part = 0;
     while (part < live->session->parts.count && !live->session->is_turned_away[part]) {
         part++;
     }
     if (part == live->session->parts.count) {
-        return;
+        return false;
     }
     if (live->depths[part] > MOST_DEPTH) {
         (void)snprintf(note->words, sizeof note->words, "hint: runs may stand %d deep in one another here: use fewer",
@@ -63,6 +73,7 @@ static void note_hint(const struct live *live, struct note *note)
                        "hint: a part may take %d million steps here: use fewer runs in one another",
                        MOST_STEPS / 1000000);
     }
+    return true;
 }
 
 struct note note_of(const struct live *live, const struct view *view)
@@ -75,8 +86,8 @@ struct note note_of(const struct live *live, const struct view *view)
         (void)snprintf(note.words, sizeof note.words, "%s", notice_words(live->notice));
     } else if (!live->is_taken) {
         note_fault(live, view, &note);
-    } else {
-        note_hint(live, &note);
+    } else if (!note_hint(live, &note)) {
+        note_cut(live, view->column + view->width, &note);
     }
     return note;
 }
@@ -91,31 +102,55 @@ static int beside(const struct note *note, int columns)
     return note->column - 1 - length >= 0 ? note->column - 1 - length : NO_COLUMN;
 }
 
+/* How many bytes of some words stand in a row: up to a blank, where they don't all fit and there is one. */
+static size_t row_length(const char *words, size_t columns)
+{
+    size_t length = strlen(words);
+    size_t end = columns;
+    if (length <= columns) {
+        return length;
+    }
+    while (end > 0 && words[end] != ' ') {
+        end--;
+    }
+    return end > 0 ? end : columns;
+}
+
+/* The words behind those of a row. */
+static const char *next_row(const char *words, size_t columns)
+{
+    words += row_length(words, columns);
+    return words + (*words == ' ');
+}
+
 int note_rows(const struct note *note, int columns)
 {
-    int length = (int)strlen(note->words);
-    int rows = length > columns ? (length + columns - 1) / columns : 1;
-    if (note->column == NO_COLUMN) {
-        return rows;
+    const char *words = note->words;
+    int rows = 0;
+    if (note->column != NO_COLUMN && beside(note, columns) != NO_COLUMN) {
+        return 1;
     }
-    return beside(note, columns) == NO_COLUMN ? 1 + rows : 1;
+    do {
+        words = next_row(words, (size_t)columns);
+        rows++;
+    } while (*words != '\0');
+    return rows + (note->column != NO_COLUMN);
 }
 
 void note_draw(const struct note *note, struct grid *grid, int row)
 {
-    size_t length = strlen(note->words);
+    const char *words = note->words;
     size_t columns = (size_t)grid->columns;
-    size_t at;
     int column = note->column == NO_COLUMN ? NO_COLUMN : beside(note, grid->columns);
-    if (note->column != NO_COLUMN) {
+    bool has_caret = note->column != NO_COLUMN && (column != NO_COLUMN || row + 1 < grid->rows);
+    if (has_caret) {
         grid_put(grid, row, note->column, note->style, "^");
     }
     if (column != NO_COLUMN) {
-        grid_put(grid, row, column, note->style, note->words);
+        grid_put(grid, row, column, note->style, words);
         return;
     }
-    row += note->column != NO_COLUMN;
-    for (at = 0; at < length; at += columns) {
-        grid_put_bytes(grid, row++, 0, note->style, note->words + at, length - at < columns ? length - at : columns);
+    for (row += has_caret; *words != '\0'; words = next_row(words, columns)) {
+        grid_put_bytes(grid, row++, 0, note->style, words, row_length(words, columns));
     }
 }

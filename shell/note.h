@@ -4,6 +4,7 @@
 
 #include "grid.h"
 #include "live.h"
+#include "words.h"
 
 /* What is seen of the formula line: from which byte on, and from which column. */
 struct view {
@@ -15,7 +16,7 @@ struct view {
 
 /* Words, and the column that they are about; NO_COLUMN for none. */
 struct note {
-    char words[96];
+    char words[SHOWN_BYTES + 2];
     enum style style;
     int column;
 };
@@ -26,6 +27,7 @@ struct note note_of(const struct live *live, const struct view *view);
 /* How many rows the note takes: more than one where its words have no room beside the column that they are about. */
 int note_rows(const struct note *note, int columns);
 
+/* Draws the note from a row on. In the last row there is no caret where the words need it. */
 void note_draw(const struct note *note, struct grid *grid, int row);
 
 #endif

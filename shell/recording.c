@@ -1,3 +1,5 @@
+#define _POSIX_C_SOURCE 200809L
+
 #include "recording.h"
 
 #include "bytes.h"
@@ -5,6 +7,7 @@
 
 #include <errno.h>
 #include <string.h>
+#include <unistd.h>
 
 /* A word of a recording; a longer one is no number. */
 #define WORD_BYTES 32
@@ -155,6 +158,9 @@ bool recording_load(const char *path, struct recording *recording)
     if (file == NULL) {
         put_error(path);
         return false;
+    }
+    if (file == stdin && isatty(STDIN_FILENO) == 1) {
+        fprintf(stderr, "formula: -: type the readings, and Ctrl-D behind them\n");
     }
     is_good = recording_read(file, path, recording);
     if (file != stdin) {

@@ -17,7 +17,7 @@ struct recording {
 /* Reads the recording of an open file, which is called `name`. Says what is wrong, with its line and column. */
 bool recording_read(FILE *file, const char *name, struct recording *recording);
 
-/* Reads the recording of the file at a path, '-' for the standard input. Says what is wrong. */
+/* Reads the recording of the file at a path, '-' for the standard input, which may be typed. Says what is wrong. */
 bool recording_load(const char *path, struct recording *recording);
 
 #endif

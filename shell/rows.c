@@ -1,9 +1,8 @@
-/* The rows of the parts: what each comes to, and for a window where it stands in the recording. */
 #define _POSIX_C_SOURCE 200809L
 
-#include "draw.h"
+#include "rows.h"
+
 #include "graph.h"
-#include "words.h"
 
 #include <inttypes.h>
 #include <string.h>
@@ -29,11 +28,10 @@ struct row {
     struct range range;
 };
 
-static void turned_away_words(const struct row *row, char words[SHOWN_BYTES])
+static void turned_away_words(const struct live *live, uint32_t part, char words[SHOWN_BYTES])
 {
-    const struct live *live = row->live;
-    unsigned depth = live->depths[row->part];
-    uint64_t millions = live->most_steps[row->part] / 1000000;
+    unsigned depth = live->depths[part];
+    uint64_t millions = live->most_steps[part] / 1000000 + 1;
     if (depth > MOST_DEPTH) {
         (void)snprintf(words, SHOWN_BYTES, "turned away: runs %u deep", depth);
     } else if (millions < 1000000) {
@@ -43,13 +41,19 @@ static void turned_away_words(const struct row *row, char words[SHOWN_BYTES])
     }
 }
 
-static void value_words(const struct row *row, char words[SHOWN_BYTES])
+static int value_column(int columns)
 {
-    if (row->live->session->is_turned_away[row->part]) {
-        turned_away_words(row, words);
+    return LABEL_COLUMN + (columns < NARROW ? NARROW_LABEL : LABEL_BYTES - 1) + 3;
+}
+
+bool part_words(const struct live *live, uint32_t part, int columns, char words[SHOWN_BYTES])
+{
+    if (live->session->is_turned_away[part]) {
+        turned_away_words(live, part, words);
     } else {
-        shown_words(&row->live->session->shown[row->part], words);
+        shown_words(&live->session->shown[part], words);
     }
+    return value_column(columns) + (int)strlen(words) > columns;
 }
 
 static enum style value_style(const struct row *row)
@@ -101,7 +105,7 @@ static void draw_row(const struct row *row)
     char label[LABEL_BYTES];
     char words[SHOWN_BYTES];
     part_label(session->text, &session->parts.at[row->part], label);
-    value_words(row, words);
+    (void)part_words(live, row->part, row->grid->columns, words);
     grid_put(row->grid, row->row, 0, plain, is_at_cursor ? ">" : " ");
     grid_put_bytes(row->grid, row->row, LABEL_COLUMN, is_at_cursor ? marked : plain, label,
                    strnlen(label, (size_t)(row->value_column - LABEL_COLUMN - 2)));
@@ -132,7 +136,7 @@ void draw_parts(const struct live *live, struct grid *grid, int row, int rows)
     int at;
     one.live = live;
     one.grid = grid;
-    one.value_column = LABEL_COLUMN + (grid->columns < NARROW ? NARROW_LABEL : LABEL_BYTES - 1) + 3;
+    one.value_column = value_column(grid->columns);
     one.range = graph_range(live->session->recording);
     for (at = 0; at < rows && first + (uint32_t)at < live->session->parts.count; at++) {
         one.part = first + (uint32_t)at;

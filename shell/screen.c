@@ -7,13 +7,14 @@
 
 #include <stdlib.h>
 #include <string.h>
+#include <time.h>
 #include <unistd.h>
 
-/* Milliseconds after which a key that has begun is taken as it is: an ESC by itself is one. */
-#define KEY_WAIT 40
+/* Milliseconds after which a key that has begun is given up: over a slow line its bytes come apart. */
+#define KEY_WAIT 500
 
-/* Bytes that are read at a time, and written at a time: a frame is rarely larger. */
-#define READ_BYTES 1024
+/* Bytes that are read before a frame is drawn, and that are written at a time: a frame is rarely larger. */
+#define READ_BYTES 64
 #define WRITE_BYTES 65536
 
 /* The screen while it is shown. */
@@ -23,8 +24,17 @@ struct screen {
     struct grid grid;
     struct painter painter;
     FILE *terminal;
-    bool is_lost; /* the terminal can't be used any more */
+    bool has_work;   /* something is left to work out */
+    int64_t read_at; /* when bytes were read last, in milliseconds */
+    bool is_lost;    /* the terminal can't be used any more */
 };
+
+static int64_t milliseconds(void)
+{
+    struct timespec time;
+    (void)clock_gettime(CLOCK_MONOTONIC, &time);
+    return (int64_t)time.tv_sec * 1000 + time.tv_nsec / 1000000;
+}
 
 /* The first of these variables of the environment that is set and not empty, or the empty text. */
 static const char *first_set(const char *const names[], size_t count)
@@ -82,8 +92,21 @@ static void take_input(struct screen *screen)
     size_t count = terminal_read(bytes, sizeof bytes);
     size_t at;
     screen->is_lost = count == 0;
+    screen->read_at = milliseconds();
     for (at = 0; at < count && !screen->live.has_left; at++) {
         take_key(screen, keys_take(&screen->keys, bytes[at]));
+    }
+    screen->has_work = live_progress(&screen->live).left > 0;
+}
+
+/* Nothing came: a key that has begun is given up in time, and a frame of work is done. */
+static void take_pause(struct screen *screen)
+{
+    if (!screen->has_work || milliseconds() - screen->read_at >= KEY_WAIT) {
+        keys_settle(&screen->keys);
+    }
+    if (screen->has_work) {
+        screen->has_work = live_work(&screen->live);
     }
 }
 
@@ -91,11 +114,7 @@ static void take_wake(struct screen *screen, enum wake wake)
 {
     switch (wake) {
     case WAKE_INPUT: take_input(screen); break;
-    case WAKE_TIME:
-        if (keys_are_midway(&screen->keys)) {
-            take_key(screen, keys_settle(&screen->keys));
-        }
-        break;
+    case WAKE_TIME: take_pause(screen); break;
     case WAKE_RESIZE: screen->painter.is_painted = false; break;
     case WAKE_SUSPEND: take_key(screen, KEY_SUSPEND); break;
     case WAKE_CONTINUE:
@@ -109,17 +128,9 @@ static void take_wake(struct screen *screen, enum wake wake)
 /* Between keys there is work, a frame at a time, as long as some is left; then nothing is done. */
 static void loop(struct screen *screen)
 {
-    bool has_work = false;
     show(screen);
     while (!screen->live.has_left && !screen->is_lost) {
-        bool is_midway = keys_are_midway(&screen->keys);
-        enum wake wake = terminal_wait(is_midway ? KEY_WAIT : has_work ? 0 : -1);
-        take_wake(screen, wake);
-        if (wake != WAKE_TIME || is_midway) {
-            has_work = live_progress(&screen->live).left > 0;
-        } else {
-            has_work = live_work(&screen->live);
-        }
+        take_wake(screen, terminal_wait(screen->has_work ? 0 : keys_are_midway(&screen->keys) ? KEY_WAIT : -1));
         show(screen);
     }
 }

@@ -30,8 +30,10 @@ static struct {
 /* Whether the terminal has to be left as it was found; handlers read it. */
 static volatile sig_atomic_t is_taken;
 
-static const int ending[] = {SIGHUP, SIGINT, SIGQUIT, SIGTERM, SIGILL,  SIGABRT,
-                             SIGFPE, SIGBUS, SIGSEGV, SIGSYS,  SIGXCPU};
+static const int ending[] = {
+    SIGHUP, SIGINT,  SIGQUIT, SIGTERM, SIGILL,  SIGTRAP, SIGABRT, SIGFPE,  SIGBUS,    SIGSEGV,
+    SIGSYS, SIGUSR1, SIGUSR2, SIGPIPE, SIGALRM, SIGPOLL, SIGPROF, SIGXCPU, SIGXFSZ, SIGVTALRM,
+};
 
 static bool send(const char *sequence)
 {
@@ -43,18 +45,19 @@ void terminal_leave(void)
 {
     int number = errno;
     if (is_taken) {
-        is_taken = 0;
         (void)send(LEAVE);
         (void)tcsetattr(terminal.input, TCSAFLUSH, &terminal.found);
+        is_taken = 0;
     }
     errno = number;
 }
 
-/* The program is ended by a signal: as by itself, but for the terminal. */
+/* The program is ended by a signal: as without a handler, but for the terminal. No signal ends the first process. */
 static void end(int signal)
 {
     terminal_leave();
     (void)raise(signal);
+    _exit(128 + signal);
 }
 
 /* A signal for the loop, as one byte. A full pipe has enough of them. */
@@ -119,7 +122,7 @@ static bool set_raw(void)
     raw.c_cc[VMIN] = 1;
     raw.c_cc[VTIME] = 0;
     is_taken = 1;
-    return tcsetattr(terminal.input, TCSAFLUSH, &raw) == 0;
+    return tcsetattr(terminal.input, TCSADRAIN, &raw) == 0;
 }
 
 static bool take_over(void)
@@ -144,7 +147,7 @@ bool terminal_suspend(void)
 {
     terminal_leave();
     handle(SIGTSTP, SIG_DFL, 0);
-    (void)raise(SIGTSTP);
+    (void)kill(0, SIGTSTP); /* the programs that wait for this one, too: so the shell notices */
     handle(SIGTSTP, note, SA_RESTART);
     return take_over();
 }
@@ -163,7 +166,7 @@ void terminal_size(int *columns, int *rows)
     *rows = is_known ? size.ws_row : 24;
 }
 
-/* The last signal that was noted. Of several resizes one is enough; a stop or its end is not passed over. */
+/* The next stop or end of a stop that was noted; before it, and if there is none, several resizes count as one. */
 static enum wake noted(void)
 {
     char byte;

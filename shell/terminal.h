@@ -1,6 +1,6 @@
 /*
- * The terminal: taken over for a screen, and left as it was found, whichever way the program ends but by SIGKILL.
- * There is one.
+ * The terminal: taken over for a screen, and left as it was found when the program ends or is ended by a signal, but
+ * for SIGKILL, which nothing can handle. There is one.
  */
 #ifndef TERMINAL_H
 #define TERMINAL_H
@@ -17,7 +17,7 @@ bool terminal_enter(int input, int output);
 /* Leaves the terminal as it was found. Keys that were not read are dropped. Does nothing if it is not taken over. */
 void terminal_leave(void);
 
-/* Leaves the terminal, stops the program, and takes the terminal over again when it goes on. */
+/* Leaves the terminal, stops the program and those in its group, and takes the terminal over again when it goes on. */
 bool terminal_suspend(void);
 
 /* The program was stopped by others and goes on: takes the terminal over again. */

@@ -2,6 +2,7 @@
 
 #include <inttypes.h>
 #include <stdio.h>
+#include <string.h>
 
 const char *refusal_words(uint32_t refusal)
 {
@@ -76,5 +77,24 @@ void shown_words(const formula_preview_answer *shown, char words[SHOWN_BYTES])
         (void)snprintf(words, SHOWN_BYTES, "not yet");
     } else {
         finished_words(shown, words);
+    }
+}
+
+void members_like(const char *word, size_t length, char words[sizeof MEMBERS])
+{
+    const char *member = MEMBERS;
+    size_t end = 0;
+    while (*member != '\0') {
+        size_t count = strcspn(member, " ");
+        size_t blank = member[count] == ' ';
+        if (count >= length && memcmp(member, word, length) == 0) {
+            memcpy(words + end, member, count + blank);
+            end += count + blank;
+        }
+        member += count + blank;
+    }
+    words[end] = '\0';
+    if (end == 0) {
+        memcpy(words, MEMBERS, sizeof MEMBERS);
     }
 }

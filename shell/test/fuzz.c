@@ -169,7 +169,7 @@ static void round_of_keys(const struct recording *recording, FILE *terminal, str
     for (; count > 0; count--) {
         tried->keys += send_any(&live, &keys);
         if (keys_are_midway(&keys) && draw_number(4) == 0) {
-            tried->keys += take(&live, &keys, keys_settle(&keys));
+            keys_settle(&keys);
         }
         while (live_work(&live) && draw_number(4) > 0) {
         }

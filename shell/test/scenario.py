@@ -2,6 +2,7 @@ r"""
 The scenarios of screens.py: a file NAME.keys of lines.
 
     # comment
+    each signal TERM HUP            first of all: the scenario is run for each of these, which $signal stands for
     arguments shell/interval.txt    the program's arguments, split as a shell does; none by default
     recording NAME 1 2 3            writes a file of this text; $NAME in later arguments and inputs is its path
     environment NO_COLOR=1 -TERM    sets a variable; with a minus unsets it
@@ -22,6 +23,7 @@ The scenarios of screens.py: a file NAME.keys of lines.
     end
     passing 2 left                  the same of a frame that may last as long as an entry is worked out; when it is
                                     stored, it is the first with these words
+    seen some words | others        waits for a frame that has all these words
     output                          the same of the main screen, for a program that uses no other
     exit 0                          the program ends with this status, or by a signal, such as SIGSEGV, and leaves the
                                     terminal as it was. Without this line Ctrl-C is sent at the end, and must give 0
@@ -41,7 +43,7 @@ LETTERS = {frozenset(attributes): letter for attributes, letter in [
     ((32,), 'G'), ((33,), 'Y'), ((1, 33), 'y'), ((36,), 'C'), ((2, 36), 'c'), ((1, 36), 'i')]}
 
 # Commands that say how the program is started.
-BEFORE_START = ('arguments', 'recording', 'environment', 'input', 'size')
+BEFORE_START = ('each', 'arguments', 'recording', 'environment', 'input', 'size')
 
 # Commands that a screen follows.
 BLOCKS = ('screen', 'passing', 'output')
@@ -109,6 +111,15 @@ def key_bytes(name):
 def row_texts(terminal):
     """The rows of the screen without styles and without blanks at their ends."""
     return [''.join(symbol for symbol, _ in row).rstrip(' ') for row in terminal.cells]
+
+
+def each_values(path):
+    """What names stand for in each run of a scenario."""
+    first = next(iter(parsed(read_text(path).split('\n'))), None)
+    if first is None or first.command != 'each':
+        return [{}]
+    name, *values = first.rest.split()
+    return [{name: value} for value in values]
 
 
 def without_blank_end(lines, blank):

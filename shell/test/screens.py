@@ -52,7 +52,7 @@ def difference(stored, seen):
 class Run:
     """A run of a scenario over a program."""
 
-    def __init__(self, path, program, is_writing):
+    def __init__(self, path, program, is_writing, values):
         self.name = os.path.splitext(os.path.basename(path))[0]
         self.lines = read_text(path).split('\n')
         self.is_writing = is_writing
@@ -62,7 +62,7 @@ class Run:
         self.environment = driver.default_environment()
         self.input = None
         self.size = (80, 24)
-        self.recordings = {}
+        self.values = values
         self.program = None
         self.seen = []       # steps with the lines of their screens, to be stored
         self.pictures = {}   # by path: the lines of a file with its picture, to be stored
@@ -103,8 +103,8 @@ class Run:
             raise Failure('the program has ended')
 
     def start(self):
-        words = [self.command, *map(self.with_paths, self.arguments)]
-        source = open(self.with_paths(self.input), 'rb') if self.input else None
+        words = [self.command, *map(self.with_values, self.arguments)]
+        source = open(self.with_values(self.input), 'rb') if self.input else None
         try:
             self.program = driver.Program(words, *self.size, self.environment, source)
         finally:
@@ -132,13 +132,13 @@ class Run:
         for path, lines in {self.path: self.lines, **self.pictures}.items():
             scenario.write_bytes(path, encoded('\n'.join(lines)))
 
-    def with_paths(self, word):
-        """A word with the paths of recordings put in for their names."""
-        def path(match):
-            if match[1] not in self.recordings:
-                raise Failure(f'no recording is named {match[1]}')
-            return self.recordings[match[1]]
-        return re.sub(r'\$([A-Za-z]\w*)', path, word)
+    def with_values(self, word):
+        """A word with what names stand for put in: paths of recordings, and the value of this run."""
+        def value(match):
+            if match[1] not in self.values:
+                raise Failure(f'nothing is named {match[1]}')
+            return self.values[match[1]]
+        return re.sub(r'\$([A-Za-z]\w*)', value, word)
 
     def do_arguments(self, step):
         self.arguments = shlex.split(step.rest)
@@ -146,8 +146,11 @@ class Run:
     def do_recording(self, step):
         name, _, text = step.rest.partition(' ')
         os.makedirs(RECORDINGS, exist_ok=True)
-        self.recordings[name] = f'{RECORDINGS}/{self.name}.{name}'
-        scenario.write_bytes(self.recordings[name], unescaped(text) + b'\n')
+        self.values[name] = f'{RECORDINGS}/{self.name}.{name}'
+        scenario.write_bytes(self.values[name], unescaped(text) + b'\n')
+
+    def do_each(self, step):
+        """The name has a value already: main has begun a run for each."""
 
     def do_environment(self, step):
         for word in shlex.split(step.rest):
@@ -191,10 +194,13 @@ class Run:
         self.program.resize(columns, rows)
 
     def do_signal(self, step):
-        name = f'SIG{step.rest.strip().removeprefix("SIG")}'
+        """A signal may come before keys that were sent, so that these are waited for."""
+        name = f'SIG{self.with_values(step.rest).strip()}'
         if name not in signal.Signals.__members__:
             raise Failure(f'unknown signal {name}')
+        self.program.settle()
         self.program.signal(signal.Signals[name])
+        self.program.settle()
 
     def do_screen(self, step):
         self.expect(step, True)
@@ -204,13 +210,19 @@ class Run:
 
     def do_passing(self, step):
         """As a screen; when it is stored, it is the first one with these words."""
-        words = step.rest.strip()
+        if self.is_writing:
+            self.do_seen(step)
+        self.expect(step, True, is_passing=True)
+
+    def do_seen(self, step):
+        """Waits for a frame that has some words, parted by bars."""
+        words = [word.strip() for word in step.rest.split('|')]
 
         def has_words():
-            return any(words in row for row in row_texts(self.program.terminal))
-        if self.is_writing and not self.program.wait_for(has_words):
-            raise self.failure([f'no screen has the words {words!r}'])
-        self.expect(step, True, is_passing=True)
+            text = '\n'.join(row_texts(self.program.terminal))
+            return all(word in text for word in words)
+        if not self.program.wait_for(has_words):
+            raise self.failure([f'no frame has the words {words}'])
 
     def expect(self, step, is_alternate, is_passing=False):
         """Waits for a screen, or stores it: the one that stays, if it is not passing."""
@@ -220,10 +232,10 @@ class Run:
 
         def is_there():
             return terminal.alternate == is_alternate and screen_lines(terminal) == stored
+        if not is_passing:
+            self.program.settle(WRITE_QUIET if self.is_writing else driver.QUIET)
         if not self.is_writing:
             self.program.wait_for(lambda: terminal.faults or is_there(), LIMIT)
-        elif not is_passing:
-            self.program.settle(WRITE_QUIET)
         self.check_faults()
         if terminal.alternate != is_alternate or not (self.is_writing or is_there()):
             kind = 'alternate' if terminal.alternate else 'main'
@@ -241,7 +253,7 @@ class Run:
         return Failure('\n'.join(['; '.join(wrong), *screen_lines(self.program.terminal)]))
 
     def do_exit(self, step):
-        self.end_with(step.rest.strip())
+        self.end_with(self.with_values(step.rest).strip())
 
     def end_with(self, expected):
         """Waits for the program's end and looks at what it leaves."""
@@ -279,7 +291,8 @@ def main():
     for path in options.scenarios:
         name = os.path.splitext(os.path.basename(path))[0]
         try:
-            Run(path, options.program, options.write).run()
+            for values in scenario.each_values(path):
+                Run(path, options.program, options.write, values).run()
             print(f'screens {name}: {"written" if options.write else "passed"}', flush=True)
         except (Failure, driver.ProgramError, OSError) as error:
             failed += 1

@@ -2,6 +2,7 @@
 //! recordings that can't be used, and texts that no example file holds.
 
 use engine::program::{self, check, linked, root, screen_without, text, written};
+use plain::member::Member;
 use plain::samples::printed::{declined, printed_at_limits};
 use plain::samples::taken::{forms_128, nested_runs};
 use std::path::{Path, PathBuf};
@@ -76,6 +77,9 @@ fn help() {
     }
     for key in "Left Right U K W L Z C D".split(' ') {
         assert!(output.contains(&format!("Ctrl-{key}")), "{key}");
+    }
+    for member in Member::all() {
+        assert!(output.replace(',', " ").contains(&format!(" {} ", member.name())), "{member:?}");
     }
     assert!(output.lines().all(|line| line.len() <= 80));
     assert_eq!(written(&run(&["--plain", "no/such/file", "--help"], b"")), output);
