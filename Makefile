@@ -31,6 +31,7 @@ library:
 
 check-shell: library
 	shell/check example
+	shell/check state
 	shell/check screens
 
 sanitize: library

@@ -20,6 +20,7 @@ struct walk {
     const char *text;
     const struct parts *parts;
     uint32_t next; /* the first part whose mark is not yet passed */
+    bool is_behind_word;
     uint32_t open_lets[FORMULA_TEXT_PARTS];
     size_t open_let_count;
     struct level levels[MOST_OPEN];
@@ -96,28 +97,40 @@ static uint32_t owner(struct walk *walk, size_t at, bool is_behind_word)
     }
 }
 
+/* Takes the token at a place, and gives the part that it belongs to. */
+static uint32_t take_token(struct walk *walk, size_t at)
+{
+    const struct part *last = &walk->parts->at[walk->next > 0 ? walk->next - 1 : 0];
+    bool is_word = walk->next > 0 && last->word_length > 0 && last->word == at;
+    uint32_t found = is_word ? walk->next - 1 : owner(walk, at, walk->is_behind_word);
+    walk->is_behind_word = is_word;
+    return found;
+}
+
 uint32_t part_at(const char *text, size_t length, const struct parts *parts, size_t at)
 {
     struct walk walk;
     uint32_t found = 0;
     size_t token = 0;
-    bool is_behind_word = false;
+    size_t opened = 0; /* the depth of a bracket around an expression, whose part is known at the bracket's end; 0: none */
+    memset(&walk, 0, sizeof walk);
     walk.text = text;
     walk.parts = parts;
-    walk.next = 0;
-    walk.open_let_count = 0;
-    walk.depth = 0;
     walk.levels[0] = level_of(NO_PART);
-    while (token < length && token <= at) {
-        if (is_blank(text[token])) {
-            token++;
-        } else {
-            const struct part *last = &parts->at[walk.next > 0 ? walk.next - 1 : 0];
-            bool is_word = walk.next > 0 && last->word_length > 0 && last->word == token;
-            found = is_word ? walk.next - 1 : owner(&walk, token, is_behind_word);
-            is_behind_word = is_word;
-            token += token_length(text, length, token);
+    while (token < length && (token <= at || opened > 0)) {
+        size_t count = is_blank(text[token]) ? 1 : token_length(text, length, token);
+        if (!is_blank(text[token])) {
+            uint32_t part = take_token(&walk, token);
+            bool is_group = text[token] == '(' && walk.levels[walk.depth].call == NO_PART;
+            if (token <= at) {
+                found = part;
+                opened = is_group ? walk.depth : 0;
+            } else if (walk.depth < opened) {
+                found = part;
+                opened = 0;
+            }
         }
+        token += count;
     }
     return found < parts->count ? found : 0;
 }
@@ -145,7 +158,7 @@ bool change_keeps(const struct change *change, size_t at)
 
 size_t change_place(const struct change *change, size_t at)
 {
-    if (at <= change->before) {
+    if (at < change->before) {
         return at;
     }
     return change_keeps(change, at) ? change->old_length - (change->new_length - at) : change->before;
