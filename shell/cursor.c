@@ -112,7 +112,7 @@ uint32_t part_at(const char *text, size_t length, const struct parts *parts, siz
     struct walk walk;
     uint32_t found = 0;
     size_t token = 0;
-    size_t opened = 0; /* the depth of a bracket around an expression, whose part is known at the bracket's end; 0: none */
+    size_t opened = 0; /* the depth of brackets around an expression, whose part is known at their end; 0: none */
     memset(&walk, 0, sizeof walk);
     walk.text = text;
     walk.parts = parts;
