@@ -22,6 +22,12 @@ static void expect(const char *what, const char *expected, const char *seen)
     }
 }
 
+/* A byte as it is shown, but for a tab: that must have become a blank. */
+static char column_of(char byte)
+{
+    return byte == '\t' ? '_' : shown_byte(byte);
+}
+
 /* ---- Keys ---- */
 
 /* A key as a letter; the byte of KEY_BYTE stands for itself. */
@@ -53,6 +59,7 @@ static const struct key_case key_cases[] = {
     {"\033b\033f\033\177\033\010\033x\033[3;5~\033[1;5A", "PNWW-XU"},
     /* What is no key is taken in whole. */
     {"\033[?1;2c\033[>0;1;2c\033[20 qa\033[[Ab\033[99999999999999999999~c\033[1;2;3Dd", "---a-b-cPd"},
+    {"\033[4294967299~a\033O[b", "-a-b"},
     {"\033[\033[D\033O\033[C\033[1\001\033[1;\303b\033O\002", "LRH?bL"},
     {"\033[\003\033\003\033O\004", "QQQ"},
     /* An ESC by itself, and sequences that stop. */
@@ -62,6 +69,7 @@ static const struct key_case key_cases[] = {
     {"\033[200~ab\001\tc\r\n\033[201~d", "-[ab??c??]d"},
     {"\033[200~\033[201~a", "--a"},
     {"\033[200~a!b\033[31mc\033[D\033Od\033x!y\033[201~z", "-[abcy]z"},
+    {"\033[200~a\033[3~b\033[201Dc\033[201~", "-[abc]"},
     {"\033[200~ab\003c", "-Qc"},
     {"\033[200~ab\033\003c\033[200~d\033[\003e", "-Qc-Qe"},
     {"\033[201~a", "-a"},
@@ -72,7 +80,7 @@ static size_t note_key(char *seen, size_t end, const struct keys *keys, enum key
 {
     size_t at;
     if (key == KEY_BYTE) {
-        seen[end++] = shown_byte(keys->byte);
+        seen[end++] = column_of(keys->byte);
     } else if (key == KEY_PASTE) {
         seen[end++] = '[';
         for (at = 0; at < keys->paste_length; at++) {
@@ -134,7 +142,7 @@ static void check_long_paste(void)
 /* ---- The line ---- */
 
 struct line_case {
-    const char *keys;     /* letters as above; a paste in brackets, in which '/' is CR and '%' is LF; else typed */
+    const char *keys;     /* letters as above; a paste in brackets, '/' CR, '%' LF, '_' a tab in it; else typed */
     const char *expected; /* the line with '|' at the cursor */
 };
 
@@ -173,6 +181,7 @@ static const struct line_case line_cases[] = {
     {"[/%a%%b/%%]", "a  b|"},
     {"x[a b]L", "xa |b"},
     {"[%]a", "a|"},
+    {"[a_b]", "a b|"},
     /* Kept lines: the newest first, the same one only once in a row, the draft last. */
     {"UaDb", "ab|"},
     {"oneEtwoEU", "two|"},
@@ -182,6 +191,8 @@ static const struct line_case line_cases[] = {
     {"oneEtwoEdraftUDx", "draftx|"},
     {"oneEtwoEdraftUUDDD", "draft|"},
     {"oneEoneEtwoEUUUU", "one|"},
+    {"oneEoneEtwoEUUUD", "two|"},
+    {"oneaEoneEU", "one|"},
     {"oneEoneEtwoEUUD", "two|"},
     {"oneEoneEUDx", "x|"},
     {"oneEonaEUU", "one|"},
@@ -219,7 +230,7 @@ static const char *paste(struct line *line, const char *from)
     char bytes[64];
     size_t count = 0;
     for (from++; *from != ']'; from++) {
-        bytes[count++] = *from == '/' ? '\r' : *from == '%' ? '\n' : *from;
+        bytes[count++] = *from == '/' ? '\r' : *from == '%' ? '\n' : *from == '_' ? '\t' : *from;
     }
     (void)line_paste(line, bytes, count);
     return from;
@@ -234,7 +245,7 @@ static void show_line(const struct line *line, char *seen)
             seen[end++] = '|';
         }
         if (at < line->length) {
-            seen[end++] = shown_byte(line->text[at]);
+            seen[end++] = column_of(line->text[at]);
         }
     }
     seen[end] = '\0';
@@ -278,6 +289,11 @@ static void check_kept(void)
     }
     show_line(&line, seen);
     expect("the first kept", "3|", seen);
+    for (at = 0; at < 7; at++) {
+        line_later(&line);
+    }
+    show_line(&line, seen);
+    expect("the first kept of two digits", "10|", seen);
 }
 
 static void check_room(void)
@@ -313,6 +329,8 @@ static const struct part_case part_cases[] = {
     {"(let x = 1 in x.add(2)).sub(x)", "0000000001100023333343055555655"},
     {"((\\a -> a))", "000000001000"},
     {"data.sumBy(\\a -> (a.add(1)))", "00001111111222222434444454411"},
+    {"(\\a -> a.add(1))", "00000001222223200"},
+    {"let x = abc.add(1) in (abc).add(x)", "00000000111222223220004444455555655"},
     {"((1).add((2.sub(3)))).eq(4)", "1000111113233333433115555655"},
 };
 
