@@ -104,22 +104,39 @@ static void see(const struct session *session, struct seen *seen)
     memcpy(seen->shown, session->shown, sizeof seen->shown);
 }
 
-/* What the parts showed before: a part is the same where its mark is, in what the key did not change. */
+/* The part whose mark stands at a place, or the number of parts. */
+static uint32_t part_with_mark(const struct parts *parts, size_t mark)
+{
+    uint32_t part = 0;
+    while (part < parts->count && parts->at[part].mark != mark) {
+        part++;
+    }
+    return part;
+}
+
+/*
+ * What the parts showed before. A part is the same where its mark is, in what the key left as it was; and so are two,
+ * one before and one now, that begin where the change does, if they are no others: a number whose first digit changed.
+ */
 static void compare(struct live *live, const struct seen *seen)
 {
     const struct session *session = live->session;
+    const struct parts *parts = &session->parts;
     struct change change = change_of(seen->text, seen->length, session->text, session->length);
-    uint32_t old = 0;
+    uint32_t before = part_with_mark(&seen->parts, change.before);
+    uint32_t begun = part_with_mark(parts, change.before);
+    bool is_free = before < seen->parts.count;
     uint32_t part;
-    for (part = 0; part < session->parts.count; part++) {
-        size_t mark = session->parts.at[part].mark;
-        size_t place = change_place(&change, mark);
-        while (old < seen->parts.count && seen->parts.at[old].mark < place) {
-            old++;
-        }
-        if (change_keeps(&change, mark) && old < seen->parts.count && seen->parts.at[old].mark == place) {
+    for (part = 0; part < parts->count; part++) {
+        size_t mark = parts->at[part].mark;
+        uint32_t old = part_with_mark(&seen->parts, change_place(&change, mark));
+        if (change_keeps(&change, mark) && old < seen->parts.count) {
             live->before[part] = seen->shown[old];
+            is_free = is_free && old != before && part != begun;
         }
+    }
+    if (is_free && begun < parts->count) {
+        live->before[begun] = seen->shown[before];
     }
 }
 
