@@ -184,6 +184,8 @@ class Run:
         self.program.send(unescaped(step.rest))
 
     def do_paste(self, step):
+        if not self.program.terminal.paste:
+            raise Failure('the program has not asked for pastes to be marked')
         self.program.send(driver.PASTE_BEGIN + unescaped(step.rest) + driver.PASTE_END)
 
     def do_resize(self, step):
