@@ -199,5 +199,7 @@ bool keys_are_midway(const struct keys *keys)
 
 void keys_settle(struct keys *keys)
 {
-    keys->state = KEYS_GROUND;
+    if (keys_are_midway(keys)) {
+        keys->state = KEYS_GROUND;
+    }
 }

@@ -69,7 +69,7 @@ static const struct key_case key_cases[] = {
     {"\033[200~ab\001\tc\r\n\033[201~d", "-[ab??c??]d"},
     {"\033[200~\033[201~a", "--a"},
     {"\033[200~a!b\033[31mc\033[D\033Od\033x!y\033[201~z", "-[abcy]z"},
-    {"\033[200~a\033[3~b\033[201Dc\033[201~", "-[abc]"},
+    {"\033[200~a\033[3~b\033[201Dc\033!\033[2!01~", "-[abc]"},
     {"\033[200~ab\003c", "-Qc"},
     {"\033[200~ab\033\003c\033[200~d\033[\003e", "-Qc-Qe"},
     {"\033[201~a", "-a"},
@@ -103,7 +103,7 @@ static void check_keys(const struct key_case *one)
     for (byte = one->bytes; *byte != '\0'; byte++) {
         if (*byte != '!') {
             end = note_key(seen, end, &keys, keys_take(&keys, (unsigned char)*byte));
-        } else if (keys_are_midway(&keys)) {
+        } else {
             keys_settle(&keys);
         }
     }
