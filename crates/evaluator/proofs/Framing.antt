@@ -14,7 +14,8 @@ use Rattle.rules.specs.Values.{unboundName}
 use Rattle.values.specs.Packing.{windowCell, functionCell, delayedCell, missingCell}
 use Rattle.layout.specs.Links.{kindAt, keyAt, valueAt}
 use Rattle.layout.specs.Nodes.{numberKind, variableKind, unboundKind, functionKind}
-use Rattle.evaluator.specs.Frames.{leafOf, startAt, startFrom, bound, isUnset, isOpen, functionOf}
+use Rattle.chunks.specs.Rows.{bound}
+use Rattle.evaluator.specs.Frames.{leafOf, startAt, startFrom, isUnset, isOpen, functionOf}
 
 pub past : (l : List ℕ) (k : ℕ) → length l ≤ k → 0 ≡ getD l k 0
 past l k h = sym (List·getD-eq-default l 0 {n = k} h)

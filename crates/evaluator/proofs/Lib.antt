@@ -1,5 +1,5 @@
 pub mod Framing
 pub mod Reaching
-pub mod Numbers
 pub mod Planning
+pub mod Plain
 pub mod Running

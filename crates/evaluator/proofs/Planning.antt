@@ -1,11 +1,11 @@
 -- The steps of planning an entry, each over plain numbers, values and lists. Assumes nothing.
 use mathlib.Core.Path.{_≡_, refl, sym, ap, _∙_, subst}
-use mathlib.Core.Bool.{Bool, true, false, _&&_}
+use mathlib.Core.Bool.{Bool, true, false, _&&_, and-eq-true-iff}
 use mathlib.Core.List.{List}
 use Prim.Native.Nat.{ℕ, _+_, _-_, _≤_, _<_}
 use native.Mathlib.Omega.{arith}
 use borrow.Author.Needs.{needs}
-use borrow.Author.Tests.{lt-ltb, le-ltb, le-leb, lt-leb, eq-eqb, ne-eqb}
+use borrow.Author.Tests.{ltb-true, lt-ltb, le-ltb, le-leb, lt-leb, eq-eqb, ne-eqb}
 use lib.Dec.{T, ltb}
 use lib.IntN.{ℤ, pos}
 use lib.ListN.{length, getD, length-take, length-drop, List·getD-eq-default}
@@ -30,53 +30,10 @@ use Rattle.evaluator.specs.declared.working.Task.{Task}
 use Rattle.layout.specs.Links.{kindAt, firstAt, secondAt, isBelow}
 use Rattle.table.specs.Waits.{ownOf}
 use Rattle.evaluator.specs.Frames.{functionOf}
-use Rattle.evaluator.proofs.Numbers.{both-numbers}
-use Rattle.evaluator.specs.Applying.{graph, boundedOf, askOf, callOf, doneOf, taskOf, judgeOf, runOf, followOf, planOf, Planned, concludeOf, Bounds, Tallied}
-
--- ---- receivers
-module _ (v : Value) where
-  pub bounds-window : (s l : ℕ) → v ≡ Window s l → s + l ≤ 65535 → Bounds v (Window s l)
-  unfolding boundedOf
-  bounds-window s l e h = rw e (record { same = rw (le-leb _ _ h); bounded = h })
-
-  pub bounds-far : (s l : ℕ) → v ≡ Window s l → 65535 < s + l → Bounds v (Missing 2)
-  unfolding boundedOf
-  bounds-far s l e h = rw e (record { same = rw (lt-leb _ _ h); bounded = tt })
-
-  pub bounds-number : (z : ℤ) → v ≡ Number z → Bounds v v
-  unfolding boundedOf
-  bounds-number z e = rw e (record { same = refl; bounded = tt })
-
-  pub bounds-function : v ≡ Function → Bounds v v
-  unfolding boundedOf
-  bounds-function e = rw e (record { same = refl; bounded = tt })
-
-  pub bounds-delayed : v ≡ Delayed → Bounds v v
-  unfolding boundedOf
-  bounds-delayed e = rw e (record { same = refl; bounded = tt })
-
-  pub bounds-missing : (r : ℕ) → v ≡ Missing r → Bounds v v
-  unfolding boundedOf
-  bounds-missing r e = rw e (record { same = refl; bounded = tt })
+use Rattle.columns.specs.Calling.{askOf, callOf}
+use Rattle.evaluator.specs.Applying.{graph, doneOf, taskOf, judgeOf, runOf, followOf, planOf, Planned, concludeOf}
 
 -- ---- members
-module _ (k r : Found) (f : r ≡ k) (xs : List ℤ) where
-  pub ask-none : (a : ℕ) → r ≡ Unknown → wrongCell ≡ askOf k xs a
-  unfolding askOf
-  ask-none a e = rw (sym f ∙ e)
-
-  pub ask-is : (m : Member) (a c : ℕ) (u v : Value) → r ≡ Is m → u ≡ unpackOf a → v ≡ tested0 m xs u → c ≡ packOf v → c ≡ askOf k xs a
-  unfolding askOf
-  ask-is m a c u v e p q s = rw (sym f ∙ e) (s ∙ ap packOf (q ∙ tested0-is m xs u ∙ ap (apply0 m xs) p))
-
-  pub call-none : (a b : ℕ) → r ≡ Unknown → Done (Missing 2) ≡ callOf k xs a b
-  unfolding callOf
-  call-none a b e = rw (sym f ∙ e)
-
-  pub call-is : (m : Member) (a b : ℕ) (d : Applied) (u v w : Value) → r ≡ Is m → u ≡ unpackOf a → Bounds u v → w ≡ unpackOf b → d ≡ tested1 m xs v w → d ≡ callOf k xs a b
-  unfolding callOf
-  call-is m a b d u v w e p q o s = rw (sym f ∙ e) (s ∙ tested1-is m xs v w ∙ (λ i. applied1 m xs ((q .same ∙ ap boundedOf p) i) (o i)))
-
 module _ (k r : Found) (f : r ≡ k) (t : Tally) where
   pub conclude-none : r ≡ Unknown → wrongCell ≡ concludeOf k t
   unfolding concludeOf
@@ -138,6 +95,9 @@ module _ (links waits : List ℕ) (f kind : ℕ) (a : Applied) (r : Task) where
   follow-run s l e d = rw e d
 
 -- ---- the plan
+both-numbers : (a b : ℕ) → (ltb a windowCell && ltb b windowCell) ≡ true → (a < windowCell) × (b < windowCell)
+both-numbers a b e = (ltb-true a windowCell (and-eq-true-iff _ (ltb b windowCell) .0 e .0), ltb-true b windowCell (and-eq-true-iff (ltb a windowCell) _ .0 e .1))
+
 module _ (links waits : List ℕ) (xs : List ℤ) (frame : List ℕ) (i kind : ℕ) (e : kind ≡ kindAt links i) (r : Task) where
   abbrev Plans : Type 0
   Plans = r ≡ planOf (graph links waits xs) frame i
@@ -173,35 +133,8 @@ module _ (links waits : List ℕ) (xs : List ℤ) (frame : List ℕ) (i kind : �
             let low = both-numbers x y s in
             plan-call (Done v) t′ (o xs (low .0) (low .1) ∙ (λ j. callOf (memberOfKind kind) xs (f j) (g j))) (d ∙ ap doneOf w)
 
--- ---- readings and results
-module _ (xs : List ℤ) (s l : ℕ) where
-  pub count-none : length xs ≤ s → 0 ≡ length (readingsIn xs s l)
-  count-none h = simp (length-take, length-drop) (omega arith)
-
-  pub count-rest : s < length xs → length xs - s ≤ l → length xs - s ≡ length (readingsIn xs s l)
-  count-rest h k = simp (length-take, length-drop) (omega arith)
-
-  pub count-all : s < length xs → l < length xs - s → l ≡ length (readingsIn xs s l)
-  count-all h k = simp (length-take, length-drop) (omega arith)
-
-pub reading-past : (xs : List ℤ) (k c : ℕ) → length xs ≤ k → c ≡ packOf (Number (pos 0)) → c ≡ packOf (Number (getD xs k (pos 0)))
-reading-past xs k c h e = e ∙ ap (λ (z : ℤ). packOf (Number z)) (sym (List·getD-eq-default xs (pos 0) {n = k} h))
-
-pub tally-is : (t : Tally) (c : ℕ) (v : Value) (r : Tally) → v ≡ unpackOf c → Steps t v r → Tallied t c r
-tally-is t c v r e s = record { same = s .same ∙ ap (stepped t) e; bound = s .bound }
-
 pub ruleset planning = (
   needs,
-  bounds-window,
-  bounds-far,
-  bounds-number,
-  bounds-function,
-  bounds-delayed,
-  bounds-missing,
-  ask-none,
-  ask-is,
-  call-none,
-  call-is,
   conclude-none,
   conclude-is,
   task-right,
@@ -222,9 +155,4 @@ pub ruleset planning = (
   plan-ask,
   plan-call,
   plan-numbers,
-  count-none,
-  count-rest,
-  count-all,
-  reading-past,
-  tally-is,
 )

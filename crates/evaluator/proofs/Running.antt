@@ -20,8 +20,11 @@ use Rattle.rules.specs.Windows.{readingsIn}
 use Rattle.layout.specs.Nodes.{functionKind, memberOfKind}
 use Rattle.evaluator.specs.declared.working.Task.{Task}
 use Rattle.evaluator.specs.Reach.{Gathers}
-use Rattle.evaluator.specs.Frames.{bound, functionOf}
-use Rattle.evaluator.specs.Applying.{Graph, planOf, Planned, fillOf, setOf, overOf, concludeOf, finishOf, applyAt, Applies, Fills, Tallied}
+use Rattle.chunks.specs.Rows.{bound, fillOf, setOf, overOf}
+use Rattle.chunks.specs.Chunks.{Tallied, Reruns, Ran}
+use Rattle.evaluator.specs.Frames.{functionOf}
+use Rattle.evaluator.proofs.Plain.{over-plain}
+use Rattle.evaluator.specs.Applying.{Graph, planOf, Planned, concludeOf, finishOf, applyAt, Applies, Fills}
 
 pub same-applies : (g : Graph) (frame : List ℕ) (i v r : ℕ) → v ≡ r → Applies g frame i r → Applies g frame i v
 same-applies g frame i v r e a = rw e a
@@ -39,10 +42,24 @@ module _ (g : Graph) (frame : List ℕ) (i : ℕ) (p : Task) (e : p ≡ planOf g
   unfolding finishOf
   done-applies d = applied (λ f l. rw d)
 
-  pub value-applies : (v : ℕ) → p .done ≡ true → v ≡ p .value → Applies g frame i v
-  value-applies v d o = rw o (done-applies d)
+  module _ (d : p .done ≡ false) (q : Planned i p) (list flags : List ℕ) (at : ℕ) (s : Gathers (g .links) (g .waits) (p .variable) (p .body) list flags at) where
+    pub reruns : i < tableEntries → Reruns list at (p .body) (p .variable)
+    reruns h = record { size = s .size; within = s .within; low = omega (arith, q .below); few = q .variable }
 
-  module _ (d : p .done ≡ false) (q : Planned i p) (list : List ℕ) (at : ℕ) (s : Gathers (g .links) (g .waits) (p .variable) (p .body) list at) where
+    pub columns-applies : (t : Tally) (r : ℕ) → (p .kind ≡ functionKind → ⊥)
+        → Ran (g .links) (g .xs) (drop at list) (p .variable) (p .body) frame (p .start) (p .length) t
+        → r ≡ concludeOf (memberOfKind (p .kind)) t → Applies g frame i r
+    unfolding finishOf
+    columns-applies t r k w o =
+        applied (λ f l. rw (
+          d,
+          ne-eqb _ _ k,
+          ← s .same,
+          over-plain (g .links) (g .waits) (g .xs) (p .body) f (omega (arith, q .below)) (drop at list) (w .plain) (p .variable)
+              (readingsIn (g .xs) (p .start) (p .length)) frame begun,
+          ← w .same,
+        ) (sym o))
+
     pub judge-applies : (after : List ℕ) (base r : ℕ) → p .kind ≡ functionKind
         → Fills g (p .body) (drop at list) (p .variable) delayedCell frame after base → r ≡ functionOf frame (getD (g .waits) i 0) base
         → Applies g frame i r
@@ -61,8 +78,8 @@ pub record Runs (g : Graph) (body v : ℕ) (list frame : List ℕ) (zs : List �
   pub within : Within k t
   pub same : (f : ℕ) → body < f → overOf (applyAt g f) body list v frame begun zs ≡ overOf (applyAt g f) body list v local t (drop k zs)
 
-pub runs-begin : (g : Graph) (body v : ℕ) (list frame : List ℕ) (zs : List ℤ) (t : Tally) → t ≡ begun → Runs g body v list frame zs frame t 0
-runs-begin g body v list frame zs t e = rw e (record { within = within-none; same = λ f h. refl })
+pub runs-begin : (g : Graph) (body v : ℕ) (list frame : List ℕ) (zs : List ℤ) (local : List ℕ) (t : Tally) → local ≡ frame → t ≡ begun → Runs g body v list frame zs local t 0
+runs-begin g body v list frame zs local t o e = rw (o, e) (record { within = within-none; same = λ f h. refl })
 
 pub runs-within : {g : Graph} {body v : ℕ} {list frame : List ℕ} {zs : List ℤ} {local : List ℕ} {t : Tally} {k : ℕ} → Runs g body v list frame zs local t k → k ≤ 65534 → Within 65534 t
 runs-within {t = t} {k = k} r h = within-more k 65534 t h (r .within)

@@ -28,7 +28,9 @@ use Rattle.evaluator.specs.declared.working.Task.{Task}
 use Rattle.layout.specs.Links.{kindAt, firstAt, secondAt, isBelow}
 use Rattle.table.specs.Waits.{ownOf}
 use Rattle.evaluator.specs.Reach.{gathered}
-use Rattle.evaluator.specs.Frames.{bound, functionOf}
+use Rattle.columns.specs.Calling.{askOf, callOf}
+use Rattle.chunks.specs.Rows.{Go, setOf, overOf}
+use Rattle.evaluator.specs.Frames.{functionOf}
 
 -- what working out reads: the links, what entries await, and the recording
 pub record Graph : Type 0 where
@@ -38,17 +40,6 @@ pub record Graph : Type 0 where
 
 abbrev pub graph : List ℕ → List ℕ → List ℤ → Graph
 graph links waits xs = record { links = links; waits = waits; xs = xs }
-
--- a receiver: a window that ends beyond 16 bits, which no recording has, is of the wrong kind
-unfoldable pub boundedOf : Value → Value
-boundedOf v = ifWindow v v (λ s l. cond (leb (s + l) 65535) v (Missing wrongKind))
-
--- a member with no argument, and with one
-unfoldable pub askOf : Found → List ℤ → ℕ → ℕ
-askOf f xs a = ifMember wrongCell f (λ m. packOf (apply0 m xs (unpackOf a)))
-
-unfoldable pub callOf : Found → List ℤ → ℕ → ℕ → Applied
-callOf f xs a b = ifMember (Done (Missing wrongKind)) f (λ m. applied1 m xs (boundedOf (unpackOf a)) (unpackOf b))
 
 -- what an entry asks for: it is done, with a value; or a body is to be worked out with a variable set, to judge a function (whose kind it
 -- has then) or to run it over a window
@@ -96,27 +87,6 @@ pub record Planned (i : ℕ) (p : Task) : Type 0 where
   pub below : p .body < i
   pub variable : p .variable ≤ tableEntries
 
--- how one entry is worked out in a frame
-abbrev pub Go : Type 0
-Go = List ℕ → ℕ → ℕ
-
--- each entry of the list, in its order, up to one that is not below top
-unfoldable pub fillOf : Go → ℕ → List ℕ → List ℕ → List ℕ
-fillOf go top [] frame = frame
-fillOf go top (j ∷ js) frame = cond (leb top j) frame (fillOf go top js (set frame j (go frame j)))
-
--- the frame with a variable set
-abbrev pub setOf : Go → ℕ → List ℕ → ℕ → ℕ → List ℕ → List ℕ
-setOf go top list v c frame = fillOf go top list (bound frame v c)
-
--- the runs, reading by reading, up to one that gives no number
-unfoldable pub overOf : Go → ℕ → List ℕ → ℕ → List ℕ → Tally → List ℤ → Tally
-overOf go body list v frame t [] = t
-overOf go body list v frame t (z ∷ zs) =
-    let after : List ℕ = setOf go (body + 1) list v (packOf (Number z)) frame in
-    let u : Tally = stepped t (unpackOf (getD after body 0)) in
-    cond (u .stopped) u (overOf go body list v after u zs)
-
 -- what the runs come to, by the member
 unfoldable pub concludeOf : Found → Tally → ℕ
 concludeOf f t = ifMember wrongCell f (λ m. packOf (finished m t))
@@ -141,24 +111,3 @@ Applies g frame i r = (f : ℕ) → i < f → applyAt g f frame i ≡ r
 pub record Fills (g : Graph) (body : ℕ) (list : List ℕ) (v c : ℕ) (frame after : List ℕ) (r : ℕ) : Type 0 where
   pub same : (f : ℕ) → body < f → setOf (applyAt g f) (body + 1) list v c frame ≡ after
   pub value : r ≡ getD after body 0
-
--- what a receiver is, with what members ask of it; what one more result of a run leaves
-pub record Bounds (v r : Value) : Type 0 where
-  pub same : r ≡ boundedOf v
-  pub bounded : Bounded r
-
-pub record Tallied (t : Tally) (c : ℕ) (r : Tally) : Type 0 where
-  pub same : r ≡ stepped t (unpackOf c)
-  pub bound : (k : ℕ) → Within k t → Within (k + 1) r
-
--- what working out a body again asks: the list, from a place on, and the body and the variable within the frame
-pub record Reruns (list : List ℕ) (at body v : ℕ) : Type 0 where
-  pub size : length list ≡ tableEntries
-  pub within : at ≤ tableEntries
-  pub low : body < tableEntries
-  pub few : v ≤ tableEntries
-
--- how many readings a window has
-pub record Counts (xs : List ℤ) (s l r : ℕ) : Type 0 where
-  pub same : r ≡ length (readingsIn xs s l)
-  pub few : r ≤ 65535

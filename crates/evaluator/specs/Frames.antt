@@ -29,10 +29,6 @@ unfoldable pub startFrom : ℕ → List ℕ → List ℕ → ℕ → ℕ → Lis
 startFrom size links cells zero i frame = frame
 startFrom size links cells (suc k) i frame = startFrom size links cells k (suc i) (set frame i (startAt size links cells i))
 
--- a variable set to a value; v is one more than its number, 0 for none
-unfoldable pub bound : List ℕ → ℕ → ℕ → List ℕ
-bound frame v c = cond (leb 1 v) (set frame (v - 1) c) frame
-
 -- a variable that is awaited has no value
 unfoldable pub isUnset : List ℕ → ℕ → Bool
 isUnset frame v = cond (leb 1 v) (cond (leb v tableEntries) (eqb (getD frame (v - 1) 0) delayedCell) false) false

@@ -9,6 +9,7 @@ use lib.ListN.{length, getD, set, replicate, drop}
 use Rattle.language.specs.Limits.{tableEntries}
 use Rattle.layout.specs.Links.{firstAt, secondAt, isBelow}
 use Rattle.table.specs.Waits.{awaits}
+use Rattle.chunks.specs.Chunks.{Marks}
 
 -- entry d awaits the variable v and is not v; v is one more than its number
 abbrev pub moves : List ℕ → ℕ → ℕ → Bool
@@ -34,8 +35,9 @@ gathered links waits v body =
     cond (moves waits v body) (gatherFrom links waits v (suc body) (set (replicate tableEntries 0) body 1) [])
     []
 
--- the list stands at the end of an array, from a place on
-pub record Gathers (links waits : List ℕ) (v body : ℕ) (list : List ℕ) (at : ℕ) : Type 0 where
+-- the list stands at the end of an array, from a place on, and each flag is 0 or 1
+pub record Gathers (links waits : List ℕ) (v body : ℕ) (list flags : List ℕ) (at : ℕ) : Type 0 where
   pub within : at ≤ tableEntries
   pub size : length list ≡ tableEntries
   pub same : drop at list ≡ gathered links waits v body
+  pub marks : Marks flags

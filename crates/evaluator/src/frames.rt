@@ -8,7 +8,8 @@ use values::packing::Packed;
 ghost use mathlib.Core.Path.{_≡_};
 ghost use Prim.Native.Nat.{_<_, _≤_};
 ghost use Rattle.language.specs.Limits.{tableEntries};
-ghost use Rattle.evaluator.specs.Frames.{leafOf, startAt, startFrom, bound, isUnset, isOpen, functionOf};
+ghost use Rattle.chunks.specs.Rows.{bound};
+ghost use Rattle.evaluator.specs.Frames.{leafOf, startAt, startFrom, isUnset, isOpen, functionOf};
 
 // What a leaf comes to; the recording has so many readings.
 pub fn leaf(size: u16, kind: u16, key: u64) -> u64

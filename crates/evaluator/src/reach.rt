@@ -6,7 +6,7 @@ use layout::cells::second_of;
 use table::waits::awaits;
 ghost use mathlib.Core.Path.{_≡_};
 ghost use Prim.Native.Nat.{_<_};
-ghost use lib.ListN.{length};
+ghost use lib.ListN.{length, replicate};
 ghost use Rattle.language.specs.Limits.{tableEntries};
 ghost use Rattle.evaluator.specs.Reach.{moves as movesOf, flagged, spread as spreadOf, Gathers};
 
@@ -53,20 +53,20 @@ fn spread(
     flag(waits, v, j, second_of(links, j) as usize, flags);
 }
 
-// The entries to work out again stand at the end of the list, from the place that is returned.
+// The entries to work out again stand at the end of the list, from the place that is returned. They are flagged.
 pub fn gather(
     links: &[u16],
     waits: &[u32; Table::ENTRIES],
     v: u32,
     body: usize,
     list: &mut [u16; Table::ENTRIES],
+    flags: &mut [u8; Table::ENTRIES],
 ) -> usize
-    requires { ⌜ (body < tableEntries) × (length (now list) ≡ tableEntries) ⌝ }
-    ensures { λ r. ⌜ Gathers (now (links .entry)) (now (waits .entry)) v body (now (list .exit)) r ⌝ }
+    requires { ⌜ (body < tableEntries) × ((length (now list) ≡ tableEntries) × (now flags ≡ replicate tableEntries 0)) ⌝ }
+    ensures { λ r. ⌜ Gathers (now (links .entry)) (now (waits .entry)) v body (now (list .exit)) (now (flags .exit)) r ⌝ }
 {
     let mut at: usize = Table::ENTRIES;
     if moves(waits, v, body) {
-        let mut flags = [0u8; Table::ENTRIES];
         flags[body] = 1;
         let mut j = body + 1;
         while 0 < j {
@@ -74,7 +74,7 @@ pub fn gather(
             if flags[j] == 1 {
                 at -= 1;
                 list[at] = j as u16;
-                spread(links, waits, v, j, &mut flags);
+                spread(links, waits, v, j, flags);
             }
         }
     }

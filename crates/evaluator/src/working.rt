@@ -3,6 +3,15 @@
 use crate::frames::bind;
 use crate::frames::function;
 use crate::reach::gather;
+use chunks::fitting::settles;
+use chunks::rows::count_in;
+use chunks::rows::reading;
+use chunks::rows::tally;
+use chunks::running::by_columns;
+use columns::calling::ask;
+use columns::calling::call;
+use columns::calling::call_numbers;
+use columns::calling::cell;
 use language::limits::Table;
 use layout::cells::first_of;
 use layout::cells::is_below;
@@ -11,44 +20,34 @@ use layout::cells::second_of;
 use layout::nodes::Shape;
 use layout::nodes::member_of;
 use members::Found;
-use rules::Value;
 use table::waits::own;
 use values::apply::Applied;
-use values::apply::apply0;
-use values::apply::apply1;
-use values::numbers::on_numbers;
 use values::packing::Packed;
-use values::packing::number_in;
 use values::packing::pack;
-use values::packing::unpack;
 use values::runs::Tally;
 use values::runs::finish;
 use values::runs::start;
-use values::runs::step;
 ghost use mathlib.Core.Path.{_≡_};
-ghost use mathlib.Core.Bool.{true, false};
-ghost use mathlib.Core.List.{List};
-ghost use Prim.Native.Nat.{_+_, _<_};
-ghost use lib.IntN.{ℤ, pos};
-ghost use lib.ListN.{length, getD, drop};
+ghost use mathlib.Core.Bool.{true, false, _&&_};
+ghost use Prim.Native.Nat.{_<_};
+ghost use lib.ListN.{drop};
 ghost use Rattle.language.specs.Limits.{tableEntries};
-ghost use Rattle.rules.specs.declared.Value.the-variants.{Number};
-ghost use Rattle.values.specs.declared.apply.Applied.the-variants.{Done};
-ghost use Rattle.values.specs.Packing.{packOf, windowCell};
-ghost use Rattle.values.specs.Tallies.{Within};
+ghost use Rattle.layout.specs.Links.{kindAt, firstAt, isBelow};
 ghost use Rattle.layout.specs.Nodes.{memberOfKind};
-ghost use Rattle.evaluator.specs.Applying.{graph, askOf, callOf, doneOf, taskOf, judgeOf, runOf, followOf, planOf, Planned, concludeOf, Applies, Fills, Bounds, Tallied, Reruns, Counts};
+ghost use Rattle.chunks.specs.Rows.{plainOf, settles as settlesOf};
+ghost use Rattle.chunks.specs.Chunks.{Reruns};
+ghost use Rattle.evaluator.specs.Applying.{graph, doneOf, taskOf, judgeOf, runOf, followOf, planOf, Planned, concludeOf, Applies, Fills};
 
 // What an entry asks for: it is done, with a value; or a body is to be worked out with a variable set, to judge a function (whose kind it
 // has then) or to run it over a window.
 pub struct Task {
-    pub done: bool,
     pub value: u64,
+    pub body: usize,
+    pub variable: u32,
     pub kind: u16,
     pub start: u16,
     pub length: u16,
-    pub body: usize,
-    pub variable: u32,
+    pub done: bool,
 }
 
 fn done(value: u64) -> Task
@@ -76,52 +75,6 @@ fn body_task(kind: u16, start: u16, length: u16, body: usize, variable: u32) -> 
         length,
         body,
         variable,
-    }
-}
-
-// A receiver, which a start can move along.
-fn bounded(v: Value) -> Value
-    ensures { λ r. ⌜ Bounds v r ⌝ }
-{
-    match v {
-        Value::Window { start, length } => {
-            if start as u32 + length as u32 <= 65535 {
-                return v;
-            }
-            Value::Missing(2)
-        }
-        Value::Number(_) => v,
-        Value::Function => v,
-        Value::Delayed => v,
-        Value::Missing(_) => v,
-    }
-}
-
-fn ask(kind: u16, readings: &[i32], a: u64) -> u64
-    ensures { λ r. ⌜ r ≡ askOf (memberOfKind kind) (now (readings .entry)) a ⌝ }
-{
-    match member_of(kind) {
-        Found::Is(m) => pack(apply0(m, readings, unpack(a))),
-        Found::Unknown => Packed::WRONG,
-    }
-}
-
-fn call(kind: u16, readings: &[i32], a: u64, b: u64) -> Applied
-    ensures { λ r. ⌜ r ≡ callOf (memberOfKind kind) (now (readings .entry)) a b ⌝ }
-{
-    match member_of(kind) {
-        Found::Is(m) => apply1(m, readings, bounded(unpack(a)), unpack(b)),
-        Found::Unknown => Applied::Done(Value::Missing(2)),
-    }
-}
-
-// The member on two numbers, as most members inside a run are: no kind is left to test.
-fn call_numbers(kind: u16, a: u64, b: u64) -> Value
-    ensures { λ r. ⌜ ((xs : List ℤ) → a < windowCell → b < windowCell → Done r ≡ callOf (memberOfKind kind) xs a b) ⌝ }
-{
-    match member_of(kind) {
-        Found::Is(m) => on_numbers(m, number_in(a), number_in(b)),
-        Found::Unknown => Value::Missing(2),
     }
 }
 
@@ -221,45 +174,6 @@ fn plan(
     done(Packed::WRONG)
 }
 
-// How many readings a window has.
-fn count_in(readings: &[i32], start: u16, most: u16) -> usize
-    ensures { λ r. ⌜ Counts (now (readings .entry)) start most r ⌝ }
-{
-    let from = start as usize;
-    let most = most as usize;
-    if readings.len() <= from {
-        return 0;
-    }
-    if readings.len() - from <= most {
-        return readings.len() - from;
-    }
-    most
-}
-
-fn number(z: i32) -> u64
-    ensures { λ r. ⌜ r ≡ packOf (Number z) ⌝ }
-{
-    pack(Value::Number(z))
-}
-
-// A reading as a packed number; past the end, 0.
-fn reading(readings: &[i32], k: usize) -> u64
-    ensures { λ r. ⌜ r ≡ packOf (Number (getD (now (readings .entry)) k (pos 0))) ⌝ }
-{
-    if k < readings.len() {
-        return number(readings[k]);
-    }
-    number(0)
-}
-
-// One more result of a run.
-fn tally(t: Tally, c: u64) -> Tally
-    requires { ⌜ Within 65534 t ⌝ }
-    ensures { λ r. ⌜ Tallied t c r ⌝ }
-{
-    step(t, unpack(c))
-}
-
 fn conclude(kind: u16, t: Tally) -> u64
     ensures { λ r. ⌜ r ≡ concludeOf (memberOfKind kind) t ⌝ }
 {
@@ -269,8 +183,33 @@ fn conclude(kind: u16, t: Tally) -> u64
     }
 }
 
-// Sets the variable, works out each entry of the list again, in its order, and gives what the body comes to. Only an entry that needs runs
-// of its own goes to apply, whose list and frame take most of the stack.
+// Whether entry j is a member that runs no function.
+fn is_plain(links: &[u16], j: usize) -> bool
+    requires { ⌜ j < tableEntries ⌝ }
+    ensures { λ r. ⌜ r ≡ (settlesOf (kindAt (now (links .entry)) j) && isBelow (firstAt (now (links .entry)) j) j) ⌝ }
+{
+    if settles(kind_of(links, j)) {
+        return is_below(first_of(links, j) as usize, j);
+    }
+    false
+}
+
+// What it comes to.
+fn plain(readings: &[i32], links: &[u16], frame: &[u64; Table::ENTRIES], j: usize) -> u64
+    requires { ⌜ (j < tableEntries) × (isBelow (firstAt (now links) j) j ≡ true) ⌝ }
+    ensures { λ r. ⌜ r ≡ plainOf (now (links .entry)) (now (readings .entry)) (now (frame .entry)) j ⌝ }
+{
+    let kind = kind_of(links, j);
+    let first = first_of(links, j) as usize;
+    let second = second_of(links, j) as usize;
+    if is_below(second, j) {
+        return cell(kind, readings, true, frame[first - 1], frame[second - 1]);
+    }
+    cell(kind, readings, false, frame[first - 1], 0)
+}
+
+// Sets the variable, works out each entry of the list again, in its order, and gives what the body comes to. A member that runs no function needs
+// no plan, and not apply, whose list and frame take most of the stack.
 fn rerun(
     readings: &[i32],
     links: &[u16],
@@ -294,9 +233,8 @@ fn rerun(
             return frame[body];
         }
         let j = next as usize;
-        let p = plan(readings, links, waits, frame, j);
-        let v = if p.done {
-            p.value
+        let v = if is_plain(links, j) {
+            plain(readings, links, frame, j)
         } else {
             apply(readings, links, waits, frame, j)
         };
@@ -327,7 +265,8 @@ pub fn apply(
     let body = p.body;
     let variable = p.variable;
     let mut list = [0u16; Table::ENTRIES];
-    let at = gather(links, waits, variable, body, &mut list);
+    let mut map = [0u8; Table::ENTRIES];
+    let at = gather(links, waits, variable, body, &mut list, &mut map);
     let mut local = *frame;
     if kind == Shape::FUNCTION {
         let base = rerun(
@@ -342,6 +281,22 @@ pub fn apply(
             &mut local,
         );
         return function(frame, waits[i], base);
+    }
+    let columns = by_columns(
+        readings,
+        links,
+        &list,
+        at,
+        body,
+        variable,
+        frame,
+        from,
+        most,
+        &mut map,
+        &mut local,
+    );
+    if columns.done {
+        return conclude(kind, columns.tally);
     }
     let count = count_in(readings, from, most);
     let mut t = start();

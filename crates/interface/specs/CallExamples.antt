@@ -32,6 +32,7 @@ use Rattle.formulas.specs.Formulas
 use Rattle.layout.specs.Nodes
 use Rattle.table.specs.WellFormed
 use Rattle.table.specs.Waits
+use Rattle.columns.specs.Calling
 use Rattle.evaluator.specs.Frames
 use Rattle.evaluator.specs.Applying
 use Rattle.schedule.specs.Works
@@ -86,7 +87,7 @@ unfolding Calls.openMemory Calls.previewed Calls.previewMemory Calls.partOf Memo
     Packing.isPacked Evaluation.hasName Evaluation.joined Evaluation.without Works.worked Works.workFrom Works.chosen Works.needOf
     Works.needFrom Works.raised Works.nameFor Works.otherFor Works.showOf Waits.waitsFrom Waits.waitsAt Waits.joinedSlots
     Waits.withoutSlot Frames.startFrom Frames.startAt Frames.leafOf Links.keptWith Applying.applyAt Applying.planOf Applying.finishOf
-    Applying.askOf Applying.callOf Applying.followOf Applying.boundedOf Applied.applied1 Apply.apply0 Apply.apply1
+    Calling.askOf Calling.callOf Applying.followOf Calling.boundedOf Applied.applied1 Apply.apply0 Apply.apply1
     Rules.rule Windows.total Values.ranged Packing.unpackOf
 outcome m n a =
     let after : Memory = previewMemory m n a in

@@ -30,9 +30,8 @@ use Rattle.layout.specs.Nodes.{variableKind, functionKind}
 use Rattle.table.specs.WaitsLaws.{variableAt}
 use Rattle.table.specs.NodeKinds.{Fine, aNumber, aVariable, anUnbound, theReadings, aFunction, anAsk, aCall}
 use Rattle.table.specs.Waits.{awaits}
+use Rattle.chunks.specs.Rows.{Go, bound, fillOf, setOf, overOf}
 use Rattle.evaluator.specs.Reach.{moves, gathered}
-use Rattle.evaluator.specs.Frames.{bound}
-use Rattle.evaluator.specs.Applying.{Go, fillOf, setOf, overOf}
 use Rattle.refine.specs.Free.{decEq, free, never, free-variable, unbound-same}
 use Rattle.refine.specs.Tables.{Good, Parts, fine, parts, PlainValue, Plain, kept-entry, Sees, here, down, sees-free, sees-below, sees-trans}
 use Rattle.refine.specs.Sweeps.{In, Rising, rising-above, list-moves, list-rises, list-low, list-top, list-down}

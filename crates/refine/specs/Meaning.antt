@@ -44,9 +44,11 @@ use Rattle.layout.specs.KindsLaws.{member-found}
 use Rattle.layout.specs.Nodes.{variableKind, functionKind, memberKind, memberOfKind}
 use Rattle.layout.specs.Links.{kindAt, firstAt, secondAt}
 use Rattle.table.specs.Waits.{slotA, slotB, hasSlot, awaits, ownOf}
+use Rattle.columns.specs.Calling.{boundedOf, askOf, callOf}
+use Rattle.chunks.specs.Rows.{Go, bound, fillOf, overOf}
 use Rattle.evaluator.specs.Reach.{gathered}
 use Rattle.evaluator.specs.Frames as Code
-use Rattle.evaluator.specs.Applying.{graph, Go, boundedOf, askOf, callOf, doneOf, taskOf, judgeOf, runOf as taskRun, followOf, planOf, fillOf, overOf, concludeOf, finishOf, applyAt}
+use Rattle.evaluator.specs.Applying.{graph, doneOf, taskOf, judgeOf, runOf as taskRun, followOf, planOf, concludeOf, finishOf, applyAt}
 use Rattle.refine.specs.Free.{free, never, decEq, free-variable, free-call, free-function, unbound-same, settled-no, settled-find}
 use Rattle.refine.specs.Tables.{Good, Parts, fine, parts, PlainValue, Plain, plain-lookup, kept-entry, Link, Sees, here, down, sees-free, sees-below}
 use Rattle.refine.specs.Kinds.{isFunction, ask-none, call-none}
@@ -463,7 +465,7 @@ module _ (links cells waits : List ℕ) (xs : List ℤ) (n : ℕ) (φ : ℕ → 
 
         -- a body that does not await the variable comes to the same for every reading
         still : free x′ (φ b) ≡ false → (zs : List ℤ) (t : Tally) → overOf go b (gathered links waits 0 b) 0 frame t zs ≡ Tallies.gathered t (map run zs)
-        unfolding overOf fillOf gathered Code.bound Tallies.gathered
+        unfolding overOf fillOf gathered bound Tallies.gathered
         still e [] t = refl
         still e (z ∷ zs) t =
             let is : unpackOf (getD frame b 0) ≡ run z = opened b b-n′ (sees-rest b (here b) e) ∙ ap valueOf (sym (unbound-same xs ρ x′ (Number z) (φ b) e)) in

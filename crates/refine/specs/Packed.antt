@@ -37,12 +37,14 @@ use Rattle.values.specs.Packing.{packOf, unpackOf, isPacked, windowCell, functi
 use Rattle.values.specs.PackingLaws.{unpack-number, round, test-number, kept-passes, passes-packs}
 use Rattle.values.specs.Ranges.{down-range}
 use Rattle.layout.specs.Nodes.{numberKind, variableKind, unboundKind, functionKind, memberOfKind}
+use Rattle.columns.specs.Calling.{boundedOf, askOf, callOf}
+use Rattle.chunks.specs.Rows.{Go, bound, fillOf, setOf, overOf}
 use Rattle.evaluator.specs.declared.working.Task.{Task}
 use Rattle.layout.specs.Links.{kindAt, firstAt, secondAt, isBelow}
 use Rattle.table.specs.Waits.{ownOf}
 use Rattle.evaluator.specs.Reach.{gathered as list}
-use Rattle.evaluator.specs.Frames.{leafOf, startAt, startFrom, bound, isOpen, functionOf}
-use Rattle.evaluator.specs.Applying.{Graph, Go, boundedOf, askOf, callOf, doneOf, taskOf, judgeOf, runOf, followOf, planOf, fillOf, setOf, overOf, concludeOf, finishOf, applyAt}
+use Rattle.evaluator.specs.Frames.{leafOf, startAt, startFrom, isOpen, functionOf}
+use Rattle.evaluator.specs.Applying.{Graph, doneOf, taskOf, judgeOf, runOf, followOf, planOf, concludeOf, finishOf, applyAt}
 use Rattle.refine.specs.Kinds.{isFunction, concluded-none, ask-none, call-none}
 
 -- a cell that is empty, or a packed value that may be kept beside n readings; a frame of such cells

@@ -17,6 +17,8 @@ use Rattle.layout.specs.Links
 use Rattle.layout.specs.Links.{valueAt, nameAt, otherAt}
 use Rattle.layout.specs.Nodes
 use Rattle.table.specs.Waits
+use Rattle.columns.specs.Calling
+use Rattle.chunks.specs.Rows
 use Rattle.evaluator.specs.Reach
 use Rattle.evaluator.specs.Frames
 use Rattle.evaluator.specs.Applying
@@ -74,10 +76,10 @@ done w = record {
 -- the work on an entry with an allowance, as a definition that computes
 unfoldable pub workOn : List ℕ → ℕ → ℕ → Work
 unfolding Works.worked Works.workFrom Works.chosen Works.needOf Works.needFrom Works.raised Works.nameFor Works.otherFor Waits.waitsFrom
-    Waits.waitsAt Waits.joinedSlots Waits.withoutSlot Waits.ownOf Frames.startFrom Frames.startAt Frames.leafOf Frames.bound Frames.isUnset
+    Waits.waitsAt Waits.joinedSlots Waits.withoutSlot Waits.ownOf Frames.startFrom Frames.startAt Frames.leafOf Rows.bound Frames.isUnset
     Frames.functionOf Reach.flagged Reach.spread Reach.gatherFrom Reach.gathered Links.keptWith Nodes.memberOfKind Members.memberAt
-    Members.spelled Members.arguments Applying.applyAt Applying.planOf Applying.finishOf Applying.askOf Applying.callOf Applying.followOf Applying.boundedOf
-    Applying.judgeOf Applying.fillOf Applied.applied1 Apply.apply0 Apply.apply1
+    Members.spelled Members.arguments Applying.applyAt Applying.planOf Applying.finishOf Calling.askOf Calling.callOf Applying.followOf Calling.boundedOf
+    Applying.judgeOf Rows.fillOf Applied.applied1 Apply.apply0 Apply.apply1
     Rules.rule Windows.total Values.ranged Packing.unpackOf
 workOn cells n a = worked recording links cells n a
 

@@ -102,6 +102,7 @@ module _ (cells : List ℕ) (i c w : ℕ) where
 
 -- the work before entry i: what is left of it comes to the same
 pub record Going (xs : List ℤ) (links begins : List ℕ) (n allowance : ℕ) (waits flags cells frame : List ℕ) (count i : ℕ) : Type 0 where
+  pub low : n < tableEntries
   pub within : i ≤ n + 1
   pub size : length cells ≡ length begins
   pub paid : count ≤ allowance
@@ -128,25 +129,26 @@ module _ (xs : List ℤ) (links begins : List ℕ) (n allowance : ℕ) (waits fl
     work-stop t k = record { same = sym (next ∙ rw (sym e ∙ t, le-ltb _ _ k)) ∙ go .same }
 
     pub work-skip : r ≡ false → Going xs links begins n allowance waits flags cells frame count (i + 1)
-    work-skip t = record { within = omega arith; size = go .size; paid = go .paid; same = sym (next ∙ rw (sym e ∙ t)) ∙ go .same }
+    work-skip t = record { low = go .low; within = omega arith; size = go .size; paid = go .paid; same = sym (next ∙ rw (sym e ∙ t)) ∙ go .same }
 
-    pub work-take : (c : ℕ) (after : List ℕ) → r ≡ true → count < allowance → i < tableEntries → Applies (graph links waits xs) frame i c → after ≡ kept cells i c (getD waits i 0)
+    pub work-take : (c : ℕ) (after : List ℕ) → r ≡ true → count < allowance → Applies (graph links waits xs) frame i c → after ≡ kept cells i c (getD waits i 0)
         → Going xs links begins n allowance waits flags after (set frame i c) (count + 1) (i + 1)
-    work-take c after t k few a o =
+    work-take c after t k a o =
         record {
+          low = go .low;
           within = omega arith;
           size = ap length o ∙ kept-length cells i c (nameFor cells i c (getD waits i 0)) (otherFor cells c (getD waits i 0)) ∙ go .size;
           paid = omega arith;
-          same = rw (o, ← a tableEntries few) (sym (next ∙ rw (sym e ∙ t, lt-ltb _ _ k)) ∙ go .same);
+          same = rw (o, ← a tableEntries (omega arith)) (sym (next ∙ rw (sym e ∙ t, lt-ltb _ _ k)) ∙ go .same);
         }
 
 pub work-begin : (xs : List ℤ) (links cells : List ℕ) (n allowance : ℕ) (waits frame flags : List ℕ)
     → waits ≡ waitsFrom links cells (n + 1) 0 (replicate tableEntries 0) → frame ≡ startFrom (length xs) links cells (n + 1) 0 (replicate tableEntries 0) → flags ≡ needOf links n
-    → Going xs links cells n allowance waits flags cells frame 0 0
+    → n < tableEntries → Going xs links cells n allowance waits flags cells frame 0 0
 unfolding worked
-work-begin xs links cells n allowance waits frame flags p q r =
+work-begin xs links cells n allowance waits frame flags p q r l =
     let s : n + 1 ≡ suc n = omega arith in
-    record { within = omega arith; size = refl; paid = omega arith; same = rw (p, q, r, s, sub-zero) refl }
+    record { low = l; within = omega arith; size = refl; paid = omega arith; same = rw (p, q, r, s, sub-zero) refl }
 
 module _ (size : ℕ) (links cells : List ℕ) (n c : ℕ) (e : c ≡ startAt size links cells n)
     (v : Value) (p : v ≡ unpackOf c) (s : Shown) (q : s ≡ shownNumbers v) (kind : ℕ) (k : kind ≡ kindAt links n) where

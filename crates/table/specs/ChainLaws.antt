@@ -13,6 +13,7 @@ use lib.ListN.{length, getD, set, replicate, length-set, length-append, length-r
 use lib.Seq.{getD-set-same, getD-set-other}
 use Rattle.language.specs.Cases.{impossible, split}
 use Rattle.language.specs.Limits.{textParts, tableEntries}
+use Rattle.layout.specs.Links.{kindAt}
 use Rattle.layout.specs.Memory.{Node, nodeAt}
 use Rattle.layout.specs.Nodes.{sameNode}
 use Rattle.table.specs.WellFormed.{hasNode, distinct}
@@ -199,6 +200,30 @@ module _ (ν : ℕ → Node) where
   last-le x zero = omega arith
   last-le x (suc n) = let ih = last-le x n in split (sameNode (ν n) x) (λ p. rw p (omega arith)) (λ p. rw p (omega arith))
 
+  last-at : (x : Node) (c : ℕ) → 0 < c → lastSame ν x c ≡ cond (sameNode (ν (c - 1)) x) c (lastSame ν x (c - 1))
+  unfolding lastSame
+  last-at x zero s = absurd (omega arith)
+  last-at x (suc j) s = let z : suc j - 1 ≡ j = omega arith in rw z
+
+  -- a search that goes down, at number c - 1
+  module _ (x : Node) (total c : ℕ) (all : lastSame ν x total ≡ lastSame ν x c) where
+    module _ (some : 0 < c) (m : Node) (s : Bool) (qs : s ≡ sameNode m x) (qm : m ≡ ν (c - 1)) where
+      pub last-hit : s ≡ true → c ≡ lastSame ν x total
+      last-hit t = sym (all ∙ last-at x c some ∙ rw (← qm) (rw (sym qs ∙ t)))
+
+      pub last-go : s ≡ false → lastSame ν x total ≡ lastSame ν x (c - 1)
+      last-go t = all ∙ last-at x c some ∙ rw (← qm) (rw (sym qs ∙ t))
+
+      pub new-hit : s ≡ true → x ≡ ν total → false ≡ newAt ν total
+      new-hit t q = rw (← q, ← last-hit t) (sym (ne-eqb c 0 (λ e. omega arith)))
+
+    pub last-end : c ≤ 0 → 0 ≡ lastSame ν x total
+    unfolding lastSame
+    last-end h = let z : c ≡ 0 = omega arith in sym (all ∙ rw z)
+
+    pub new-end : c ≤ 0 → x ≡ ν total → true ≡ newAt ν total
+    new-end h q = rw (← q, ← last-end h)
+
   -- chains
   pub latest-le : (h n : ℕ) → latest ν h n ≤ n
   unfolding latest
@@ -252,24 +277,9 @@ module _ (ν : ℕ → Node) where
       pub seek-lower : getD chain (511 + c) 0 ≤ total
       seek-lower = let z = seek-less in omega arith
 
-      last-at : lastSame ν x c ≡ cond (sameNode (ν (c - 1)) x) c (lastSame ν x (c - 1))
-      unfolding lastSame
-      last-at = by c some
-        where
-          by : (c : ℕ) → 0 < c → lastSame ν x c ≡ cond (sameNode (ν (c - 1)) x) c (lastSame ν x (c - 1))
-          by zero s = absurd (omega arith)
-          by (suc j) s = let z : suc j - 1 ≡ j = omega arith in rw z
-
-      module _ (all : lastSame ν x total ≡ lastSame ν x c) (m : Node) (s : Bool) (qs : s ≡ sameNode m x) (qm : m ≡ ν (c - 1)) where
-        pub seek-hit : s ≡ true → c ≡ lastSame ν x total
-        seek-hit t = sym (all ∙ last-at ∙ rw (← qm) (rw (sym qs ∙ t)))
-
-        pub seek-go : s ≡ false → lastSame ν x total ≡ lastSame ν x (getD chain (511 + c) 0)
-        seek-go t = all ∙ last-at ∙ rw (← qm) (rw (sym qs ∙ t) (rw next-is (sym (jump x (c - 1)))))
-
-  pub seek-end : (x : Node) (total c : ℕ) → lastSame ν x total ≡ lastSame ν x c → c ≤ 0 → 0 ≡ lastSame ν x total
-  unfolding lastSame
-  seek-end x total c all h = let z : c ≡ 0 = omega arith in sym (all ∙ rw z)
+      pub seek-go : lastSame ν x total ≡ lastSame ν x c → (m : Node) (s : Bool) → s ≡ sameNode m x → m ≡ ν (c - 1) → s ≡ false
+          → lastSame ν x total ≡ lastSame ν x (getD chain (511 + c) 0)
+      seek-go all m s qs qm t = last-go x total c all some m s qs qm t ∙ rw next-is (sym (jump x (c - 1)))
 
   pub chained-more : (chain chain′ : List ℕ) (n h : ℕ) → Chained ν chain n → chain′ ≡ linked chain h n → h ≡ hashOf (ν n) → h < hashes
       → n < tableEntries + textParts → Chained ν chain′ (n + 1)
@@ -355,17 +365,25 @@ pub held-front : (links cells : List ℕ) (count : ℕ) (fresh : List ℕ) (j : 
 unfolding heldAt
 held-front links cells count fresh j h = rw (lt-ltb j count h)
 
-pub distinct-held : (links cells : List ℕ) (n : ℕ) (fresh : List ℕ) → allFrom (newAt (heldAt links cells n fresh)) n 0 ≡ distinct (numbered (nodeAt links cells) 0 n)
-distinct-held links cells n fresh =
-    sym (distinct-all (heldAt links cells n fresh) n)
-    ∙ ap distinct (numbered-agree (heldAt links cells n fresh) (nodeAt links cells) 0 n (λ j l. held-front links cells n fresh j (omega arith)))
+-- the test of an entry, which reads the kind first
+module _ (links cells : List ℕ) (i : ℕ) (x : Node) where
+  pub at-same : (m : Node) (r : Bool) → r ≡ sameNode m x → m ≡ nodeAt links cells i → r ≡ sameNode (nodeAt links cells i) x
+  at-same m r e q = rw (← q) e
 
-module _ (links cells : List ℕ) (n : ℕ) (fresh : List ℕ) (i : ℕ) (all : allFrom (newAt (heldAt links cells n fresh)) n 0 ≡ allFrom (newAt (heldAt links cells n fresh)) (n - i) i) where
-  pub distinct-stop : (chain : List ℕ) (r : Bool) → Entered (heldAt links cells n fresh) i chain r → r ≡ false → i < n → false ≡ distinct (numbered (nodeAt links cells) 0 n)
-  distinct-stop chain r e t h = all-stop (newAt (heldAt links cells n fresh)) n i all r (e .new) t h ∙ distinct-held links cells n fresh
+  pub at-other : (kind : ℕ) → kind ≡ kindAt links i → (kind ≡ x .kind → ⊥) → false ≡ sameNode (nodeAt links cells i) x
+  unfolding sameNode nodeAt
+  at-other kind q h = rw (← q, ne-eqb kind (x .kind) h)
+
+-- the loop over all
+pub distinct-new : (links cells : List ℕ) (n : ℕ) (r : Bool) → r ≡ allFrom (newAt (nodeAt links cells)) n 0 → r ≡ distinct (numbered (nodeAt links cells) 0 n)
+distinct-new links cells n r e = e ∙ sym (distinct-all (nodeAt links cells) n)
+
+module _ (links cells : List ℕ) (n i : ℕ) (all : allFrom (newAt (nodeAt links cells)) n 0 ≡ allFrom (newAt (nodeAt links cells)) (n - i) i) where
+  pub distinct-stop : (chain : List ℕ) (r : Bool) → Entered (nodeAt links cells) i chain r → r ≡ false → i < n → false ≡ distinct (numbered (nodeAt links cells) 0 n)
+  distinct-stop chain r e t h = distinct-new links cells n false (all-stop (newAt (nodeAt links cells)) n i all r (e .new) t h)
 
   pub distinct-end : n ≤ i → true ≡ distinct (numbered (nodeAt links cells) 0 n)
-  distinct-end h = all-end (newAt (heldAt links cells n fresh)) n i all h ∙ distinct-held links cells n fresh
+  distinct-end h = distinct-new links cells n true (all-end (newAt (nodeAt links cells)) n i all h)
 
 pub ruleset chains = (
   hash-low,
@@ -374,16 +392,19 @@ pub ruleset chains = (
   entered-chain,
   entered-is,
   chained-start,
+  at-same,
+  at-other,
+  distinct-new,
   distinct-stop,
   distinct-end,
   seek-start,
   seek-first,
   seek-low,
-  seek-hit,
+  last-hit,
   seek-go,
   seek-next,
   seek-less,
   seek-lower,
-  seek-end,
+  last-end,
   chained-more,
 )

@@ -62,11 +62,9 @@ module _ (links cells : List ℕ) where
             ∙ waits-at ws (waitsFrom links cells k (suc i) (set ws i v)) i (λ m b. sym (pass-below (suc k) i m ws b)))
       ]
 
-  pass-is : (n : ℕ) → n ≤ tableEntries → (i : ℕ) → i < n
-      → getD (waitsFrom links cells n 0 (replicate tableEntries 0)) i 0 ≡ waitsAt links cells (waitsFrom links cells n 0 (replicate tableEntries 0)) i
-  pass-is n most i h =
-      pass-at n 0 i (replicate tableEntries 0) (omega arith) (omega arith)
-      (let z = length-replicate {A = ℕ} tableEntries 0 in omega arith)
+  pass-is : (n : ℕ) (start : List ℕ) → n ≤ length start → (i : ℕ) → i < n
+      → getD (waitsFrom links cells n 0 start) i 0 ≡ waitsAt links cells (waitsFrom links cells n 0 start) i
+  pass-is n start room i h = pass-at n 0 i start (omega arith) (omega arith) (omega arith)
 
 -- ---- what is found for an entry
 -- the variable of entry a
@@ -405,19 +403,20 @@ module _ (links cells : List ℕ) (n : ℕ) (most : n ≤ tableEntries)
     tests-are : allFrom (fewAt links ws) n 0 ≡ awaitsFew (numbered (nodeAt links cells) 0 n)
     tests-are = all-same (fewAt links ws) (λ i. leb (length (names i)) 2) n test-is ∙ sym (few-all (nodeAt links cells) n)
 
-  abbrev pass : List ℕ
-  pass = waitsFrom links cells n 0 (replicate tableEntries 0)
-
   -- THE LAW: where no entry awaits over two names, what the pass finds for each stands for its names
   pub found : ((k : ℕ) → k < n → length (namesOf (nodeAt links cells) k) ≤ 2) → (i : ℕ) → i < n
       → Holds links cells i (getD (waitsFrom links cells n 0 (replicate tableEntries 0)) i 0) (namesOf (nodeAt links cells) i)
-  found short = found-first pass (pass-is links cells n most) n (omega arith) (λ k q t l. omega (arith, short k q))
+  found short =
+      let start : List ℕ = replicate tableEntries 0 in
+      let room = length-replicate {A = ℕ} tableEntries 0 in
+      found-first (waitsFrom links cells n 0 start) (pass-is links cells n start (omega arith)) n (omega arith) (λ k q t l. omega (arith, short k q))
 
-  pass-tests : allFrom (fewAt links pass) n 0 ≡ awaitsFew (numbered (nodeAt links cells) 0 n)
-  pass-tests = tests-are pass (pass-is links cells n most)
+  pass-tests : (start : List ℕ) → n ≤ length start → allFrom (fewAt links (waitsFrom links cells n 0 start)) n 0 ≡ awaitsFew (numbered (nodeAt links cells) 0 n)
+  pass-tests start room = tests-are (waitsFrom links cells n 0 start) (pass-is links cells n start room)
 
 -- and the tests say whether one does
-module _ (links cells : List ℕ) (n : ℕ) (ws : List ℕ) (r : Bool) where
-  pub few-is : r ≡ allFrom (fewAt links ws) n 0 → ws ≡ waitsFrom links cells n 0 (replicate tableEntries 0) → allFrom (rightAt links cells) n 0 ≡ true
-      → distinct (numbered (nodeAt links cells) 0 n) ≡ true → n ≤ tableEntries → r ≡ awaitsFew (numbered (nodeAt links cells) 0 n)
-  few-is e q right d most = e ∙ rw q (pass-tests links cells n most (λ i h. right-at links cells n i right h) (apart (nodeAt links cells) n d))
+module _ (links cells : List ℕ) (n : ℕ) (ws start : List ℕ) (r : Bool) where
+  pub few-is : r ≡ allFrom (fewAt links ws) n 0 → ws ≡ waitsFrom links cells n 0 start → allFrom (rightAt links cells) n 0 ≡ true
+      → distinct (numbered (nodeAt links cells) 0 n) ≡ true → n ≤ tableEntries → n ≤ length start → r ≡ awaitsFew (numbered (nodeAt links cells) 0 n)
+  few-is e q right d most room =
+      e ∙ rw q (pass-tests links cells n most (λ i h. right-at links cells n i right h) (apart (nodeAt links cells) n d) start room)

@@ -2,9 +2,11 @@
 // for each entry holds the same of the entries before it.
 use language::limits::Table;
 use language::limits::Text;
+use layout::cells::kind_of;
 use layout::nodes::Shape;
 use layout::nodes::TEXT_WORDS;
 use layout::nodes::held_at;
+use layout::nodes::node_at;
 use layout::nodes::same;
 ghost use mathlib.Core.Path.{_≡_};
 ghost use mathlib.Core.Bool.{true};
@@ -12,16 +14,20 @@ ghost use Prim.Native.Nat.{_+_, _<_, _≤_};
 ghost use lib.ListN.{length};
 ghost use Rattle.language.specs.Limits.{tableEntries};
 ghost use Rattle.layout.specs.Memory.{nodeAt};
+ghost use Rattle.layout.specs.Nodes.{sameNode};
 ghost use Rattle.table.specs.WellFormed.{distinct};
-ghost use Rattle.layout.specs.Numbered.{numbered};
+ghost use Rattle.layout.specs.Numbered.{numbered, allFrom};
 ghost use Rattle.layout.specs.Held.{shaped, heldAt};
-ghost use Rattle.table.specs.Chain.{hashes, chainEntries, chainCells, hashOf, lastSame, Chained, linked, Entered};
+ghost use Rattle.table.specs.Chain.{hashes, chainEntries, chainCells, hashOf, lastSame, newAt, Chained, linked, Entered};
 
 // How many hashes there are.
 pub const HASHES: usize = 512;
 
 // A cell for each hash, and one for each entry, held or about to be appended.
 pub const CHAIN_CELLS: usize = HASHES + (Table::ENTRIES + Text::PARTS);
+
+// Up to so many entries are compared with each other, with no chain: to clear one would take longer.
+const COMPARED: u16 = 6;
 
 // The chain of a node.
 pub fn hash(x: Shape) -> u16
@@ -66,26 +72,83 @@ pub fn enter(chain: &mut [u16; CHAIN_CELLS], h: u16, i: u16)
     chain[h as usize] = i + 1;
 }
 
-// Whether entry i is equal to none before it; then it is entered.
-fn enter_new(
+// Whether entry i is x. The kind is read first: in most entries it is another.
+fn is_at(links: &[u16], cells: &[u64], i: u16, x: Shape) -> bool
+    ensures { λ r. ⌜ r ≡ sameNode (nodeAt (now (links .entry)) (now (cells .entry)) i) (shaped x) ⌝ }
+{
+    if kind_of(links, i as usize) == x.kind {
+        return same(node_at(links, cells, i), x);
+    }
+    false
+}
+
+// As `seek`, where no entry waits.
+fn seek_held(
     links: &[u16],
     cells: &[u64],
-    count: u16,
-    fresh: &[u64; TEXT_WORDS],
-    chain: &mut [u16; CHAIN_CELLS],
-    i: u16,
-) -> bool
-    requires { ⌜ Chained (heldAt (now links) (now cells) count (now fresh)) (now chain) i ⌝ }
-    requires { ⌜ i < chainEntries ⌝ }
-    ensures { λ r. ⌜ Entered (heldAt (now (links .entry)) (now (cells .entry)) count (now (fresh .entry))) i (now (chain .exit)) r ⌝ }
+    chain: &[u16; CHAIN_CELLS],
+    total: u16,
+    h: u16,
+    x: Shape,
+) -> u16
+    requires { ⌜ Chained (nodeAt (now links) (now cells)) (now chain) total ⌝ }
+    requires { ⌜ h ≡ hashOf (shaped x) ⌝ }
+    requires { ⌜ (h < hashes) × (total ≤ chainEntries) ⌝ }
+    ensures { λ r. ⌜ r ≡ lastSame (nodeAt (now (links .entry)) (now (cells .entry))) (shaped x) total ⌝ }
 {
-    let x = held_at(links, cells, count, fresh, i);
+    let mut c = chain[h as usize];
+    while 0 < c {
+        if is_at(links, cells, c - 1, x) {
+            return c;
+        }
+        c = chain[HASHES - 1 + c as usize];
+    }
+    0
+}
+
+// Whether entry i is equal to none before it; then it is entered.
+fn enter_new(links: &[u16], cells: &[u64], chain: &mut [u16; CHAIN_CELLS], i: u16) -> bool
+    requires { ⌜ Chained (nodeAt (now links) (now cells)) (now chain) i ⌝ }
+    requires { ⌜ i < chainEntries ⌝ }
+    ensures { λ r. ⌜ Entered (nodeAt (now (links .entry)) (now (cells .entry))) i (now (chain .exit)) r ⌝ }
+{
+    let x = node_at(links, cells, i);
     let h = hash(x);
-    if seek(links, cells, count, fresh, chain, i, h, x) == 0 {
+    if seek_held(links, cells, chain, i, h, x) == 0 {
         enter(chain, h, i);
         return true;
     }
     false
+}
+
+// Whether entry i is equal to none before it, by comparing it with each.
+fn is_new(links: &[u16], cells: &[u64], i: u16) -> bool
+    ensures { λ r. ⌜ r ≡ newAt (nodeAt (now (links .entry)) (now (cells .entry))) i ⌝ }
+{
+    let x = node_at(links, cells, i);
+    let mut j = i;
+    while 0 < j {
+        if is_at(links, cells, j - 1, x) {
+            return false;
+        }
+        j -= 1;
+    }
+    true
+}
+
+// Whether each of the first n entries is equal to none before it.
+fn are_new(links: &[u16], cells: &[u64], n: u16) -> bool
+    ensures { λ r. ⌜ r ≡ allFrom (newAt (nodeAt (now (links .entry)) (now (cells .entry)))) n 0 ⌝ }
+{
+    let mut i: u16 = 0;
+    while i < n {
+        if is_new(links, cells, i) {
+            i += 1;
+        } else {
+            return false;
+        }
+    }
+    true
 }
 
 // No two of the first n entries are equal.
@@ -93,11 +156,13 @@ pub fn distinct_nodes(links: &[u16], cells: &[u64], n: u16) -> bool
     requires { ⌜ n ≤ tableEntries ⌝ }
     ensures { λ r. ⌜ r ≡ distinct (numbered (nodeAt (now (links .entry)) (now (cells .entry))) 0 n) ⌝ }
 {
-    let fresh = [0u64; TEXT_WORDS];
+    if n <= COMPARED {
+        return are_new(links, cells, n);
+    }
     let mut chain = [0u16; CHAIN_CELLS];
     let mut i: u16 = 0;
     while i < n {
-        if enter_new(links, cells, n, &fresh, &mut chain, i) {
+        if enter_new(links, cells, &mut chain, i) {
             i += 1;
         } else {
             return false;

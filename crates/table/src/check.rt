@@ -20,6 +20,7 @@ ghost use mathlib.Core.Path.{_≡_};
 ghost use mathlib.Core.Bool.{true};
 ghost use mathlib.Core.List.{List};
 ghost use Prim.Native.Nat.{_≤_};
+ghost use lib.ListN.{length};
 ghost use lib.IntN.{ℤ};
 ghost use Rattle.language.specs.Limits.{tableEntries};
 ghost use Rattle.layout.specs.Memory.{nodeAt, entriesFrom, memory};
@@ -28,6 +29,9 @@ ghost use Rattle.table.specs.WellFormed.{doneAt, allDone, namesRight, di
 ghost use Rattle.table.specs.Right.{rightAt};
 ghost use Rattle.layout.specs.Numbered.{numbered, allFrom};
 ghost use Rattle.table.specs.Checked.{kept, keptOk, entriesRight};
+
+// Up to so many entries, a small frame holds what they await.
+const FEW: usize = 16;
 
 // Whether entry j of n is worked out.
 fn is_done(links: &[u16], cells: &[u64], n: u16, j: u16) -> bool
@@ -98,6 +102,17 @@ fn all_kept_right(links: &[u16], cells: &[u64], n: u16, readings: usize) -> bool
     true
 }
 
+// Whether none of n entries awaits over two names, with a cell of `waits` for each entry.
+fn few_in(links: &[u16], cells: &[u64], n: u16, waits: &mut [u32]) -> bool
+    requires { ⌜ allFrom (rightAt (now links) (now cells)) n 0 ≡ true ⌝ }
+    requires { ⌜ distinct (numbered (nodeAt (now links) (now cells)) 0 n) ≡ true ⌝ }
+    requires { ⌜ (n ≤ tableEntries) × (n ≤ length (now waits)) ⌝ }
+    ensures { λ r. ⌜ r ≡ awaitsFew (numbered (nodeAt (now (links .entry)) (now (cells .entry))) 0 n) ⌝ }
+{
+    fill_waits(links, cells, n as usize, waits);
+    are_few(links, waits, n as usize)
+}
+
 // Whether none of n entries awaits over two names.
 fn few_names(links: &[u16], cells: &[u64], n: u16) -> bool
     requires { ⌜ allFrom (rightAt (now links) (now cells)) n 0 ≡ true ⌝ }
@@ -105,9 +120,12 @@ fn few_names(links: &[u16], cells: &[u64], n: u16) -> bool
     requires { ⌜ n ≤ tableEntries ⌝ }
     ensures { λ r. ⌜ r ≡ awaitsFew (numbered (nodeAt (now (links .entry)) (now (cells .entry))) 0 n) ⌝ }
 {
+    if n as usize <= FEW {
+        let mut waits = [0u32; FEW];
+        return few_in(links, cells, n, &mut waits);
+    }
     let mut waits = [0u32; Table::ENTRIES];
-    fill_waits(links, cells, n as usize, &mut waits);
-    are_few(links, &waits, n as usize)
+    few_in(links, cells, n, &mut waits)
 }
 
 // The clauses after the counts, of n entries.

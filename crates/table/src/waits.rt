@@ -1,5 +1,4 @@
 // The variables that entries await, by a rising pass over the table.
-use language::limits::Table;
 use layout::cells::first_of;
 use layout::cells::is_below;
 use layout::cells::key_of;
@@ -9,6 +8,7 @@ use layout::cells::second_of;
 use layout::nodes::Shape;
 ghost use mathlib.Core.Path.{_≡_};
 ghost use Prim.Native.Nat.{_<_, _≤_};
+ghost use lib.ListN.{length};
 ghost use Rattle.language.specs.Limits.{tableEntries};
 ghost use Rattle.layout.specs.Numbered.{allFrom};
 ghost use Rattle.table.specs.Waits.{hasSlot, awaits as awaitsOf, joinedSlots, isOf, withoutSlot as withoutOf, waitsOf, waitsAt, waitsFrom, covers as coversOf, fewAt, ownOf};
@@ -63,8 +63,8 @@ fn without(links: &[u16], cells: &[u64], key: u64, level: u16, w: u32) -> u32
     w
 }
 
-fn waits_of(waits: &[u32; Table::ENTRIES], link: usize, i: usize) -> u32
-    requires { ⌜ i < tableEntries ⌝ }
+fn waits_of(waits: &[u32], link: usize, i: usize) -> u32
+    requires { ⌜ i < length (now waits) ⌝ }
     ensures { λ r. ⌜ r ≡ waitsOf (now (waits .entry)) link i ⌝ }
 {
     if is_below(link, i) {
@@ -74,8 +74,8 @@ fn waits_of(waits: &[u32; Table::ENTRIES], link: usize, i: usize) -> u32
 }
 
 // What entry i awaits, from what the entries before it await.
-fn waits_at(links: &[u16], cells: &[u64], waits: &[u32; Table::ENTRIES], i: usize) -> u32
-    requires { ⌜ i < tableEntries ⌝ }
+fn waits_at(links: &[u16], cells: &[u64], waits: &[u32], i: usize) -> u32
+    requires { ⌜ (i < tableEntries) × (i < length (now waits)) ⌝ }
     ensures { λ r. ⌜ r ≡ waitsAt (now (links .entry)) (now (cells .entry)) (now (waits .entry)) i ⌝ }
 {
     let kind = kind_of(links, i);
@@ -93,8 +93,8 @@ fn waits_at(links: &[u16], cells: &[u64], waits: &[u32; Table::ENTRIES], i: usiz
 }
 
 // What the first n entries await.
-pub fn fill_waits(links: &[u16], cells: &[u64], n: usize, waits: &mut [u32; Table::ENTRIES])
-    requires { ⌜ n ≤ tableEntries ⌝ }
+pub fn fill_waits(links: &[u16], cells: &[u64], n: usize, waits: &mut [u32])
+    requires { ⌜ (n ≤ tableEntries) × (n ≤ length (now waits)) ⌝ }
     ensures { λ _. ⌜ now (waits .exit) ≡ waitsFrom (now (links .entry)) (now (cells .entry)) n 0 (now (waits .entry)) ⌝ }
 {
     let mut i: usize = 0;
@@ -112,16 +112,16 @@ fn covers(w: u32, u: u32) -> bool
 }
 
 // Whether entry i awaits no more than two: what a join leaves out is a variable of the second dependency.
-fn is_few(links: &[u16], waits: &[u32; Table::ENTRIES], i: usize) -> bool
-    requires { ⌜ i < tableEntries ⌝ }
+fn is_few(links: &[u16], waits: &[u32], i: usize) -> bool
+    requires { ⌜ (i < tableEntries) × (i < length (now waits)) ⌝ }
     ensures { λ r. ⌜ r ≡ fewAt (now (links .entry)) (now (waits .entry)) i ⌝ }
 {
     covers(waits[i], waits_of(waits, second_of(links, i) as usize, i))
 }
 
 // Whether none of the first n entries awaits more than two.
-pub fn are_few(links: &[u16], waits: &[u32; Table::ENTRIES], n: usize) -> bool
-    requires { ⌜ n ≤ tableEntries ⌝ }
+pub fn are_few(links: &[u16], waits: &[u32], n: usize) -> bool
+    requires { ⌜ (n ≤ tableEntries) × (n ≤ length (now waits)) ⌝ }
     ensures { λ r. ⌜ r ≡ allFrom (fewAt (now (links .entry)) (now (waits .entry))) n 0 ⌝ }
 {
     let mut i: usize = 0;

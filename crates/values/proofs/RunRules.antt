@@ -2,15 +2,18 @@
 use mathlib.Core.Path.{_≡_, refl, sym, ap, _∙_, subst}
 use mathlib.Core.Bool.{Bool, true, false, not, cond}
 use mathlib.Core.List.{List, [], _∷_}
-use Prim.Native.Nat.{ℕ, _+_, max}
+use Prim.Native.Nat.{ℕ, _+_, _*_, _≤_, max}
 use native.Mathlib.Omega.{arith}
 use borrow.Author.Needs.{needs}
+use borrow.Author.Tests.{eqb-true, eqb-false}
+use lib.Dec.{eqb}
 use lib.IntN.{ℤ, pos, _+ℤ_}
 use mir.Syntax.{w16, w32, w64}
-use mir.Val.{Fits, SFits, toZ, ofZ}
+use mir.Val.{Fits, SFits, toZ, ofZ, boolByte}
 use mir.Facts.{sfits-lit, toZ-pos, toZ-ofZ}
 use types.Run.{OneOf, miss}
 use denote.Enum.Declared.{tagOf}
+use Rattle.language.specs.Cases.{split, by-cond}
 use Rattle.members.specs.declared.Member.{Member}
 use Rattle.members.specs.declared.Member.the-variants.{CountWhere, LongestRun, SumBy}
 use Rattle.rules.specs.declared.Value.{Value}
@@ -20,12 +23,49 @@ use Rattle.rules.specs.Values.{ranged, wrongKind}
 use Rattle.values.specs.Ranges.{mag-abs}
 use Rattle.rules.specs.Runs.{isNonzero}
 use Rattle.rules.specs.Rules.{rule, byRuns}
-use Rattle.values.specs.Tallies.{noted, halted, entered, stepped, summed, finished, Within, Steps}
+use Rattle.values.specs.Tallies.{stretched, noted, halted, entered, stepped, summed, finished, Within, Steps}
 use Rattle.values.specs.TallyLaws.{stopped-steps, going-steps, Small, within-more, within-noted, within-stepped}
 use Rattle.rules.proofs.Value as Variants
 use Rattle.values.proofs.Tables.{tag, besides, last-arm}
 use Rattle.values.specs.Order.{same-yes, same-no}
 use Rattle.values.proofs.Signed.{widens, wide, wide-is, read-eq}
+
+-- ---- a test as a number
+
+abbrev counts : Bool → ℕ
+counts b = cond b 1 0
+
+byte-is : (b : Bool) → boolByte b ≡ counts b
+byte-is true = refl
+byte-is false = refl
+
+kept-is : (n : ℕ) (b : Bool) → n * boolByte b ≡ cond b n 0
+kept-is n true = omega arith
+kept-is n false = omega arith
+
+module _ (n : ℕ) (b : Bool) (h : n ≤ 65534) where
+  pub counted-fits : Fits w16 (n + boolByte b)
+  counted-fits = split b (λ e. rw e (record { fits = omega arith })) (λ e. rw e (record { fits = omega arith }))
+
+  pub stretched-fits : Fits w16 ((n + 1) * boolByte b)
+  stretched-fits = rw (kept-is (n + 1) b) (by-cond (Fits w16) b (n + 1) 0 (λ e. record { fits = omega arith }) (λ e. record { fits = omega arith }))
+
+-- whether a number is 0 is told by its bits
+module _ (n : ℕ) (z : ℤ) (f : SFits w32 z) where
+  abbrev told : Bool
+  told = not (eqb (ofZ w32 z) 0)
+
+  told-is : told ≡ isNonzero z
+  told-is =
+      ap not (split (eqb (ofZ w32 z) 0)
+      (λ h. h ∙ sym (same-yes z (pos 0) (read-eq w32 {b = pos 0} f (sfits-lit tt) (eqb-true (ofZ w32 z) 0 h))))
+      (λ h. h ∙ sym (same-no z (pos 0) (λ q. eqb-false (ofZ w32 z) 0 h (ap (ofZ w32) q)))))
+
+  pub counted-is : n + boolByte told ≡ n + counts (isNonzero z)
+  counted-is = ap (λ (k : ℕ). n + k) (byte-is told ∙ ap counts told-is)
+
+  pub stretched-is : (n + 1) * boolByte told ≡ cond (isNonzero z) (n + 1) 0
+  stretched-is = kept-is (n + 1) told ∙ ap (λ (b : Bool). cond b (n + 1) 0) told-is
 
 -- ---- one more number
 
@@ -46,23 +86,17 @@ module _ (t : Tally) (z : ℤ) (w : Within 65534 t) (ft : SFits w64 (t .total)) 
   total-is : newTotal ≡ t .total +ℤ z
   total-is = ap (λ (y : ℤ). toZ w64 (ofZ w64 y)) operands ∙ toZ-ofZ moved
 
-  note-by : (b : Bool) (c s l : ℕ) → isNonzero z ≡ b → c ≡ t .count + cond b 1 0 → s ≡ cond b (t .stretch + 1) 0 → l ≡ max (t .longest) s
+  abbrev read : ℤ
+  read = toZ w32 (ofZ w32 z)
+
+  pub note-is : {c s l : ℕ} → c ≡ t .count + counts (isNonzero read) → s ≡ cond (isNonzero read) (t .stretch + 1) 0 → l ≡ max (t .longest) s
       → record { stopped = false; reason = 0; count = c; stretch = s; longest = l; total = newTotal } ≡ noted t z
   unfolding noted
-  note-by b c s l h p q e =
-      let count : c ≡ t .count + cond (isNonzero z) 1 0 = rw h p in
-      let stretch : s ≡ cond (isNonzero z) (t .stretch + 1) 0 = rw h q in
-      let longest : l ≡ max (t .longest) (cond (isNonzero z) (t .stretch + 1) 0) = e ∙ ap (max (t .longest)) stretch in
+  note-is {c} {s} {l} p q e =
+      let count : c ≡ t .count + counts (isNonzero z) = p ∙ ap (λ (y : ℤ). t .count + counts (isNonzero y)) (toZ-ofZ fz) in
+      let stretch : s ≡ stretched t z = q ∙ ap (stretched t) (toZ-ofZ fz) in
+      let longest : l ≡ max (t .longest) (stretched t z) = e ∙ ap (max (t .longest)) stretch in
       λ i. record { stopped = false; reason = 0; count = count i; stretch = stretch i; longest = longest i; total = total-is i }
-
-  pub note-none : ofZ w32 z ≡ 0 → record { stopped = false; reason = 0; count = t .count; stretch = 0; longest = t .longest; total = newTotal } ≡ noted t z
-  note-none e =
-      note-by false (t .count) 0 (t .longest) (ap not (same-yes z (pos 0) (read-eq w32 {b = pos 0} fz (sfits-lit tt) e))) (omega arith) refl (omega arith)
-
-  pub note-one : (n : ℕ) → (ofZ w32 z ≡ 0 → ⊥) → n ≡ max (t .longest) (t .stretch + 1)
-      → record { stopped = false; reason = 0; count = t .count + 1; stretch = t .stretch + 1; longest = n; total = newTotal } ≡ noted t z
-  note-one n e l =
-      note-by true (t .count + 1) (t .stretch + 1) n (ap not (same-no z (pos 0) (λ q. e (ap (ofZ w32) q)))) refl refl l
 
 -- ---- one more result
 
@@ -131,4 +165,4 @@ pub finish-others : (m : Member) (t : Tally) → t .stopped ≡ false → OneOf 
 unfolding rule
 finish-others m t h k = finish m t h (last-arm (λ j. byRuns (rule j) (summed t)) rest refl m k)
 
-pub ruleset run-rules = (needs, widens, note-fits, note-none, note-one, step-stopped, step-number, step-missing, step-other, finish-stopped, finish-count, finish-longest, finish-sum, finish-others)
+pub ruleset run-rules = (needs, widens, counted-fits, counted-is, stretched-fits, stretched-is, note-fits, note-is, step-stopped, step-number, step-missing, step-other, finish-stopped, finish-count, finish-longest, finish-sum, finish-others)

@@ -3,7 +3,9 @@ use crate::numbers::number;
 use members::Member;
 use rules::Value;
 ghost use mathlib.Core.Path.{_≡_};
-ghost use Prim.Native.Nat.{max};
+ghost use mathlib.Core.Bool.{cond};
+ghost use Prim.Native.Nat.{_+_, _≤_, max};
+ghost use Rattle.rules.specs.Runs.{isNonzero};
 ghost use Rattle.values.specs.Tallies.{begun, noted, halted, finished, Within, Steps};
 
 // What is kept of the results so far: how many were other than 0, the stretch of these at the end, the longest stretch, and the exact
@@ -52,30 +54,35 @@ fn longer(a: u16, b: u16) -> u16
     if a < b { b } else { a }
 }
 
+// One more where z is other than 0. The test is a number here and below: a branch on results that vary would often be guessed wrong.
+fn counted(n: u16, z: i32) -> u16
+    requires { ⌜ n ≤ 65534 ⌝ }
+    ensures { λ r. ⌜ r ≡ n + cond (isNonzero z) 1 0 ⌝ }
+{
+    n + (z != 0) as u16
+}
+
+// The stretch that ends with z.
+fn stretched(n: u16, z: i32) -> u16
+    requires { ⌜ n ≤ 65534 ⌝ }
+    ensures { λ r. ⌜ r ≡ cond (isNonzero z) (n + 1) 0 ⌝ }
+{
+    (n + 1) * (z != 0) as u16
+}
+
 // One more number.
 fn note(t: Tally, z: i32) -> Tally
     requires { ⌜ Within 65534 t ⌝ }
     ensures { λ r. ⌜ r ≡ noted t z ⌝ }
 {
-    let total = t.total + z as i64;
-    if z == 0 {
-        return Tally {
-            stopped: false,
-            reason: 0,
-            count: t.count,
-            stretch: 0,
-            longest: t.longest,
-            total,
-        };
-    }
-    let stretch = t.stretch + 1;
+    let stretch = stretched(t.stretch, z);
     Tally {
         stopped: false,
         reason: 0,
-        count: t.count + 1,
+        count: counted(t.count, z),
         stretch,
         longest: longer(t.longest, stretch),
-        total,
+        total: t.total + z as i64,
     }
 }
 

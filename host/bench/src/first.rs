@@ -19,6 +19,8 @@ pub fn measure(readings: &[i32], figures: &mut Figures) {
         formulas::count_where(),
         formulas::longest_run(),
         formulas::nested_sum(),
+        formulas::variance(),
+        formulas::twenty_members(),
         formulas::chain(),
         formulas::shared(100, 1),
     ];

@@ -59,6 +59,35 @@ pub fn nested_sum() -> Formula {
     )
 }
 
+/// The mean square of the distance from the mean.
+pub fn variance() -> Formula {
+    formula(
+        "variance",
+        r"let m = data.sum().div(data.count()) in
+data.sumBy(\b -> b.sub(m).mul(b.sub(m))).div(data.count())",
+        "local m = div(sum(data), count(data))
+return div(sumBy(data, function(b) return (b - m) * (b - m) end), count(data))",
+    )
+}
+
+/// An effort by zones of the heart rate. Twenty members of the body depend on its variable.
+pub fn twenty_members() -> Formula {
+    formula(
+        "twenty members",
+        r"data.sumBy(\b -> b.sub(90).mul(b.gt(110))
+    .add(b.sub(130).mul(b.gt(130)).mul(2))
+    .add(b.sub(150).mul(b.gt(150)).mul(3))
+    .sub(b.eq(190).mul(50)).mul(b).div(180).add(b.gt(170)))",
+        "return sumBy(data, function(b)
+  local effort = b > 110 and b - 90 or 0
+  if b > 130 then effort = effort + (b - 130) * 2 end
+  if b > 150 then effort = effort + (b - 150) * 3 end
+  if b == 190 then effort = effort - 50 end
+  return div(effort * b, 180) + (b > 170 and 1 or 0)
+end)",
+    )
+}
+
 /// Forty windows of windows, and the sum of the last.
 pub fn chain() -> Formula {
     let (mut text, mut lua) = ("data".to_string(), "data".to_string());
@@ -144,6 +173,8 @@ pub fn all() -> Vec<Formula> {
         count_where(),
         longest_run(),
         nested_sum(),
+        variance(),
+        twenty_members(),
         chain(),
         shared(100, 1),
         limit(150),

@@ -3,6 +3,8 @@
 //! FORMULA_SEED and FORMULA_CALLS set another first seed and number of calls:
 //!     FORMULA_SEED=77 FORMULA_CALLS=5000000 cargo test --release -p engine --test sessions
 
+mod previews;
+
 use engine::compare::{Pair, setting};
 use plain::limits::{TABLE_ENTRIES, TEXT_BYTES};
 use plain::model::Answer;
@@ -13,16 +15,14 @@ use plain::random::pasted::pasted;
 use plain::random::rng::Rng;
 use plain::random::single::single;
 use plain::random::{is_affordable, session};
-use plain::refusal::TABLE_FULL;
 use plain::samples::{edit, open, preview, print};
 use plain::tally::{
     DELAYED_TWICE, FROM_THE_END, OTHER_LEVELS, PAST_THE_FIRST, ROUNDED_BELOW_0, Tally,
 };
+use previews::{FULL, preview_to_end, show};
 use std::thread;
 
 const CALLS_OF_SESSION: usize = 80;
-
-const FULL: Answer = Answer::Refused { number: TABLE_FULL, place: 0 };
 
 /// One session in both, from memory of any contents.
 fn run(seed: u64) -> Tally {
@@ -67,12 +67,6 @@ fn random_sessions() {
     if calls >= 200_000 {
         tally.check_all(50, 20);
     }
-}
-
-/// Previews of an entry, first without an allowance, then with this one up to the end.
-fn preview_to_end(pair: &mut Pair, entry: u32, allowance: u32) {
-    pair.call(&preview(entry, 0));
-    while let Answer::NotYet { .. } = pair.call(&preview(entry, allowance)) {}
 }
 
 /// Reading a printed text yields that very entry, and printing what was read gives back the
@@ -186,19 +180,6 @@ const TEXTS: &[&str] = &[
     "data.skip(1022).bestAt(2)", "data.skip(1024).bestSum(1)", "data.take(0).bestAt(1)",
     "data.take(9).sumBy(\\w -> data.bestAt(w))", "data.take(9).sumBy(\\w -> data.bestSum(w))",
 ];
-
-/// Edits a text and previews it to the end, over a new opening if the table is full.
-fn show(pair: &mut Pair, recording: &[i32], text: &[u8], allowance: u32) {
-    let mut answer = pair.call(&edit(text));
-    if answer == FULL {
-        pair.check_state();
-        pair.call(&open(recording));
-        answer = pair.call(&edit(text));
-    }
-    if let Answer::Edited { whole, .. } = answer {
-        preview_to_end(pair, whole, allowance);
-    }
-}
 
 #[test]
 fn extreme_recordings() {

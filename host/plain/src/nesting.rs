@@ -1,5 +1,5 @@
-//! How deep runs of functions stand in one another. docs/NESTING.md has the least
-//! parts that a text needs for it.
+//! How deep runs of functions stand in one another, and what each run works out again.
+//! docs/NESTING.md has the least parts that a text needs for a depth.
 
 use crate::form::{Form, Forms};
 use crate::member::Kind;
@@ -20,6 +20,33 @@ pub fn nesting(forms: &Forms) -> Vec<u32> {
         nested.push(inner.unwrap_or(0));
     }
     nested
+}
+
+/// What a run works out again for each reading, its variable not counted.
+#[derive(Clone, Copy, PartialEq, Eq, Debug)]
+pub enum Again {
+    /// So many members, none of which takes a function.
+    Members(usize),
+    /// A function, or a member that takes one, among others.
+    Functions,
+}
+
+/// For each form that runs a function over a window, what it works out again.
+pub fn again(forms: &Forms) -> Vec<Option<Again>> {
+    let awaited = awaited(forms);
+    let of_run = |form: &Form| {
+        let (variable, body) = function_run(form, forms)?;
+        let mut again = worked_again(forms, &awaited, variable, body);
+        again.retain(|number| !matches!(forms.list[*number], Form::Variable(_)));
+        let are_plain = again.iter().all(|number| is_plain(&forms.list[*number]));
+        Some(if are_plain { Again::Members(again.len()) } else { Again::Functions })
+    };
+    forms.list.iter().map(of_run).collect()
+}
+
+/// Whether a form is a member that takes no function.
+fn is_plain(form: &Form) -> bool {
+    matches!(form, Form::Member(member, _) if member.argument() != Some(Kind::Function))
 }
 
 /// The variable and body of the function that a form runs over a window.

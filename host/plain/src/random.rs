@@ -1,6 +1,7 @@
 //! Random sessions: lists of calls made from a seed, for comparing an engine with
 //! the model call by call. The same seed always gives the same calls.
 
+pub mod body;
 pub mod damage;
 pub mod formula;
 pub mod limit;
@@ -158,7 +159,8 @@ impl Generator {
                 let tokens = single(&mut self.rng);
                 join(&mut self.rng, &tokens)
             }
-            28..=30 => grown(&mut self.rng),
+            28 | 29 => grown(&mut self.rng),
+            30 => body::run(&mut self.rng),
             31..=37 => pasted(&mut self.rng),
             _ => self.changed_text(),
         }

@@ -1,5 +1,6 @@
-//! How often each kind of answer came, what each member's rule came to and why texts were
-//! not printed, so that tests over random calls can ask for enough of each.
+//! How often each kind of answer came, what each member's rule came to, what runs worked out
+//! again and why texts were not printed, so that tests over random calls can ask for enough of
+//! each.
 
 use crate::bind::bind;
 use crate::eval::Evaluation;
@@ -7,6 +8,7 @@ use crate::form::{Form, Forms};
 use crate::limits::TEXT_BYTES;
 use crate::member::{Kind, Member};
 use crate::model::{Answer, Call, Model};
+use crate::nesting::{Again, again};
 use crate::print::{Fault, print, written};
 use crate::refusal::{LAMBDA_NAME_REPEATED, OTHER_FORM, Refusal, TEXT_TOO_LONG};
 use crate::shown::{OUTSIDE_WINDOW, Shown, UNBOUND_NAME};
@@ -24,6 +26,8 @@ pub struct Tally {
     answers: Counts<String>,
     /// Results of rules, by the member's name.
     rules: Counts<(&'static str, String)>,
+    /// Runs over a reading or more, by what they work out again.
+    runs: Counts<&'static str>,
     /// What printing a form came to, as `Room` or `Declined(12)`.
     prints: Counts<String>,
 }
@@ -57,8 +61,9 @@ impl Tally {
         }
     }
 
-    /// Counts what the marked members show by their rules.
+    /// Counts what the marked members show by their rules, and their runs.
     pub fn count_rules(&mut self, model: &Model) {
+        let again = again(model.forms());
         let mut evaluation = Evaluation::new(model.forms(), model.recording());
         for (number, shown) in model.marks() {
             if let Form::Member(member, operands) = &model.forms().list[*number] {
@@ -68,7 +73,16 @@ impl Tally {
                     .map(|operand| kept(operand).unwrap_or_else(|| evaluation.show(*operand)))
                     .collect();
                 self.count_rule(*member, &operands, shown);
+                self.count_run(again[*number], &operands);
             }
+        }
+    }
+
+    fn count_run(&mut self, again: Option<Again>, operands: &[Shown]) {
+        if let (Some(again), [Shown::Window(window), Shown::Function(_)]) = (again, operands)
+            && window.length > 0
+        {
+            *self.runs.entry(again_label(again)).or_default() += 1;
         }
     }
 
@@ -92,6 +106,7 @@ impl Tally {
     pub fn add(&mut self, other: Tally) {
         add(&mut self.answers, other.answers);
         add(&mut self.rules, other.rules);
+        add(&mut self.runs, other.runs);
         add(&mut self.prints, other.prints);
     }
 
@@ -116,6 +131,14 @@ impl Tally {
         }
     }
 
+    /// That runs of each label came at least so often.
+    pub fn check_runs(&self, least: usize) {
+        for label in RUNS {
+            let count = self.runs.get(label).copied().unwrap_or(0);
+            assert!(count >= least, "{label} came {count} times: {:?}", self.runs);
+        }
+    }
+
     /// That printing came to each of these results at least so often.
     pub fn check_prints(&self, labels: &[&str], least: usize) {
         for label in labels {
@@ -132,9 +155,9 @@ impl Tally {
         }
     }
 
-    /// That each answer to a session's calls came at least `least` times, and so did each
-    /// result of printing; and each result of a member at least `least_rules` times: a
-    /// number or a window, and those in the list.
+    /// That each answer to a session's calls came at least `least` times, and so did runs of
+    /// each label and each result of printing; and each result of a member at least
+    /// `least_rules` times: a number or a window, and those in the list.
     pub fn check_all(&self, least: usize, least_rules: usize) {
         self.check_never();
         let refused = (TEXT_TOO_LONG..=OTHER_FORM).filter(|number| !NEVER.contains(number));
@@ -152,6 +175,7 @@ impl Tally {
             self.check_rules(&[(member.name(), label)], least_rules);
         }
         self.check_rules(RESULTS, least_rules);
+        self.check_runs(least);
     }
 }
 
@@ -178,6 +202,17 @@ const RESULTS: &[(&str, &str)] = &[
     ("bestSum", "missing 5"),
     ("bestAt", "missing 5"),
 ];
+
+/// What runs work out again: up to two members, more of them, or functions and runs.
+const RUNS: [&str; 3] = ["few members again", "many members again", "functions again"];
+
+fn again_label(again: Again) -> &'static str {
+    match again {
+        Again::Members(0..=2) => RUNS[0],
+        Again::Members(_) => RUNS[1],
+        Again::Functions => RUNS[2],
+    }
+}
 
 /// Not printed, for levels alone: by their names the text would be read as the form.
 pub const OTHER_LEVELS: &str = "OtherForm in levels";

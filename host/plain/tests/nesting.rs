@@ -1,10 +1,11 @@
 //! The deepest nest of runs that a text can reach: docs/NESTING.md's count of parts
-//! is met by a text for each depth, and undercut by none that is tried.
+//! is met by a text for each depth, and undercut by none that is tried. And what runs work
+//! out again.
 
 use plain::bind::bind;
 use plain::form::Forms;
 use plain::limits::{OPEN_LAMBDAS, TEXT_PARTS};
-use plain::nesting::nesting;
+use plain::nesting::{Again, again, nesting};
 use plain::random::formula::{formula, join};
 use plain::random::nested::nested;
 use plain::random::rng::Rng;
@@ -44,6 +45,30 @@ fn depth_23_needs_more_parts_than_a_text_has() {
     assert!(least_parts(22) <= TEXT_PARTS && TEXT_PARTS < least_parts(23));
     let refusal = parse(nested_runs(23).as_bytes()).expect_err("a text with too many parts");
     assert_eq!(refusal.number, TEXT_LIMIT);
+}
+
+/// What the run of a whole text works out again.
+#[test]
+fn members_and_functions_that_a_run_works_out_again() {
+    for (text, expected) in [
+        (r"data.sumBy(\b -> b)", Some(Again::Members(0))),
+        (r"data.sumBy(\b -> 1.add(2))", Some(Again::Members(0))),
+        (r"data.sumBy(\b -> b.add(1).mul(b.add(1)))", Some(Again::Members(2))),
+        (r"data.sumBy(\b -> let x = b.add(1) in data.take(x).sum())", Some(Again::Members(3))),
+        // what stands in the other run does not depend on p
+        (r"data.sumBy(\p -> p.add(data.sumBy(\q -> q.add(1))))", Some(Again::Members(1))),
+        (r"data.sumBy(\p -> data.sumBy(\q -> q.add(p)))", Some(Again::Functions)),
+        (r"let f = \q -> q in data.sumBy(\p -> data.take(p).sumBy(f))", Some(Again::Functions)),
+        (r"data.sumBy(\p -> p.eq(\q -> p))", Some(Again::Functions)),
+        (r"data.sumBy(\p -> data.sumBy(p))", Some(Again::Functions)),
+        (r"data.sumBy(1)", None),
+        (r"data.sum()", None),
+    ] {
+        let read = parse(text.as_bytes()).expect("a text within the limits");
+        let mut forms = Forms::default();
+        let whole = bind(&read, &mut forms).whole;
+        assert_eq!(again(&forms)[whole], expected, "{text}");
+    }
 }
 
 #[derive(Clone, Copy, PartialEq)]

@@ -1,32 +1,32 @@
 -- The invariant: the sweep from here on, with what stands in the list already, gives the whole list. Assumes nothing.
 use borrow.Author.Needs.{needs}
-use Rattle.evaluator.proofs.Reaching.{Sweeps, gather-begin, gather-yes, gather-no, gather-end, gather-none, length-kept}
+use Rattle.evaluator.proofs.Reaching.{Sweeps, gather-begin, gather-yes, gather-no, gather-end, gather-none, marks-begin, marks-set, marks-spread, length-kept}
 use Rattle.evaluator.proofs.reach.gather.Statement.{statement}
 use Rattle.evaluator.proofs.reach.gather.Tie as tie
 
 abbrev Inv-loop : tie.InvT-loop
-Inv-loop links waits v body list₀ at₀ flags₀ j₀ list at flags j = Sweeps links waits v body list at flags j
+Inv-loop links waits v body list₀ flags₀ at₀ j₀ list flags at j = Sweeps links waits v body list at flags j
 
 abbrev μ-loop : tie.MeasureT-loop
-μ-loop links waits v body list₀ at₀ flags₀ j₀ list at flags j = j
+μ-loop links waits v body list₀ flags₀ at₀ j₀ list flags at j = j
 
 moves-requires : tie.Need-moves-requires Inv-loop μ-loop
 moves-requires c κs = search needs
 
-array-write-flags : tie.Need-array-write-flags Inv-loop μ-loop
-array-write-flags c = search needs
+element-write-flags : tie.Need-element-write-flags Inv-loop μ-loop
+element-write-flags c = search needs
 
 add-j : tie.Need-add-j Inv-loop μ-loop
 add-j c = search needs
 
 loop-holds : tie.Need-loop-holds Inv-loop μ-loop
-loop-holds c = record { low = search needs; room = search needs; within = search needs; size = search needs; same = search (needs, gather-begin) }
+loop-holds c = record { low = search needs; room = search needs; within = search needs; size = search needs; marks = marks-set _ _ (marks-begin _ (c .before .before .before .pre .1 .1)); same = search (needs, gather-begin) }
 
 sub-j : tie.Need-sub-j Inv-loop μ-loop
 sub-j c = search needs
 
-array-read-if2 : tie.Need-array-read-if2 Inv-loop μ-loop
-array-read-if2 c = search needs
+element-copy-out-if2 : tie.Need-element-copy-out-if2 Inv-loop μ-loop
+element-copy-out-if2 c = search needs
 
 sub-at : tie.Need-sub-at Inv-loop μ-loop
 sub-at c = search needs
@@ -49,7 +49,7 @@ loop-less c = search needs
 loop-again : tie.Need-loop-again Inv-loop μ-loop
 loop-again c =
     let at-if2 = c .before .before in
-    let at-loop-test = at-if2 .before in
+    let at-loop-test = at-if2 .before .before in
     let at-loop = at-loop-test .before in
     let at-args = at-loop .before .before .before .before in
     record {
@@ -57,6 +57,7 @@ loop-again c =
       room = search needs;
       within = search needs;
       size = search (needs, length-kept);
+      marks = rw (c .spread .ensures) (marks-spread (at-args .args .links .now) (at-args .args .waits .now) (at-args .args .v) _ (at-loop .loop .flags) (at-loop .loop .inv .marks));
       same = gather-yes (at-args .args .links .now) (at-args .args .waits .now) (at-args .args .v) (at-loop .loop .j) (at-loop .loop .at)
           (at-loop .loop .flags) (at-loop .loop .list) (at-loop-test .loop-test .taken) (at-loop .loop .inv .same) _ (at-if2 .if2 .taken) (search needs)
           (search needs) (c .spread .ensures);
@@ -66,13 +67,13 @@ loop-less-2 : tie.Need-loop-less-2 Inv-loop μ-loop
 loop-less-2 c = search needs
 
 loop-again-2 : tie.Need-loop-again-2 Inv-loop μ-loop
-loop-again-2 c = record { low = search needs; room = search needs; within = search needs; size = search needs; same = search (needs, gather-no) }
+loop-again-2 c = record { low = search needs; room = search needs; within = search needs; size = search needs; marks = c .before .before .before .loop .inv .marks; same = search (needs, gather-no) }
 
 returns : tie.Need-returns Inv-loop μ-loop
-returns c = record { within = search needs; size = search needs; same = search (needs, gather-end) }
+returns c = record { within = search needs; size = search needs; marks = c .before .loop .inv .marks; same = search (needs, gather-end) }
 
 returns-2 : tie.Need-returns-2 Inv-loop μ-loop
-returns-2 c = record { within = search needs; size = search needs; same = search (needs, gather-none) }
+returns-2 c = record { within = search needs; size = search needs; marks = marks-begin _ (c .before .before .before .pre .1 .1); same = search (needs, gather-none) }
 
 pub gather-spec : {M : Type 1} → statement M
 gather-spec =
@@ -81,11 +82,11 @@ gather-spec =
     Inv-loop
     μ-loop
     moves-requires
-    array-write-flags
+    element-write-flags
     add-j
     loop-holds
     sub-j
-    array-read-if2
+    element-copy-out-if2
     sub-at
     cast-list
     mul-list

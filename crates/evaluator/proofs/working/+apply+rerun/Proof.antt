@@ -11,8 +11,9 @@ use Rattle.rules.specs.Windows.{readingsIn}
 use Rattle.evaluator.specs.Applying.{graph}
 use Rattle.evaluator.proofs.Running.{
   done-applies,
-  value-applies,
   same-applies,
+  reruns,
+  columns-applies,
   judge-applies,
   run-applies,
   Runs,
@@ -26,6 +27,7 @@ use Rattle.evaluator.proofs.Running.{
   works-end,
   works-again,
 }
+use Rattle.evaluator.proofs.Plain.{plain-below, plain-is}
 use borrow.Fn.Kinds.{In}
 use borrow.Fn.PlainCycle.{Measures, is, falls, and}
 use Rattle.evaluator.proofs.working.apply.Reads as apply
@@ -38,10 +40,13 @@ use Rattle.evaluator.proofs.frames.bind.Reads as bind-reads
 use Rattle.evaluator.proofs.frames.function.Reads as function-reads
 use Rattle.evaluator.proofs.reach.gather.Reads as gather-reads
 use Rattle.evaluator.proofs.working.conclude.Reads as conclude-reads
-use Rattle.evaluator.proofs.working.count_in.Reads as count-in-reads
+use Rattle.chunks.proofs.rows.count_in.Reads as count-in-reads
+use Rattle.evaluator.proofs.working.is_plain.Reads as is-plain-reads
+use Rattle.evaluator.proofs.working.plain.Reads as plain-reads
 use Rattle.evaluator.proofs.working.plan.Reads as plan-reads
-use Rattle.evaluator.proofs.working.reading.Reads as reading-reads
-use Rattle.evaluator.proofs.working.tally.Reads as tally-reads
+use Rattle.chunks.proofs.rows.reading.Reads as reading-reads
+use Rattle.chunks.proofs.rows.tally.Reads as tally-reads
+use Rattle.chunks.proofs.running.by_columns.Reads as by-columns-reads
 use Rattle.values.proofs.runs.start.Reads as start-reads
 use Rattle.evaluator.proofs.working.+apply+rerun.{statement}
 use Rattle.evaluator.proofs.working.+apply+rerun.Tie.{close}
@@ -74,6 +79,10 @@ apply-claims t = (
   rerun.Post,
   function-reads.Asked,
   function-reads.Learnt,
+  by-columns-reads.Asked,
+  by-columns-reads.Learnt,
+  conclude-reads.Asked,
+  conclude-reads.Learnt,
   count-in-reads.Asked,
   count-in-reads.Learnt,
   start-reads.Asked,
@@ -82,8 +91,6 @@ apply-claims t = (
   reading-reads.Learnt,
   tally-reads.Asked,
   tally-reads.Learnt,
-  conclude-reads.Asked,
-  conclude-reads.Learnt,
 )
 
 abbrev apply-Inv-loop : apply-lts.InvT-loop
@@ -98,50 +105,48 @@ apply-plan-requires t c κs = c .before .pre .1
 
 apply-returns : (t : ℕ) → apply-lts.Need-returns (apply-claims t) (apply-at t) apply.Post apply-Inv-loop apply-μ-loop
 apply-returns t c =
-    let at-plan = c .before in
-    let at-args = at-plan .before .before in
-    let g = graph (at-args .args .links .now) (at-args .args .waits .now) (at-args .args .readings .now) in
-    done-applies g (at-args .args .frame .now) (at-args .args .i) (at-plan .plan .result) (at-plan .plan .ensures .0) (c .if1 .taken)
+    let g = graph (c .before .before .before .args .links .now) (c .before .before .before .args .waits .now) (c .before .before .before .args .readings .now) in
+    done-applies g (c .before .before .before .args .frame .now) (c .before .before .before .args .i) (c .before .plan .result) (c .before .plan .ensures .0) (c .if1 .taken)
 
 apply-gather-requires : (t : ℕ) → apply-lts.Need-gather-requires (apply-claims t) (apply-at t) apply.Post apply-Inv-loop apply-μ-loop
-apply-gather-requires t c κs = (omega (arith, (c .before .before .plan .ensures .1 (c .before .if1 .left)) .below, c .before .before .before .before .pre .1), refl)
+apply-gather-requires t c κs = (omega (arith, (c .before .before .before .plan .ensures .1 (c .before .before .if1 .left)) .below, c .before .before .before .before .before .pre .1), (refl, refl))
 
 apply-rerun-requires : (t : ℕ) → apply-lts.Need-rerun-requires (apply-claims t) (apply-at t) apply.Post apply-Inv-loop apply-μ-loop
-apply-rerun-requires t c κs =
-    let at-gather = c .before .before .before .before in
-    let at-if1 = at-gather .before .before in
-    let at-plan = at-if1 .before in
-    let at-pre = at-plan .before .before in (
-      omega (arith, (at-plan .plan .ensures .1 (at-if1 .if1 .left)) .below, at-pre .pre .0),
-      record {
-        size = at-gather .gather .ensures .size;
-        within = at-gather .gather .ensures .within;
-        low = omega (arith, (at-plan .plan .ensures .1 (at-if1 .if1 .left)) .below, at-pre .pre .1);
-        few = (at-plan .plan .ensures .1 (at-if1 .if1 .left)) .variable;
-      },
-    )
+apply-rerun-requires t c κs = (
+  omega (arith, (c .before .before .before .before .before .before .before .before .plan .ensures .1 (c .before .before .before .before .before .before .before .if1 .left)) .below, c .before .before .before .before .before .before .before .before .before .before .pre .0),
+  reruns (graph (c .before .before .before .before .before .before .before .before .before .before .args .links .now) (c .before .before .before .before .before .before .before .before .before .before .args .waits .now) (c .before .before .before .before .before .before .before .before .before .before .args .readings .now)) (c .before .before .before .before .before .before .before .before .before .before .args .frame .now) (c .before .before .before .before .before .before .before .before .before .before .args .i) (c .before .before .before .before .before .before .before .before .plan .result) (c .before .before .before .before .before .before .before .before .plan .ensures .0) (c .before .before .before .before .before .before .before .if1 .left) (c .before .before .before .before .before .before .before .before .plan .ensures .1 (c .before .before .before .before .before .before .before .if1 .left)) _ _ _ (c .before .before .before .before .gather .ensures) (c .before .before .before .before .before .before .before .before .before .before .pre .1),
+)
 
 apply-mul-function : (t : ℕ) → apply-lts.Need-mul-function (apply-claims t) (apply-at t) apply.Post apply-Inv-loop apply-μ-loop
 apply-mul-function t c = search needs
 
 apply-element-copy-out-function : (t : ℕ) → apply-lts.Need-element-copy-out-function (apply-claims t) (apply-at t) apply.Post apply-Inv-loop apply-μ-loop
-apply-element-copy-out-function t c = c .before .before .before .before .before .before .before .before .before .before .pre .1
+apply-element-copy-out-function t c = c .before .before .before .before .before .before .before .before .before .before .before .pre .1
 
 apply-function-requires : (t : ℕ) → apply-lts.Need-function-requires (apply-claims t) (apply-at t) apply.Post apply-Inv-loop apply-μ-loop
 apply-function-requires t c κs = search needs
 
 apply-returns-2 : (t : ℕ) → apply-lts.Need-returns-2 (apply-claims t) (apply-at t) apply.Post apply-Inv-loop apply-μ-loop
 apply-returns-2 t c =
-    let at-rerun = c .before .before in
-    let at-if2 = at-rerun .before .before .before in
-    let at-gather = at-if2 .before .before in
-    let at-if1 = at-gather .before .before in
-    let at-plan = at-if1 .before in
-    let at-args = at-plan .before .before in
-    let g = graph (at-args .args .links .now) (at-args .args .waits .now) (at-args .args .readings .now) in
-    judge-applies g (at-args .args .frame .now) (at-args .args .i) (at-plan .plan .result) (at-plan .plan .ensures .0) (at-if1 .if1 .left)
-    (at-plan .plan .ensures .1 (at-if1 .if1 .left)) _ _ (at-gather .gather .ensures) _ (at-rerun .rerun .result) (c .function .result) (at-if2 .if2 .taken)
-    (at-rerun .rerun .ensures) (c .function .ensures)
+    let g = graph (c .before .before .before .before .before .before .before .before .before .before .before .before .before .args .links .now) (c .before .before .before .before .before .before .before .before .before .before .before .before .before .args .waits .now) (c .before .before .before .before .before .before .before .before .before .before .before .before .before .args .readings .now) in
+    judge-applies g (c .before .before .before .before .before .before .before .before .before .before .before .before .before .args .frame .now) (c .before .before .before .before .before .before .before .before .before .before .before .before .before .args .i) (c .before .before .before .before .before .before .before .before .before .before .before .plan .result) (c .before .before .before .before .before .before .before .before .before .before .before .plan .ensures .0) (c .before .before .before .before .before .before .before .before .before .before .if1 .left)
+    (c .before .before .before .before .before .before .before .before .before .before .before .plan .ensures .1 (c .before .before .before .before .before .before .before .before .before .before .if1 .left)) _ _ _ (c .before .before .before .before .before .before .before .gather .ensures) _ (c .before .before .rerun .result) (c .function .result) (c .before .before .before .before .before .if2 .taken)
+    (c .before .before .rerun .ensures) (c .function .ensures)
+
+apply-by-columns-requires : (t : ℕ) → apply-lts.Need-by-columns-requires (apply-claims t) (apply-at t) apply.Post apply-Inv-loop apply-μ-loop
+apply-by-columns-requires t c κs =
+    let g = graph (c .before .before .before .before .before .before .before .before .before .before .before .args .links .now) (c .before .before .before .before .before .before .before .before .before .before .before .args .waits .now) (c .before .before .before .before .before .before .before .before .before .before .before .args .readings .now) in
+    (reruns g (c .before .before .before .before .before .before .before .before .before .before .before .args .frame .now) (c .before .before .before .before .before .before .before .before .before .before .before .args .i) (c .before .before .before .before .before .before .before .before .before .plan .result) (c .before .before .before .before .before .before .before .before .before .plan .ensures .0) (c .before .before .before .before .before .before .before .before .if1 .left) (c .before .before .before .before .before .before .before .before .before .plan .ensures .1 (c .before .before .before .before .before .before .before .before .if1 .left)) _ _ _ (c .before .before .before .before .before .gather .ensures) (c .before .before .before .before .before .before .before .before .before .before .before .pre .1), c .before .before .before .before .before .gather .ensures .marks)
+
+apply-conclude-requires : (t : ℕ) → apply-lts.Need-conclude-requires (apply-claims t) (apply-at t) apply.Post apply-Inv-loop apply-μ-loop
+apply-conclude-requires t c κs = search needs
+
+apply-returns-3 : (t : ℕ) → apply-lts.Need-returns-3 (apply-claims t) (apply-at t) apply.Post apply-Inv-loop apply-μ-loop
+apply-returns-3 t c =
+    let g = graph (c .before .before .before .before .before .before .before .before .before .before .before .before .before .before .args .links .now) (c .before .before .before .before .before .before .before .before .before .before .before .before .before .before .args .waits .now) (c .before .before .before .before .before .before .before .before .before .before .before .before .before .before .args .readings .now) in
+    columns-applies g (c .before .before .before .before .before .before .before .before .before .before .before .before .before .before .args .frame .now) (c .before .before .before .before .before .before .before .before .before .before .before .before .before .before .args .i) (c .before .before .before .before .before .before .before .before .before .before .before .before .plan .result) (c .before .before .before .before .before .before .before .before .before .before .before .before .plan .ensures .0) (c .before .before .before .before .before .before .before .before .before .before .before .if1 .left)
+    (c .before .before .before .before .before .before .before .before .before .before .before .before .plan .ensures .1 (c .before .before .before .before .before .before .before .before .before .before .before .if1 .left)) _ _ _ (c .before .before .before .before .before .before .before .before .gather .ensures) (c .before .before .by-columns .result .tally) (c .conclude .result) (c .before .before .before .before .before .before .if2 .left)
+    (c .before .before .by-columns .ensures .0 (c .before .if3 .taken)) (c .conclude .ensures)
 
 apply-count-in-requires : (t : ℕ) → apply-lts.Need-count-in-requires (apply-claims t) (apply-at t) apply.Post apply-Inv-loop apply-μ-loop
 apply-count-in-requires t c κs = search needs
@@ -151,69 +156,43 @@ apply-start-requires t c κs = search needs
 
 apply-loop-holds : (t : ℕ) → apply-lts.Need-loop-holds (apply-claims t) (apply-at t) apply.Post apply-Inv-loop apply-μ-loop
 apply-loop-holds t c =
-    let at-plan = c .before .before .before .before .before .before .before in
-    let at-args = at-plan .before .before in
-    let g = graph (at-args .args .links .now) (at-args .args .waits .now) (at-args .args .readings .now) in (
+    let g = graph (c .before .before .before .before .before .before .before .before .before .before .before .before .before .before .before .args .links .now) (c .before .before .before .before .before .before .before .before .before .before .before .before .before .before .before .args .waits .now) (c .before .before .before .before .before .before .before .before .before .before .before .before .before .before .before .args .readings .now) in (
       search needs,
-      runs-begin g (at-plan .plan .result .body) (at-plan .plan .result .variable) _ (at-args .args .frame .now) _ (c .start .result) (c .start .ensures),
+      runs-begin g (c .before .before .before .before .before .before .before .before .before .before .before .before .before .plan .result .body) (c .before .before .before .before .before .before .before .before .before .before .before .before .before .plan .result .variable) _ (c .before .before .before .before .before .before .before .before .before .before .before .before .before .before .before .args .frame .now) _ _ (c .start .result) (c .before .before .before .by-columns .ensures .1 (c .before .before .if3 .left)) (c .start .ensures),
     )
 
 apply-cast-reading : (t : ℕ) → apply-lts.Need-cast-reading (apply-claims t) (apply-at t) apply.Post apply-Inv-loop apply-μ-loop
-apply-cast-reading t c = search needs
+apply-cast-reading t c = search (needs, c .before .before .before .before .before .before .before .before .before .before .before .before .before .before .before .before .plan .ok)
 
 apply-add-reading : (t : ℕ) → apply-lts.Need-add-reading (apply-claims t) (apply-at t) apply.Post apply-Inv-loop apply-μ-loop
-apply-add-reading t c = search needs
+apply-add-reading t c = search (needs, c .before .before .before .before .before .before .before .before .before .before .before .before .before .before .before .before .plan .ok, c .before .loop-test .taken, c .before .before .before .before .count-in .ensures .few)
 
 apply-reading-requires : (t : ℕ) → apply-lts.Need-reading-requires (apply-claims t) (apply-at t) apply.Post apply-Inv-loop apply-μ-loop
 apply-reading-requires t c κs = search needs
 
 apply-rerun-requires-2 : (t : ℕ) → apply-lts.Need-rerun-requires-2 (apply-claims t) (apply-at t) apply.Post apply-Inv-loop apply-μ-loop
-apply-rerun-requires-2 t c κs =
-    let at-gather = c .before .before .before .before .before .before .before .before .before in
-    let at-if1 = at-gather .before .before in
-    let at-plan = at-if1 .before in
-    let at-pre = at-plan .before .before in (
-      omega (arith, (at-plan .plan .ensures .1 (at-if1 .if1 .left)) .below, at-pre .pre .0),
-      record {
-        size = at-gather .gather .ensures .size;
-        within = at-gather .gather .ensures .within;
-        low = omega (arith, (at-plan .plan .ensures .1 (at-if1 .if1 .left)) .below, at-pre .pre .1);
-        few = (at-plan .plan .ensures .1 (at-if1 .if1 .left)) .variable;
-      },
-    )
+apply-rerun-requires-2 t c κs = (
+  omega (arith, (c .before .before .before .before .before .before .before .before .before .before .before .before .before .before .before .before .before .before .plan .ensures .1 (c .before .before .before .before .before .before .before .before .before .before .before .before .before .before .before .before .before .if1 .left)) .below, c .before .before .before .before .before .before .before .before .before .before .before .before .before .before .before .before .before .before .before .before .pre .0),
+  reruns (graph (c .before .before .before .before .before .before .before .before .before .before .before .before .before .before .before .before .before .before .before .before .args .links .now) (c .before .before .before .before .before .before .before .before .before .before .before .before .before .before .before .before .before .before .before .before .args .waits .now) (c .before .before .before .before .before .before .before .before .before .before .before .before .before .before .before .before .before .before .before .before .args .readings .now)) (c .before .before .before .before .before .before .before .before .before .before .before .before .before .before .before .before .before .before .before .before .args .frame .now) (c .before .before .before .before .before .before .before .before .before .before .before .before .before .before .before .before .before .before .before .before .args .i) (c .before .before .before .before .before .before .before .before .before .before .before .before .before .before .before .before .before .before .plan .result) (c .before .before .before .before .before .before .before .before .before .before .before .before .before .before .before .before .before .before .plan .ensures .0) (c .before .before .before .before .before .before .before .before .before .before .before .before .before .before .before .before .before .if1 .left) (c .before .before .before .before .before .before .before .before .before .before .before .before .before .before .before .before .before .before .plan .ensures .1 (c .before .before .before .before .before .before .before .before .before .before .before .before .before .before .before .before .before .if1 .left)) _ _ _ (c .before .before .before .before .before .before .before .before .before .before .before .before .before .before .gather .ensures) (c .before .before .before .before .before .before .before .before .before .before .before .before .before .before .before .before .before .before .before .before .pre .1),
+)
 
 apply-tally-requires : (t : ℕ) → apply-lts.Need-tally-requires (apply-claims t) (apply-at t) apply.Post apply-Inv-loop apply-μ-loop
 apply-tally-requires t c κs =
-    let at-loop-test = c .before .before .before .before in
-    let at-loop = at-loop-test .before in
-    let at-count-in = at-loop .before .before in
-    runs-within (at-loop .loop .inv .1) (omega (arith, at-loop-test .loop-test .taken, at-count-in .count-in .ensures .few))
+    runs-within (c .before .before .before .before .before .loop .inv .1) (omega (arith, c .before .before .before .before .loop-test .taken, c .before .before .before .before .before .before .before .count-in .ensures .few))
 
-apply-conclude-requires : (t : ℕ) → apply-lts.Need-conclude-requires (apply-claims t) (apply-at t) apply.Post apply-Inv-loop apply-μ-loop
-apply-conclude-requires t c κs = search needs
+apply-conclude-requires-2 : (t : ℕ) → apply-lts.Need-conclude-requires-2 (apply-claims t) (apply-at t) apply.Post apply-Inv-loop apply-μ-loop
+apply-conclude-requires-2 t c κs = search needs
 
-apply-returns-3 : (t : ℕ) → apply-lts.Need-returns-3 (apply-claims t) (apply-at t) apply.Post apply-Inv-loop apply-μ-loop
-apply-returns-3 t c =
-    let at-if3 = c .before in
-    let at-tally = at-if3 .before in
-    let at-rerun2 = at-tally .before in
-    let at-reading = at-rerun2 .before .before in
-    let at-loop-test = at-reading .before .before in
-    let at-loop = at-loop-test .before in
-    let at-count-in = at-loop .before .before in
-    let at-if2 = at-count-in .before in
-    let at-gather = at-if2 .before .before in
-    let at-if1 = at-gather .before .before in
-    let at-plan = at-if1 .before in
-    let at-args = at-plan .before .before in
-    let g = graph (at-args .args .links .now) (at-args .args .waits .now) (at-args .args .readings .now) in
-    run-applies g (at-args .args .frame .now) (at-args .args .i) (at-plan .plan .result) (at-plan .plan .ensures .0) (at-if1 .if1 .left)
-    (at-plan .plan .ensures .1 (at-if1 .if1 .left)) _ _ (at-gather .gather .ensures) (at-tally .tally .result) (c .conclude .result) (at-if2 .if2 .left)
-    (runs-stop g (at-plan .plan .result .body) (at-plan .plan .result .variable) _ (at-args .args .frame .now) (at-plan .plan .result .start)
-    (at-plan .plan .result .length) (at-loop .loop .local) (at-loop .loop .t) (at-loop .loop .k) (at-loop .loop .inv .1)
-    (omega (arith, at-loop-test .loop-test .taken, at-count-in .count-in .ensures .same)) (at-reading .reading .result) (at-reading .reading .ensures) _
-    (at-rerun2 .rerun2 .result) (at-rerun2 .rerun2 .ensures) (at-tally .tally .result) (at-tally .tally .ensures) (at-if3 .if3 .taken))
-    (c .conclude .ensures)
+apply-returns-4 : (t : ℕ) → apply-lts.Need-returns-4 (apply-claims t) (apply-at t) apply.Post apply-Inv-loop apply-μ-loop
+apply-returns-4 t c =
+    let g = graph (c .before .before .before .before .before .before .before .before .before .before .before .before .before .before .before .before .before .before .before .before .before .before .before .before .args .links .now) (c .before .before .before .before .before .before .before .before .before .before .before .before .before .before .before .before .before .before .before .before .before .before .before .before .args .waits .now) (c .before .before .before .before .before .before .before .before .before .before .before .before .before .before .before .before .before .before .before .before .before .before .before .before .args .readings .now) in
+    run-applies g (c .before .before .before .before .before .before .before .before .before .before .before .before .before .before .before .before .before .before .before .before .before .before .before .before .args .frame .now) (c .before .before .before .before .before .before .before .before .before .before .before .before .before .before .before .before .before .before .before .before .before .before .before .before .args .i) (c .before .before .before .before .before .before .before .before .before .before .before .before .before .before .before .before .before .before .before .before .before .before .plan .result) (c .before .before .before .before .before .before .before .before .before .before .before .before .before .before .before .before .before .before .before .before .before .before .plan .ensures .0) (c .before .before .before .before .before .before .before .before .before .before .before .before .before .before .before .before .before .before .before .before .before .if1 .left)
+    (c .before .before .before .before .before .before .before .before .before .before .before .before .before .before .before .before .before .before .before .before .before .before .plan .ensures .1 (c .before .before .before .before .before .before .before .before .before .before .before .before .before .before .before .before .before .before .before .before .before .if1 .left)) _ _ _ (c .before .before .before .before .before .before .before .before .before .before .before .before .before .before .before .before .before .before .gather .ensures) (c .before .before .tally .result) (c .conclude2 .result) (c .before .before .before .before .before .before .before .before .before .before .before .before .before .before .before .before .if2 .left)
+    (runs-stop g (c .before .before .before .before .before .before .before .before .before .before .before .before .before .before .before .before .before .before .before .before .before .before .plan .result .body) (c .before .before .before .before .before .before .before .before .before .before .before .before .before .before .before .before .before .before .before .before .before .before .plan .result .variable) _ (c .before .before .before .before .before .before .before .before .before .before .before .before .before .before .before .before .before .before .before .before .before .before .before .before .args .frame .now) (c .before .before .before .before .before .before .before .before .before .before .before .before .before .before .before .before .before .before .before .before .before .before .plan .result .start)
+    (c .before .before .before .before .before .before .before .before .before .before .before .before .before .before .before .before .before .before .before .before .before .before .plan .result .length) (c .before .before .before .before .before .before .before .before .loop .local) (c .before .before .before .before .before .before .before .before .loop .t) (c .before .before .before .before .before .before .before .before .loop .k) (c .before .before .before .before .before .before .before .before .loop .inv .1)
+    (omega (arith, c .before .before .before .before .before .before .before .loop-test .taken, c .before .before .before .before .before .before .before .before .before .before .count-in .ensures .same)) (c .before .before .before .before .before .reading .result) (c .before .before .before .before .before .reading .ensures) _
+    (c .before .before .before .rerun2 .result) (c .before .before .before .rerun2 .ensures) (c .before .before .tally .result) (c .before .before .tally .ensures) (c .before .if4 .taken))
+    (c .conclude2 .ensures)
 
 apply-add-k : (t : ℕ) → apply-lts.Need-add-k (apply-claims t) (apply-at t) apply.Post apply-Inv-loop apply-μ-loop
 apply-add-k t c = search needs
@@ -223,45 +202,29 @@ apply-loop-less t c = search needs
 
 apply-loop-again : (t : ℕ) → apply-lts.Need-loop-again (apply-claims t) (apply-at t) apply.Post apply-Inv-loop apply-μ-loop
 apply-loop-again t c =
-    let at-tally = c .before in
-    let at-rerun2 = at-tally .before in
-    let at-reading = at-rerun2 .before .before in
-    let at-loop-test = at-reading .before .before in
-    let at-loop = at-loop-test .before in
-    let at-count-in = at-loop .before .before in
-    let at-plan = at-count-in .before .before .before .before .before .before in
-    let at-args = at-plan .before .before in
-    let g = graph (at-args .args .links .now) (at-args .args .waits .now) (at-args .args .readings .now) in (
+    let g = graph (c .before .before .before .before .before .before .before .before .before .before .before .before .before .before .before .before .before .before .before .before .before .before .before .args .links .now) (c .before .before .before .before .before .before .before .before .before .before .before .before .before .before .before .before .before .before .before .before .before .before .before .args .waits .now) (c .before .before .before .before .before .before .before .before .before .before .before .before .before .before .before .before .before .before .before .before .before .before .before .args .readings .now) in (
       search needs,
-      runs-again g (at-plan .plan .result .body) (at-plan .plan .result .variable) _ (at-args .args .frame .now) (at-plan .plan .result .start)
-          (at-plan .plan .result .length) (at-loop .loop .local) (at-loop .loop .t) (at-loop .loop .k) (at-loop .loop .inv .1)
-          (omega (arith, at-loop-test .loop-test .taken, at-count-in .count-in .ensures .same)) (at-reading .reading .result) (at-reading .reading .ensures) _
-          (at-rerun2 .rerun2 .result) (at-rerun2 .rerun2 .ensures) (at-tally .tally .result) (at-tally .tally .ensures) (c .if3 .left),
+      runs-again g (c .before .before .before .before .before .before .before .before .before .before .before .before .before .before .before .before .before .before .before .before .before .plan .result .body) (c .before .before .before .before .before .before .before .before .before .before .before .before .before .before .before .before .before .before .before .before .before .plan .result .variable) _ (c .before .before .before .before .before .before .before .before .before .before .before .before .before .before .before .before .before .before .before .before .before .before .before .args .frame .now) (c .before .before .before .before .before .before .before .before .before .before .before .before .before .before .before .before .before .before .before .before .before .plan .result .start)
+          (c .before .before .before .before .before .before .before .before .before .before .before .before .before .before .before .before .before .before .before .before .before .plan .result .length) (c .before .before .before .before .before .before .before .loop .local) (c .before .before .before .before .before .before .before .loop .t) (c .before .before .before .before .before .before .before .loop .k) (c .before .before .before .before .before .before .before .loop .inv .1)
+          (omega (arith, c .before .before .before .before .before .before .loop-test .taken, c .before .before .before .before .before .before .before .before .before .count-in .ensures .same)) (c .before .before .before .before .reading .result) (c .before .before .before .before .reading .ensures) _
+          (c .before .before .rerun2 .result) (c .before .before .rerun2 .ensures) (c .before .tally .result) (c .before .tally .ensures) (c .if4 .left),
     )
 
-apply-conclude-requires-2 : (t : ℕ) → apply-lts.Need-conclude-requires-2 (apply-claims t) (apply-at t) apply.Post apply-Inv-loop apply-μ-loop
-apply-conclude-requires-2 t c κs = search needs
+apply-conclude-requires-3 : (t : ℕ) → apply-lts.Need-conclude-requires-3 (apply-claims t) (apply-at t) apply.Post apply-Inv-loop apply-μ-loop
+apply-conclude-requires-3 t c κs = search needs
 
-apply-returns-4 : (t : ℕ) → apply-lts.Need-returns-4 (apply-claims t) (apply-at t) apply.Post apply-Inv-loop apply-μ-loop
-apply-returns-4 t c =
-    let at-loop-test = c .before in
-    let at-loop = at-loop-test .before in
-    let at-count-in = at-loop .before .before in
-    let at-if2 = at-count-in .before in
-    let at-gather = at-if2 .before .before in
-    let at-if1 = at-gather .before .before in
-    let at-plan = at-if1 .before in
-    let at-args = at-plan .before .before in
-    let g = graph (at-args .args .links .now) (at-args .args .waits .now) (at-args .args .readings .now) in
-    run-applies g (at-args .args .frame .now) (at-args .args .i) (at-plan .plan .result) (at-plan .plan .ensures .0) (at-if1 .if1 .left)
-    (at-plan .plan .ensures .1 (at-if1 .if1 .left)) _ _ (at-gather .gather .ensures) (at-loop .loop .t) (c .conclude2 .result) (at-if2 .if2 .left)
-    (runs-end g (at-plan .plan .result .body) (at-plan .plan .result .variable) _ (at-args .args .frame .now) (at-plan .plan .result .start)
-    (at-plan .plan .result .length) (at-loop .loop .local) (at-loop .loop .t) (at-loop .loop .k) (at-loop .loop .inv .1)
-    (omega (arith, at-loop-test .loop-test .left, at-count-in .count-in .ensures .same)))
-    (c .conclude2 .ensures)
+apply-returns-5 : (t : ℕ) → apply-lts.Need-returns-5 (apply-claims t) (apply-at t) apply.Post apply-Inv-loop apply-μ-loop
+apply-returns-5 t c =
+    let g = graph (c .before .before .before .before .before .before .before .before .before .before .before .before .before .before .before .before .before .before .args .links .now) (c .before .before .before .before .before .before .before .before .before .before .before .before .before .before .before .before .before .before .args .waits .now) (c .before .before .before .before .before .before .before .before .before .before .before .before .before .before .before .before .before .before .args .readings .now) in
+    run-applies g (c .before .before .before .before .before .before .before .before .before .before .before .before .before .before .before .before .before .before .args .frame .now) (c .before .before .before .before .before .before .before .before .before .before .before .before .before .before .before .before .before .before .args .i) (c .before .before .before .before .before .before .before .before .before .before .before .before .before .before .before .before .plan .result) (c .before .before .before .before .before .before .before .before .before .before .before .before .before .before .before .before .plan .ensures .0) (c .before .before .before .before .before .before .before .before .before .before .before .before .before .before .before .if1 .left)
+    (c .before .before .before .before .before .before .before .before .before .before .before .before .before .before .before .before .plan .ensures .1 (c .before .before .before .before .before .before .before .before .before .before .before .before .before .before .before .if1 .left)) _ _ _ (c .before .before .before .before .before .before .before .before .before .before .before .before .gather .ensures) (c .before .before .loop .t) (c .conclude3 .result) (c .before .before .before .before .before .before .before .before .before .before .if2 .left)
+    (runs-end g (c .before .before .before .before .before .before .before .before .before .before .before .before .before .before .before .before .plan .result .body) (c .before .before .before .before .before .before .before .before .before .before .before .before .before .before .before .before .plan .result .variable) _ (c .before .before .before .before .before .before .before .before .before .before .before .before .before .before .before .before .before .before .args .frame .now) (c .before .before .before .before .before .before .before .before .before .before .before .before .before .before .before .before .plan .result .start)
+    (c .before .before .before .before .before .before .before .before .before .before .before .before .before .before .before .before .plan .result .length) (c .before .before .loop .local) (c .before .before .loop .t) (c .before .before .loop .k) (c .before .before .loop .inv .1)
+    (omega (arith, c .before .loop-test .left, c .before .before .before .before .count-in .ensures .same)))
+    (c .conclude3 .ensures)
 
 abbrev rerun-claims : ℕ → rerun-lts.Claims
-rerun-claims t = (bind-reads.Asked, bind-reads.Learnt, plan-reads.Asked, plan-reads.Learnt, apply-below t, apply.Post)
+rerun-claims t = (bind-reads.Asked, bind-reads.Learnt, is-plain-reads.Asked, is-plain-reads.Learnt, plain-reads.Asked, plain-reads.Learnt, apply-below t, apply.Post)
 
 abbrev rerun-Inv-loop : rerun-lts.InvT-loop
 rerun-Inv-loop readings links waits list at body variable c frame₀ top k₀ frame k =
@@ -309,25 +272,20 @@ rerun-returns t c =
 rerun-cast-j : (t : ℕ) → rerun-lts.Need-cast-j (rerun-claims t) (rerun-at t) rerun.Post rerun-Inv-loop rerun-μ-loop
 rerun-cast-j t c = search needs
 
-rerun-plan-requires : (t : ℕ) → rerun-lts.Need-plan-requires (rerun-claims t) (rerun-at t) rerun.Post rerun-Inv-loop rerun-μ-loop
-rerun-plan-requires t c κs = omega (arith, c .before .if1 .left, c .before .before .before .before .loop .inv .0, c .before .before .before .before .before .before .before .before .pre .1 .low)
+rerun-is-plain-requires : (t : ℕ) → rerun-lts.Need-is-plain-requires (rerun-claims t) (rerun-at t) rerun.Post rerun-Inv-loop rerun-μ-loop
+rerun-is-plain-requires t c κs = omega (arith, c .if1 .left, c .before .before .before .loop .inv .0, c .before .before .before .before .before .before .before .pre .1 .low)
+
+rerun-plain-requires : (t : ℕ) → rerun-lts.Need-plain-requires (rerun-claims t) (rerun-at t) rerun.Post rerun-Inv-loop rerun-μ-loop
+rerun-plain-requires t c κs = (omega (arith, c .before .before .before .if1 .left, c .before .before .before .before .before .before .loop .inv .0, c .before .before .before .before .before .before .before .before .before .before .pre .1 .low), plain-below (c .before .before .before .before .before .before .before .before .before .before .args .links .now) _ _ (c .before .before .is-plain .ensures) (c .before .if2 .taken))
 
 rerun-apply-requires : (t : ℕ) → rerun-lts.Need-apply-requires (rerun-claims t) (rerun-at t) rerun.Post rerun-Inv-loop rerun-μ-loop
-rerun-apply-requires t c κs =
-    let at-if1 = c .before .before .before .before in
-    let at-loop = at-if1 .before .before .before in
-    let at-pre = at-loop .before .before .before .before in
-    (omega (arith, at-if1 .if1 .left, at-loop .loop .inv .0, at-pre .pre .0), omega (arith, at-if1 .if1 .left, at-loop .loop .inv .0, at-pre .pre .1 .low))
+rerun-apply-requires t c κs = (omega (arith, c .before .before .before .if1 .left, c .before .before .before .before .before .before .loop .inv .0, c .before .before .before .before .before .before .before .before .before .before .pre .0), omega (arith, c .before .before .before .if1 .left, c .before .before .before .before .before .before .loop .inv .0, c .before .before .before .before .before .before .before .before .before .before .pre .1 .low))
 
 rerun-mul-frame : (t : ℕ) → rerun-lts.Need-mul-frame (rerun-claims t) (rerun-at t) rerun.Post rerun-Inv-loop rerun-μ-loop
 rerun-mul-frame t c = search needs
 
 rerun-element-write-frame : (t : ℕ) → rerun-lts.Need-element-write-frame (rerun-claims t) (rerun-at t) rerun.Post rerun-Inv-loop rerun-μ-loop
-rerun-element-write-frame t c =
-    let at-if1 = c .before .before .before in
-    let at-loop = at-if1 .before .before .before in
-    let at-pre = at-loop .before .before .before .before in
-    omega (arith, at-if1 .if1 .left, at-loop .loop .inv .0, at-pre .pre .1 .low)
+rerun-element-write-frame t c = omega (arith, c .before .before .if1 .left, c .before .before .before .before .before .loop .inv .0, c .before .before .before .before .before .before .before .before .before .pre .1 .low)
 
 rerun-add-k : (t : ℕ) → rerun-lts.Need-add-k (rerun-claims t) (rerun-at t) rerun.Post rerun-Inv-loop rerun-μ-loop
 rerun-add-k t c = search needs
@@ -337,18 +295,13 @@ rerun-loop-less t c = search needs
 
 rerun-loop-again : (t : ℕ) → rerun-lts.Need-loop-again (rerun-claims t) (rerun-at t) rerun.Post rerun-Inv-loop rerun-μ-loop
 rerun-loop-again t c =
-    let at-plan = c .before in
-    let at-if1 = at-plan .before .before in
-    let at-loop-test = at-if1 .before .before in
-    let at-loop = at-loop-test .before in
-    let at-start = at-loop .before .before .before .before in
-    let g = graph (at-start .args .links .now) (at-start .args .waits .now) (at-start .args .readings .now) in (
-      at-loop .loop .inv .0,
-      works-again g (at-start .args .body) (at-start .args .list .now) (at-start .args .at) _ (at-loop .loop .frame) (at-loop .loop .k) (c .if2 .v)
-          (at-start .pre .1 .size) (at-loop .loop .inv .1) (at-loop-test .loop-test .taken) (omega (arith, at-if1 .if1 .left, at-loop .loop .inv .0))
+    let g = graph (c .before .before .before .before .before .before .before .before .before .args .links .now) (c .before .before .before .before .before .before .before .before .before .args .waits .now) (c .before .before .before .before .before .before .before .before .before .args .readings .now) in (
+      c .before .before .before .before .before .loop .inv .0,
+      works-again g (c .before .before .before .before .before .before .before .before .before .args .body) (c .before .before .before .before .before .before .before .before .before .args .list .now) (c .before .before .before .before .before .before .before .before .before .args .at) _ (c .before .before .before .before .before .loop .frame) (c .before .before .before .before .before .loop .k) (c .if2 .v)
+          (c .before .before .before .before .before .before .before .before .before .pre .1 .size) (c .before .before .before .before .before .loop .inv .1) (c .before .before .before .before .loop-test .taken) (omega (arith, c .before .before .if1 .left, c .before .before .before .before .before .loop .inv .0))
           (⊎-elim
-          (λ w. value-applies g (at-loop .loop .frame) _ (at-plan .plan .result) (at-plan .plan .ensures .0) (c .if2 .v) (w .0 .taken) (w .1))
-          (λ w. same-applies g (at-loop .loop .frame) _ (c .if2 .v) _ (w .3) (w .2 .ensures))
+          (λ w. plain-is (c .before .before .before .before .before .before .before .before .before .args .links .now) (c .before .before .before .before .before .before .before .before .before .args .waits .now) (c .before .before .before .before .before .before .before .before .before .args .readings .now) (c .before .before .before .before .before .loop .frame) _ (c .if2 .v) _ _ (c .before .is-plain .ensures) (w .0 .taken) (w .2 .ensures) (w .3))
+          (λ w. same-applies g (c .before .before .before .before .before .loop .frame) _ (c .if2 .v) _ (w .3) (w .2 .ensures))
           (c .if2 .came)),
     )
 
@@ -383,6 +336,9 @@ pub +apply+rerun-spec : {M : Type 1} → statement M
     (apply-element-copy-out-function t)
     (apply-function-requires t)
     (apply-returns-2 t)
+    (apply-by-columns-requires t)
+    (apply-conclude-requires t)
+    (apply-returns-3 t)
     (apply-count-in-requires t)
     (apply-start-requires t)
     (apply-loop-holds t)
@@ -391,13 +347,13 @@ pub +apply+rerun-spec : {M : Type 1} → statement M
     (apply-reading-requires t)
     (apply-rerun-requires-2 t)
     (apply-tally-requires t)
-    (apply-conclude-requires t)
-    (apply-returns-3 t)
+    (apply-conclude-requires-2 t)
+    (apply-returns-4 t)
     (apply-add-k t)
     (apply-loop-less t)
     (apply-loop-again t)
-    (apply-conclude-requires-2 t)
-    (apply-returns-4 t))
+    (apply-conclude-requires-3 t)
+    (apply-returns-5 t))
     λ t. rerun-lts.spec
     (rerun-claims t)
     (rerun-at t)
@@ -414,7 +370,8 @@ pub +apply+rerun-spec : {M : Type 1} → statement M
     (rerun-element-copy-out-result t)
     (rerun-returns t)
     (rerun-cast-j t)
-    (rerun-plan-requires t)
+    (rerun-is-plain-requires t)
+    (rerun-plain-requires t)
     (rerun-apply-requires t)
     (rerun-mul-frame t)
     (rerun-element-write-frame t)

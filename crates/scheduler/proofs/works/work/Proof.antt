@@ -15,6 +15,9 @@ abbrev μ-loop : tie.MeasureT-loop
 add-fill-waits : tie.Need-add-fill-waits Inv-loop μ-loop
 add-fill-waits c = search needs
 
+slice-aggregate-fill-waits : tie.Need-slice-aggregate-fill-waits Inv-loop μ-loop
+slice-aggregate-fill-waits c = search needs
+
 fill-waits-requires : tie.Need-fill-waits-requires Inv-loop μ-loop
 fill-waits-requires c κs = search needs
 
@@ -58,7 +61,7 @@ add-count : tie.Need-add-count Inv-loop μ-loop
 add-count c =
     let at-if2 = c .before .before .before .before .before .before .before in
     let at-loop = at-if2 .before .before .before .before .before .before in
-    let at-fits = at-loop .before .before .before .before .before .before .before .before .before .before .before in
+    let at-fits = at-loop .before .before .before .before .before .before .before .before .before .before .before .before in
     omega (arith, at-if2 .if2 .taken, at-fits .fits .allowance)
 
 add-i : tie.Need-add-i Inv-loop μ-loop
@@ -76,11 +79,11 @@ loop-again c =
     let at-chosen = at-if1 .before in
     let at-loop-test = at-chosen .before .before .before in
     let at-loop = at-loop-test .before in
-    let at-start = at-loop .before .before .before .before .before .before .before .before .before .before .before in
+    let at-start = at-loop .before .before .before .before .before .before .before .before .before .before .before .before in
     work-take (at-start .args .readings .now) (at-start .args .links .now) _ (at-start .args .n) (at-start .args .allowance) _ _ (at-loop .loop .cells)
     (at-loop .loop .frame) (at-loop .loop .count) (at-loop .loop .i) (at-loop .loop .inv) (at-loop-test .loop-test .taken) (at-chosen .chosen .result)
     (at-chosen .chosen .ensures) (at-apply .apply .result) _ (at-if1 .if1 .taken) (at-if2 .if2 .taken)
-    (omega (arith, at-loop-test .loop-test .taken, at-start .pre .entry)) (at-apply .apply .ensures) (at-keep .keep .ensures)
+    (at-apply .apply .ensures) (at-keep .keep .ensures)
 
 same-length : tie.Need-same-length Inv-loop μ-loop
 same-length c = search needs
@@ -110,6 +113,7 @@ work-spec =
     Inv-loop
     μ-loop
     add-fill-waits
+    slice-aggregate-fill-waits
     fill-waits-requires
     cast-start-frame
     add-start-frame

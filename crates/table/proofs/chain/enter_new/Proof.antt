@@ -4,14 +4,14 @@ use Rattle.table.specs.ChainLaws.{chains}
 use Rattle.table.proofs.chain.enter_new.Statement.{statement}
 use Rattle.table.proofs.chain.enter_new.Tie as tie
 
-held-at-requires : tie.Need-held-at-requires
-held-at-requires c κs = search needs
+node-at-requires : tie.Need-node-at-requires
+node-at-requires c κs = search needs
 
 hash-requires : tie.Need-hash-requires
 hash-requires c κs = search needs
 
-seek-requires : tie.Need-seek-requires
-seek-requires c κs = (search needs, (search needs, (search (needs, chains), search needs)))
+seek-held-requires : tie.Need-seek-held-requires
+seek-held-requires c κs = (search needs, (search needs, (search (needs, chains), search needs)))
 
 enter-requires : tie.Need-enter-requires
 enter-requires c κs = search (needs, chains)
@@ -25,4 +25,4 @@ returns-2 c = search (needs, chains)
 pub enter-new-spec : {M : Type 1} → statement M
 enter-new-spec =
     tie.close
-    (tie.spec held-at-requires hash-requires seek-requires enter-requires returns returns-2)
+    (tie.spec node-at-requires hash-requires seek-held-requires enter-requires returns returns-2)

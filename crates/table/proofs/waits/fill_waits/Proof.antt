@@ -4,18 +4,20 @@ use Rattle.table.specs.Waits.{waitsFrom}
 use native.Mathlib.Nat.{sub-zero}
 use borrow.Author.Needs.{needs}
 use Prim.Native.Nat.{_-_, _≤_}
-use mathlib.Core.Path.{_≡_}
+use lib.ListN.{length}
+use mathlib.Core.Path.{_≡_, refl}
 use Rattle.table.proofs.waits.fill_waits.Statement.{statement}
 use Rattle.table.proofs.waits.fill_waits.Tie as tie
 
 abbrev Inv-loop : tie.InvT-loop
-Inv-loop links cells n waits₀ i₀ waits i = (i ≤ n) × (waitsFrom links cells (n - i) i waits ≡ waitsFrom links cells n 0 waits₀)
+Inv-loop links cells n waits₀ i₀ waits i =
+    (i ≤ n) × (length waits ≡ length waits₀) × (waitsFrom links cells (n - i) i waits ≡ waitsFrom links cells n 0 waits₀)
 
 abbrev μ-loop : tie.MeasureT-loop
 μ-loop links cells n waits₀ i₀ waits i = n - i
 
 loop-holds : tie.Need-loop-holds Inv-loop μ-loop
-loop-holds c = (search needs, rw sub-zero)
+loop-holds c = (search needs, refl, rw sub-zero)
 
 waits-at-requires : tie.Need-waits-at-requires Inv-loop μ-loop
 waits-at-requires c κs = search needs
@@ -23,8 +25,8 @@ waits-at-requires c κs = search needs
 mul-waits : tie.Need-mul-waits Inv-loop μ-loop
 mul-waits c = search needs
 
-element-write-waits : tie.Need-element-write-waits Inv-loop μ-loop
-element-write-waits c = search needs
+slice-write-waits : tie.Need-slice-write-waits Inv-loop μ-loop
+slice-write-waits c = search needs
 
 add-i : tie.Need-add-i Inv-loop μ-loop
 add-i c = search needs
@@ -33,7 +35,10 @@ loop-less : tie.Need-loop-less Inv-loop μ-loop
 loop-less c = search needs
 
 loop-again : tie.Need-loop-again Inv-loop μ-loop
-loop-again c = (search needs, search (needs, waits-turn))
+loop-again c = (search needs, search needs, search (needs, waits-turn))
+
+same-length : tie.Need-same-length Inv-loop μ-loop
+same-length c = search needs
 
 returns : tie.Need-returns Inv-loop μ-loop
 returns c = search (needs, waits-end)
@@ -47,8 +52,9 @@ fill-waits-spec =
     loop-holds
     waits-at-requires
     mul-waits
-    element-write-waits
+    slice-write-waits
     add-i
     loop-less
     loop-again
+    same-length
     returns)

@@ -6,8 +6,8 @@ use Rattle.table.proofs.waits.is_few.Tie as tie
 mul-covers : tie.Need-mul-covers
 mul-covers c = search waiting
 
-element-copy-out-covers : tie.Need-element-copy-out-covers
-element-copy-out-covers c = search waiting
+shared-slice-read-covers : tie.Need-shared-slice-read-covers
+shared-slice-read-covers c = search waiting
 
 second-of-requires : tie.Need-second-of-requires
 second-of-requires c κs = search waiting
@@ -29,7 +29,7 @@ is-few-spec =
     tie.close
     (tie.spec
     mul-covers
-    element-copy-out-covers
+    shared-slice-read-covers
     second-of-requires
     cast-waits-of
     waits-of-requires

@@ -10,7 +10,7 @@ is-below-requires c κs = search waiting
 sub-result : tie.Need-sub-result
 sub-result c =
     let at-is-below = c .before in
-    let at-args = at-is-below .before in
+    let at-args = at-is-below .before .before in
     omega (
       arith,
       below-one (at-args .args .link) (at-args .args .i) (at-is-below .is-below .result) (at-is-below .is-below .ensures) (c .if1 .taken),
@@ -20,21 +20,22 @@ sub-result c =
 mul-result : tie.Need-mul-result
 mul-result c =
     let at-is-below = c .before in
-    let at-args = at-is-below .before in
+    let at-args = at-is-below .before .before in
     omega (
       arith,
       below-one (at-args .args .link) (at-args .args .i) (at-is-below .is-below .result) (at-is-below .is-below .ensures) (c .if1 .taken),
       below-most (at-args .args .link) (at-args .args .i) (at-is-below .is-below .result) (at-is-below .is-below .ensures) (c .if1 .taken),
     )
 
-element-copy-out-result : tie.Need-element-copy-out-result
-element-copy-out-result c =
-    let at-is-below = c .before in
-    let at-args = at-is-below .before in
+shared-slice-read-result : tie.Need-shared-slice-read-result
+shared-slice-read-result c =
+    let at-if1 = c .before in
+    let at-is-below = at-if1 .before in
+    let at-args = at-is-below .before .before in
     omega (
       arith,
-      below-one (at-args .args .link) (at-args .args .i) (at-is-below .is-below .result) (at-is-below .is-below .ensures) (c .if1 .taken),
-      below-most (at-args .args .link) (at-args .args .i) (at-is-below .is-below .result) (at-is-below .is-below .ensures) (c .if1 .taken),
+      below-one (at-args .args .link) (at-args .args .i) (at-is-below .is-below .result) (at-is-below .is-below .ensures) (at-if1 .if1 .taken),
+      below-most (at-args .args .link) (at-args .args .i) (at-is-below .is-below .result) (at-is-below .is-below .ensures) (at-if1 .if1 .taken),
     )
 
 returns : tie.Need-returns
@@ -46,4 +47,4 @@ returns-2 c = search waiting
 pub waits-of-spec : {M : Type 1} → statement M
 waits-of-spec =
     tie.close
-    (tie.spec is-below-requires sub-result mul-result element-copy-out-result returns returns-2)
+    (tie.spec is-below-requires sub-result mul-result shared-slice-read-result returns returns-2)

@@ -1,0 +1,4 @@
+pub mod Fits
+pub mod Readings
+pub mod Filling
+pub mod Turning

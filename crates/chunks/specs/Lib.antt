@@ -1,0 +1,4 @@
+pub mod Rows
+pub mod Fitting
+pub mod Chunks
+pub mod FittingLaws
