@@ -530,8 +530,8 @@ static inline uint64_t formula_steps_at(const formula_cache *cache, const formul
 /*
  * For each entry held, a bound on the steps of working it out by itself, once those that it depends on are worked out;
  * 0 for numbers past the entries held. Nothing interrupts an entry: this bounds the time that a preview takes for it.
- * A step is about the time of a member on two numbers inside a run; docs/INTEGRATION.md has figures. Over r readings,
- * with quotients rounded up, the steps are
+ * A step is at most about the time of a member on two numbers in a run that goes reading by reading; docs/INTEGRATION.md
+ * has figures. Over r readings, with quotients rounded up, the steps are
  *   - 0 for a number, a name and the recording;
  *   - 2 for skip, take and at;
  *   - 1 + r / 32 for sum, min and max;

@@ -20,6 +20,12 @@ const RUNS_AND_FUNCTION: &str =
 /// The recording of runs in one another: each window is one reading, so that they come to an end.
 const FEW: [i32; 1] = [1];
 
+/// Bodies whose members are used on windows that depend on the variable.
+const RUN_AND_WINDOWS: &str =
+    r"data.sumBy(\b -> data.skip(b).bestSum(1).add(data.take(b).sum()))";
+const RUNS_AND_WINDOWS: &str =
+    r"data.sumBy(\p -> data.sumBy(\q -> data.skip(q).bestAt(p).add(data.at(q))))";
+
 /// Runs a closure at the bottom of the new stack.
 extern "C" fn enter<F: FnMut()>(run: *mut F) {
     // SAFETY: `on_painted` passes a live closure that nothing else uses.
@@ -168,13 +174,15 @@ fn preview(name: &str, mut cache: Cache, figures: &mut Figures) {
 }
 
 /// Runs and functions in one another.
-fn runs() -> [(&'static str, String); 8] {
+fn runs() -> [(&'static str, String); 10] {
     [
         ("no run", "data.skip(1).sum()"),
         ("no run, a function in a function", FUNCTIONS),
         ("1 run", SINGLE),
+        ("1 run, windows in its body", RUN_AND_WINDOWS),
         ("1 run, a function in its body", RUN_AND_FUNCTION),
         ("2 runs in one another", NESTED),
+        ("2 runs in one another, windows in the inner body", RUNS_AND_WINDOWS),
         ("2 runs in one another, a function in the inner body", RUNS_AND_FUNCTION),
         ("3 runs in one another", THREE_DEEP),
         ("22 runs in one another: the most in 128 parts", &nested_runs(22)),
