@@ -148,8 +148,12 @@ fn known_texts() {
     for (text, expected) in evaluated() {
         assert_eq!(in_short(text, &RECORDING), expected, "{text}");
     }
+    // Compared in words: of two kinds the compiler may compare what only one of them has, which
+    // Valgrind reports.
     for sample in previews() {
-        assert!(shown(sample.text, &RECORDING).contains(&sample.shown), "{}", sample.text);
+        let expected = format!("{:?}", sample.shown);
+        let mut parts = shown(sample.text, &RECORDING).into_iter();
+        assert!(parts.any(|part| format!("{part:?}") == expected), "{}", sample.text);
     }
 }
 
