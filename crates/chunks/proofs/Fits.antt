@@ -9,7 +9,7 @@ use borrow.Author.Needs.{needs}
 use borrow.Author.Tests.{leb-true, le-leb, lt-leb, eq-eqb, ne-eqb}
 use lib.Dec.{leb, eqb}
 use lib.ListN.{length, getD, set, drop, drop-of-length-le}
-use lib.Seq.{drop-cons, set-out}
+use lib.Seq.{drop-cons}
 use Rattle.language.specs.Limits.{tableEntries}
 use Rattle.members.specs.Members.{row, kindNumber}
 use Rattle.members.specs.declared.Kind.{Kind}
@@ -132,10 +132,6 @@ module _ (links map : List ℕ) (body : ℕ) (list : List ℕ) (at c k : ℕ) (s
 -- the map as what is left of a list leaves it
 abbrev pub marked : ℕ → List ℕ → ℕ → List ℕ → List ℕ
 marked v map c js = placedOf v c js map
-
--- a write past the table is none
-pub past-set : (map after : List ℕ) (j c : ℕ) → length map ≡ tableEntries → tableEntries ≤ j → after ≡ map → after ≡ set map j c
-past-set map after j c n h e = e ∙ sym (set-out map j c (omega arith))
 
 -- a turn of marking a list's entries
 module _ (v : ℕ) (before map list : List ℕ) (at c k : ℕ) (size : length list ≡ tableEntries) (along : Along (marked v before) (marked v map) list at c k) where

@@ -1,14 +1,14 @@
 -- The turns of runs by columns: a chunk of readings is read, its rows are worked out, and their results are tallied. The tally is that of the
 -- runs reading by reading, since each row gives what its run does, from any frame that has the same constants. Assumes nothing.
 use mathlib.Core.Path.{_≡_, refl, sym, ap, _∙_}
-use mathlib.Core.Bool.{Bool, true, false, cond}
+use mathlib.Core.Bool.{Bool, true, false, cond, _&&_, and-eq-true-iff}
 use mathlib.Core.List.{List, _∷_}
 use Prim.Native.Nat.{ℕ, zero, suc, _+_, _-_, _*_, _/_, _≤_, _<_}
 use native.Mathlib.Nat.{mul-div-le, div-le-self, le-div-iff-mul-le, mul-le-mul-right, add-mul}
 use native.Mathlib.Numerals.{add-one}
 use native.Mathlib.Omega.{arith}
 use borrow.Author.Count.{below-more}
-use borrow.Author.Tests.{leb-true, leb-false}
+use borrow.Author.Tests.{leb-true, leb-false, le-leb, lt-leb}
 use lib.Dec.{leb}
 use lib.IntN.{ℤ, pos}
 use lib.ListN.{length, getD, set, drop, length-set, length-drop, length-take, drop-of-length-le}
@@ -22,7 +22,7 @@ use Rattle.values.specs.Tallies.{begun, stepped, Within}
 use Rattle.values.specs.TallyLaws.{within-none, within-more}
 use Rattle.values.specs.Packing.{packOf, unpackOf}
 use Rattle.chunks.specs.Rows.{Go, setOf, overOf, plainOf}
-use Rattle.chunks.specs.Fitting.{mostColumns, placedOf, fitsOf}
+use Rattle.chunks.specs.Fitting.{mostColumns, placedOf, fitsOf, byColumns}
 use Rattle.chunks.specs.Chunks.{columnAt, Read, Marks, Fitted, Agrees, Row, Chunks, Chunked, talliedOf, Takes, Tallied, Counts, Reruns, Columns, Ran}
 use Rattle.chunks.specs.FittingLaws.{Mapped, mapped, plain}
 
@@ -277,24 +277,47 @@ pub turns-last : {links list : List ℕ} {at v body : ℕ} {map frame : List ℕ
 turns-last turns few read q {u} y h = split (u .stopped) (turns-stop turns few read q y) (λ d. turns-end (turns-again turns few read q y d) h)
 
 -- ---- which runs go by columns
+pub columns-few : (at v : ℕ) → (leb 1 v && leb tableEntries (at + mostColumns)) ≡ true → (1 ≤ v) × (tableEntries ≤ at + mostColumns)
+columns-few at v e =
+    let both = and-eq-true-iff (leb 1 v) (leb tableEntries (at + mostColumns)) .0 e in
+    (leb-true 1 v (both .0), leb-true tableEntries (at + mostColumns) (both .1))
 
-pub columns-asks : {links list : List ℕ} {at v body : ℕ} {marks map buf : List ℕ} {b : Bool} → Reruns list at body v → Marks marks → 1 ≤ v → tableEntries ≤ at + mostColumns
-    → map ≡ placedOf v 3 (drop at list) marks → b ≡ fitsOf links map body 3 (drop at list) → b ≡ true → length buf ≡ tableEntries → Columns links list at v body map buf
-columns-asks {list = list} {at = at} {marks = marks} r m h n p f d e = record {
-  fitted = record {
-    low = r .low;
-    some = h;
-    few = r .few;
-    short = omega (arith, r .size, length-drop at list);
-    marks = marks;
-    none = m;
-    placed = p;
-    fits = sym f ∙ d;
-  };
-  size = r .size;
-  within = r .within;
-  room = e;
-}
+module _ (links list : List ℕ) (at v body : ℕ) (marks : List ℕ) (size : length list ≡ tableEntries) where
+  short : leb (length (drop at list)) mostColumns ≡ leb tableEntries (at + mostColumns)
+  short =
+      split (leb tableEntries (at + mostColumns))
+      (λ e. le-leb (length (drop at list)) mostColumns (omega (arith, length-drop at list, leb-true tableEntries (at + mostColumns) e)) ∙ sym e)
+      (λ e. lt-leb (length (drop at list)) mostColumns (omega (arith, length-drop at list, leb-false tableEntries (at + mostColumns) e)) ∙ sym e)
+
+  pub columns-none : (leb 1 v && leb tableEntries (at + mostColumns)) ≡ false → false ≡ byColumns links (drop at list) v body marks
+  unfolding byColumns
+  columns-none e = rw (short, e)
+
+  pub columns-is : (leb 1 v && leb tableEntries (at + mostColumns)) ≡ true → (map : List ℕ) → map ≡ placedOf v 3 (drop at list) marks
+      → (b : Bool) → b ≡ fitsOf links map body 3 (drop at list) → b ≡ byColumns links (drop at list) v body marks
+  unfolding byColumns
+  columns-is e map p b f = rw (short, e, ← p) f
+
+pub columns-asks : {links list : List ℕ} {at v body : ℕ} {marks map buf : List ℕ} {b : Bool} → Reruns list at body v → Marks marks
+    → (leb 1 v && leb tableEntries (at + mostColumns)) ≡ true → map ≡ placedOf v 3 (drop at list) marks → b ≡ fitsOf links map body 3 (drop at list) → b ≡ true
+    → length buf ≡ tableEntries → Columns links list at v body map buf
+columns-asks {list = list} {at = at} {v = v} {marks = marks} r m h p f d e =
+    let low = columns-few at v h in
+    record {
+      fitted = record {
+        low = r .low;
+        some = low .0;
+        few = r .few;
+        short = omega (arith, r .size, length-drop at list, low .1);
+        marks = marks;
+        none = m;
+        placed = p;
+        fits = sym f ∙ d;
+      };
+      size = r .size;
+      within = r .within;
+      room = e;
+    }
 
 pub ran : {links list : List ℕ} {v body : ℕ} (map : List ℕ) {frame : List ℕ} {xs : List ℤ} {s l : ℕ} {b : Bool} {t : Tally} → b ≡ fitsOf links map body 3 list → b ≡ true
     → t ≡ overOf (plainOf links xs) body list v frame begun (readingsIn xs s l) → Ran links xs list v body frame s l t

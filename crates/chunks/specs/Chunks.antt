@@ -1,7 +1,7 @@
 -- A chunk of readings by columns. The buffer begins with a cell for a constant receiver and one for a constant argument; then come the columns,
 -- each as wide as a chunk has rows. Assumes nothing: these are definitions.
 use mathlib.Core.Path.{_≡_}
-use mathlib.Core.Bool.{true, false, cond}
+use mathlib.Core.Bool.{true, cond}
 use mathlib.Core.List.{List}
 use Prim.Native.Nat.{ℕ, zero, suc, _+_, _-_, _*_, _≤_, _<_}
 use lib.Dec.{ltb}
@@ -132,10 +132,11 @@ pub record Counts (xs : List ℤ) (s l r : ℕ) : Type 0 where
   pub same : r ≡ length (readingsIn xs s l)
   pub few : r ≤ 65535
 
--- what working out a body again asks: the list, from a place on, and the body and the variable within the frame
+-- what working out a body again asks: the list, from a place on, of entries up to the body, and the body and the variable within the frame
 pub record Reruns (list : List ℕ) (at body v : ℕ) : Type 0 where
   pub size : length list ≡ tableEntries
   pub within : at ≤ tableEntries
+  pub upto : (k : ℕ) → at ≤ k → k < tableEntries → getD list k 0 ≤ body
   pub low : body < tableEntries
   pub few : v ≤ tableEntries
 

@@ -5,7 +5,7 @@ use mathlib.Core.Bool.{Bool, true, cond, _&&_, _||_}
 use mathlib.Core.List.{List, [], _∷_}
 use Prim.Native.Nat.{ℕ, suc, _-_}
 use lib.Dec.{leb, ltb, eqb}
-use lib.ListN.{getD, set}
+use lib.ListN.{length, getD, set}
 use Rattle.layout.specs.Links.{firstAt, secondAt, isBelow}
 use Rattle.chunks.specs.Rows.{isPlain}
 
@@ -34,3 +34,7 @@ fitOf links map body c j =
 unfoldable pub fitsOf : List ℕ → List ℕ → ℕ → ℕ → List ℕ → Bool
 fitsOf links map body c [] = leb 2 (getD map body 0)
 fitsOf links map body c (j ∷ js) = fitOf links map body c j && fitsOf links map body (suc c) js
+
+-- the runs go by columns: there is a variable, the list is short, and it fits the map that it gives
+unfoldable pub byColumns : List ℕ → List ℕ → ℕ → ℕ → List ℕ → Bool
+byColumns links list v body marks = (leb 1 v && leb (length list) mostColumns) && fitsOf links (placedOf v 3 list marks) body 3 list

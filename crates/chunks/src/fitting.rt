@@ -9,8 +9,8 @@ use members::Found;
 use members::Kind;
 use members::argument;
 ghost use mathlib.Core.Path.{_≡_};
-ghost use Prim.Native.Nat.{_+_, _-_, _<_, _≤_};
-ghost use lib.ListN.{length, drop};
+ghost use Prim.Native.Nat.{ℕ, _+_, _-_, _<_, _≤_};
+ghost use lib.ListN.{length, getD, drop};
 ghost use Rattle.language.specs.Limits.{tableEntries};
 ghost use Rattle.chunks.specs.Rows.{settles as settlesOf};
 ghost use Rattle.chunks.specs.Fitting.{mostColumns, placedOf, isThere, fitOf, fitsOf};
@@ -102,15 +102,14 @@ pub fn fits(
 // Marks each entry of the list with its column, and the variable with the first.
 pub fn place(list: &[u16; Table::ENTRIES], at: usize, v: u32, map: &mut [u8; Table::ENTRIES])
     requires { ⌜ ((1 ≤ v) × (v ≤ tableEntries)) × ((length (now list) ≡ tableEntries) × (length (now map) ≡ tableEntries)) × ((at ≤ tableEntries) × (tableEntries ≤ at + mostColumns)) ⌝ }
+    requires { ⌜ ((k : ℕ) → at ≤ k → k < tableEntries → getD (now list) k 0 < tableEntries) ⌝ }
     ensures { λ _. ⌜ now (map .exit) ≡ placedOf v 3 (drop at (now (list .entry))) (now (map .entry)) ⌝ }
 {
     let mut c: u8 = 3;
     let mut k = at;
     while k < Table::ENTRIES {
         let j = entry(list[k]);
-        if j < Table::ENTRIES {
-            map[j] = c;
-        }
+        map[j] = c;
         c += 1;
         k += 1;
     }

@@ -17,6 +17,7 @@ ghost use Rattle.language.specs.Limits.{tableEntries};
 ghost use Rattle.rules.specs.Windows.{readingsIn};
 ghost use Rattle.values.specs.Tallies.{begun};
 ghost use Rattle.chunks.specs.Rows.{overOf, plainOf};
+ghost use Rattle.chunks.specs.Fitting.{byColumns};
 ghost use Rattle.chunks.specs.Chunks.{Marks, Reruns, Columns, Ran};
 
 // Whether the runs went by columns, and their tally.
@@ -113,41 +114,32 @@ pub fn by_columns(
     buf: &mut [u64; Table::ENTRIES],
 ) -> Outcome
     requires { ⌜ Reruns (now list) at body v × Marks (now map) ⌝ }
+    ensures fits { λ r. ⌜ r .done ≡ byColumns (now (links .entry)) (drop at (now (list .entry))) v body (now (map .entry)) ⌝ }
     ensures done { λ r. ⌜ (r .done ≡ true → Ran (now (links .entry)) (now (readings .entry)) (drop at (now (list .entry))) v body (now (frame .entry)) from most (r .tally)) ⌝ }
     ensures kept { λ r. ⌜ (r .done ≡ false → now (buf .exit) ≡ now (buf .entry)) ⌝ }
 {
-    if v < 1 {
-        return Outcome {
-            done: false,
-            tally: start(),
-        };
-    }
-    if at + MOST_COLUMNS < Table::ENTRIES {
-        return Outcome {
-            done: false,
-            tally: start(),
-        };
-    }
-    let width = width_of(frame, at);
-    place(list, at, v, map);
-    if fits(links, list, at, body, map) {
-        return Outcome {
-            done: true,
-            tally: run(
-                readings,
-                links,
-                list,
-                at,
-                body,
-                v,
-                frame,
-                map,
-                from,
-                most,
-                width,
-                buf,
-            ),
-        };
+    if (1 <= v) & (Table::ENTRIES <= at + MOST_COLUMNS) {
+        place(list, at, v, map);
+        if fits(links, list, at, body, map) {
+            let width = width_of(frame, at);
+            return Outcome {
+                done: true,
+                tally: run(
+                    readings,
+                    links,
+                    list,
+                    at,
+                    body,
+                    v,
+                    frame,
+                    map,
+                    from,
+                    most,
+                    width,
+                    buf,
+                ),
+            };
+        }
     }
     Outcome {
         done: false,

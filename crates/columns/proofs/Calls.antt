@@ -1,11 +1,12 @@
 -- A member on cells. On two numbers, whatever the member, it comes to onNumbers, which gives the wrong kind for a member that is used on
 -- windows, so no kinds are tested. Assumes nothing.
 use mathlib.Core.Path.{_≡_, refl, sym, ap, _∙_}
-use mathlib.Core.Bool.{Bool, true, false}
+use mathlib.Core.Bool.{Bool, true, false, _&&_, and-eq-true-iff}
 use mathlib.Core.List.{List}
 use Prim.Native.Nat.{ℕ, _+_, _≤_, _<_}
 use borrow.Author.Needs.{needs}
-use borrow.Author.Tests.{le-leb, lt-leb}
+use borrow.Author.Tests.{le-leb, lt-leb, ltb-true}
+use lib.Dec.{ltb}
 use lib.IntN.{ℤ}
 use mir.Syntax.{w32}
 use mir.Val.{SFits, toZ, ofZ}
@@ -100,18 +101,15 @@ pub window-asks : (u v : Value) (s l : ℕ) → Bounds u v → v ≡ Window s l 
 window-asks u v s l q o = rw o at (q .bounded)
 
 module _ (k r : Found) (f : r ≡ k) (a b : ℕ) (xs : List ℤ) where
-  pub window-none : r ≡ Unknown → b < windowCell → wrongCell ≡ settledOf (callOf k xs a b)
+  pub window-none : r ≡ Unknown → wrongCell ≡ settledOf (callOf k xs a b)
   unfolding callOf settledOf
-  window-none e h = rw (sym f ∙ e)
+  window-none e = rw (sym f ∙ e)
 
   pub window-is : (m : Member) (u v w : Value) (s l : ℕ) (y : ℤ) (c : ℕ) → r ≡ Is m → u ≡ unpackOf a → Bounds u v → v ≡ Window s l → SFits w32 y → y ≡ numberIn b
       → w ≡ onWindow m xs s l (toZ w32 (ofZ w32 y)) → c ≡ packOf w → b < windowCell → c ≡ settledOf (callOf k xs a b)
   unfolding callOf settledOf
   window-is m u v w s l y c e p q o fy d g t h =
       rw (sym f ∙ e, ← p, ← q .same, o, unpack-number b h, window-number m xs s l (numberIn b)) (t ∙ ap packOf (g ∙ ap (onWindow m xs s l) (toZ-ofZ fy ∙ d)))
-
-  pub window-other : (u : Applied) (c : ℕ) → u ≡ callOf k xs a b → c ≡ settledOf u → b < windowCell → c ≡ settledOf (callOf k xs a b)
-  window-other u c e p h = p ∙ ap settledOf e
 
 module _ (k r : Found) (f : r ≡ k) (a b : ℕ) where
   pub numbers-none : r ≡ Unknown → (xs : List ℤ) → a < windowCell → b < windowCell → Done (Missing 2) ≡ callOf k xs a b
@@ -132,23 +130,25 @@ pub settled-run : (a : Applied) (s l : ℕ) → a ≡ Run s l → wrongCell ≡ 
 unfolding settledOf
 settled-run a s l e = rw e
 
+pub settled-call : (f : Found) (xs : List ℤ) (a b : ℕ) (u : Applied) (c : ℕ) → u ≡ callOf f xs a b → c ≡ settledOf u → c ≡ settledOf (callOf f xs a b)
+settled-call f xs a b u c e p = p ∙ ap settledOf e
+
+both-numbers : (a b : ℕ) → (ltb a windowCell && ltb b windowCell) ≡ true → (a < windowCell) × (b < windowCell)
+both-numbers a b e = (ltb-true a windowCell (and-eq-true-iff _ (ltb b windowCell) .0 e .0), ltb-true b windowCell (and-eq-true-iff (ltb a windowCell) _ .0 e .1))
+
 module _ (f : Found) (xs : List ℤ) (two : Bool) (a b : ℕ) where
-  pub cell-two : (u : Applied) (c : ℕ) → two ≡ true → u ≡ callOf f xs a b → c ≡ settledOf u → c ≡ cellOf f xs two a b
+  pub cell-two : (c : ℕ) → two ≡ true → c ≡ settledOf (callOf f xs a b) → c ≡ cellOf f xs two a b
   unfolding cellOf
-  cell-two u c t e p = rw t (p ∙ ap settledOf e)
+  cell-two c t e = rw t e
 
   pub cell-one : (c : ℕ) → two ≡ false → c ≡ askOf f xs a → c ≡ cellOf f xs two a b
   unfolding cellOf
   cell-one c t e = rw t e
 
-  pub cell-both : (v : Value) (c : ℕ) → two ≡ true → a < windowCell → b < windowCell
+  pub cell-both : (v : Value) (c : ℕ) → two ≡ true → (ltb a windowCell && ltb b windowCell) ≡ true
       → ((ys : List ℤ) → a < windowCell → b < windowCell → Done v ≡ callOf f ys a b) → c ≡ packOf v → c ≡ cellOf f xs two a b
   unfolding cellOf settledOf
-  cell-both v c t h k e p = rw (t, ← e xs h k) p
-
-  pub cell-number : (c : ℕ) → two ≡ true → b < windowCell → (b < windowCell → c ≡ settledOf (callOf f xs a b)) → c ≡ cellOf f xs two a b
-  unfolding cellOf
-  cell-number c t k e = rw t (e k)
+  cell-both v c t h e p = let low = both-numbers a b h in rw (t, ← e xs (low .0) (low .1)) p
 
 -- of two numbers
 pub cell-numbers : (m : Member) (xs : List ℤ) (a b : ℕ) → a < windowCell → b < windowCell → cellOf (Is m) xs true a b ≡ packOf (onNumbers m (numberIn a) (numberIn b))
@@ -174,9 +174,8 @@ pub ruleset calls = (
   cell-two,
   cell-one,
   cell-both,
-  cell-number,
   window-asks,
   window-none,
   window-is,
-  window-other,
+  settled-call,
 )

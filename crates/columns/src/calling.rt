@@ -79,23 +79,20 @@ fn settled(a: Applied) -> u64
     }
 }
 
-// A member on a number's cell as its argument, as most that are used on windows have: what it comes to on a window is known without a test of
-// kinds.
-fn call_number(kind: u16, readings: &[i32], a: u64, b: u64) -> u64
-    ensures { λ r. ⌜ (b < windowCell → r ≡ settledOf (callOf (memberOfKind kind) (now (readings .entry)) a b)) ⌝ }
+// A member with an argument. On a window and a number, as most that are used on windows have, no kinds are left to test.
+fn call_cell(kind: u16, readings: &[i32], a: u64, b: u64) -> u64
+    ensures { λ r. ⌜ r ≡ settledOf (callOf (memberOfKind kind) (now (readings .entry)) a b) ⌝ }
 {
-    match member_of(kind) {
-        Found::Is(m) => {
-            let v = bounded(unpack(a));
-            match v {
-                Value::Window { start, length } => {
-                    pack(on_window(m, readings, start, length, number_in(b)))
-                }
-                _ => settled(call(kind, readings, a, b)),
-            }
+    if b < Packed::WINDOW {
+        let v = bounded(unpack(a));
+        if let Value::Window { start, length } = v {
+            return match member_of(kind) {
+                Found::Is(m) => pack(on_window(m, readings, start, length, number_in(b))),
+                Found::Unknown => Packed::WRONG,
+            };
         }
-        Found::Unknown => Packed::WRONG,
     }
+    settled(call(kind, readings, a, b))
 }
 
 // A member that runs no function, on the cell of its receiver, and with that of its argument where it has one.
@@ -103,13 +100,10 @@ pub fn cell(kind: u16, readings: &[i32], two: bool, a: u64, b: u64) -> u64
     ensures { λ r. ⌜ r ≡ cellOf (memberOfKind kind) (now (readings .entry)) two a b ⌝ }
 {
     if two {
-        if b < Packed::WINDOW {
-            if a < Packed::WINDOW {
-                return pack(call_numbers(kind, a, b));
-            }
-            return call_number(kind, readings, a, b);
+        if (a < Packed::WINDOW) & (b < Packed::WINDOW) {
+            return pack(call_numbers(kind, a, b));
         }
-        return settled(call(kind, readings, a, b));
+        return call_cell(kind, readings, a, b);
     }
     ask(kind, readings, a)
 }

@@ -1,30 +1,24 @@
 -- The steps of planning an entry, each over plain numbers, values and lists. Assumes nothing.
-use mathlib.Core.Path.{_≡_, refl, sym, ap, _∙_, subst}
-use mathlib.Core.Bool.{Bool, true, false, _&&_, and-eq-true-iff}
+use mathlib.Core.Path.{_≡_, sym, ap, _∙_, subst}
+use mathlib.Core.Bool.{Bool, true, false}
 use mathlib.Core.List.{List}
-use Prim.Native.Nat.{ℕ, _+_, _-_, _≤_, _<_}
+use Prim.Native.Nat.{ℕ, _-_, _≤_, _<_}
 use native.Mathlib.Omega.{arith}
 use borrow.Author.Needs.{needs}
-use borrow.Author.Tests.{ltb-true, lt-ltb, le-ltb, le-leb, lt-leb, eq-eqb, ne-eqb}
-use lib.Dec.{T, ltb}
-use lib.IntN.{ℤ, pos}
-use lib.ListN.{length, getD, length-take, length-drop, List·getD-eq-default}
+use borrow.Author.Tests.{lt-ltb, le-ltb, le-leb, lt-leb, eq-eqb, ne-eqb}
+use lib.Dec.{T}
+use lib.IntN.{ℤ}
+use lib.ListN.{getD}
 use Rattle.language.specs.Limits.{tableEntries}
 use Rattle.members.specs.declared.Member.{Member}
 use Rattle.members.specs.declared.Found.{Found}
 use Rattle.members.specs.declared.Found.the-variants.{Is, Unknown}
 use Rattle.rules.specs.declared.Value.{Value}
-use Rattle.rules.specs.declared.Value.the-variants.{Number, Window, Function, Delayed, Missing}
 use Rattle.values.specs.declared.apply.Applied.{Applied}
 use Rattle.values.specs.declared.apply.Applied.the-variants.{Done, Run}
 use Rattle.values.specs.declared.runs.Tally.{Tally}
-use Rattle.rules.specs.Windows.{readingsIn}
-use Rattle.rules.specs.Apply.{apply0}
-use Rattle.values.specs.Applied.{applied1}
-use Rattle.values.specs.Tested.{tested0, tested1}
-use Rattle.values.specs.TestedLaws.{tested0-is, tested1-is}
-use Rattle.values.specs.Tallies.{stepped, finished, Steps}
-use Rattle.values.specs.Packing.{packOf, unpackOf, windowCell, wrongCell}
+use Rattle.values.specs.Tallies.{finished}
+use Rattle.values.specs.Packing.{packOf, wrongCell}
 use Rattle.layout.specs.Nodes.{functionKind, memberOfKind}
 use Rattle.evaluator.specs.declared.working.Task.{Task}
 use Rattle.layout.specs.Links.{kindAt, firstAt, secondAt, isBelow}
@@ -95,9 +89,6 @@ module _ (links waits : List ℕ) (f kind : ℕ) (a : Applied) (r : Task) where
   follow-run s l e d = rw e d
 
 -- ---- the plan
-both-numbers : (a b : ℕ) → (ltb a windowCell && ltb b windowCell) ≡ true → (a < windowCell) × (b < windowCell)
-both-numbers a b e = (ltb-true a windowCell (and-eq-true-iff _ (ltb b windowCell) .0 e .0), ltb-true b windowCell (and-eq-true-iff (ltb a windowCell) _ .0 e .1))
-
 module _ (links waits : List ℕ) (xs : List ℤ) (frame : List ℕ) (i kind : ℕ) (e : kind ≡ kindAt links i) (r : Task) where
   abbrev Plans : Type 0
   Plans = r ≡ planOf (graph links waits xs) frame i
@@ -126,13 +117,6 @@ module _ (links waits : List ℕ) (xs : List ℤ) (frame : List ℕ) (i kind : �
         unfolding planOf
         plan-call u t′ o d = rw (← e, le-ltb _ _ h, ← p, sym q ∙ t, ne-eqb _ _ k, ← p′, sym q′ ∙ t′, ← o) d
 
-        pub plan-numbers : (x y : ℕ) → x ≡ getD frame (first - 1) 0 → y ≡ getD frame (second - 1) 0 → (v : Value) (c : ℕ) → b′ ≡ true → (ltb x windowCell && ltb y windowCell) ≡ true
-            → ((ys : List ℤ) → x < windowCell → y < windowCell → Done v ≡ callOf (memberOfKind kind) ys x y) → c ≡ packOf v → r ≡ doneOf c → Plans
-        unfolding followOf
-        plan-numbers x y f g v c t′ s o w d =
-            let low = both-numbers x y s in
-            plan-call (Done v) t′ (o xs (low .0) (low .1) ∙ (λ j. callOf (memberOfKind kind) xs (f j) (g j))) (d ∙ ap doneOf w)
-
 pub ruleset planning = (
   needs,
   conclude-none,
@@ -154,5 +138,4 @@ pub ruleset planning = (
   plan-function,
   plan-ask,
   plan-call,
-  plan-numbers,
 )

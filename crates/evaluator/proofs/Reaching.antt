@@ -87,8 +87,21 @@ pub record Sweeps (links waits : List ℕ) (v body : ℕ) (list : List ℕ) (at 
   pub room : j ≤ at
   pub within : at ≤ tableEntries
   pub size : length list ≡ tableEntries
+  pub upto : (k : ℕ) → at ≤ k → k < tableEntries → getD list k 0 ≤ body
   pub marks : Marks flags
   pub same : gatherFrom links waits v j flags (drop at list) ≡ gathered links waits v body
+
+-- one entry more in front of the list
+pub upto-more : (list : List ℕ) (at j body : ℕ) → 1 ≤ at → at ≤ tableEntries → length list ≡ tableEntries → j ≤ body
+    → ((k : ℕ) → at ≤ k → k < tableEntries → getD list k 0 ≤ body) → (k : ℕ) → at - 1 ≤ k → k < tableEntries → getD (set list (at - 1) j) k 0 ≤ body
+upto-more list at j body one most size low h k past within =
+    split (eqb k (at - 1))
+    (λ e.
+    let q : k ≡ at - 1 = eqb-true k (at - 1) e in
+    rw (q, getD-set-same list (at - 1) j 0 (omega arith)) low)
+    (λ e.
+    let n : k ≡ at - 1 → ⊥ = eqb-false k (at - 1) e in
+    rw (getD-set-other list (at - 1) k j 0 n) (h k (omega arith) within))
 
 -- flags are 0 or 1, whatever is flagged
 marks-none : Marks (replicate tableEntries 0)

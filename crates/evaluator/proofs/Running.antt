@@ -44,7 +44,7 @@ module _ (g : Graph) (frame : List ℕ) (i : ℕ) (p : Task) (e : p ≡ planOf g
 
   module _ (d : p .done ≡ false) (q : Planned i p) (list flags : List ℕ) (at : ℕ) (s : Gathers (g .links) (g .waits) (p .variable) (p .body) list flags at) where
     pub reruns : i < tableEntries → Reruns list at (p .body) (p .variable)
-    reruns h = record { size = s .size; within = s .within; low = omega (arith, q .below); few = q .variable }
+    reruns h = record { size = s .size; within = s .within; upto = s .upto; low = omega (arith, q .below); few = q .variable }
 
     pub columns-applies : (t : Tally) (r : ℕ) → (p .kind ≡ functionKind → ⊥)
         → Ran (g .links) (g .xs) (drop at list) (p .variable) (p .body) frame (p .start) (p .length) t

@@ -3,7 +3,7 @@
 use mathlib.Core.Path.{_≡_}
 use mathlib.Core.Bool.{Bool, cond, not, _&&_}
 use mathlib.Core.List.{List, [], _∷_}
-use Prim.Native.Nat.{ℕ, zero, suc, _+_, _-_, _≤_}
+use Prim.Native.Nat.{ℕ, zero, suc, _+_, _-_, _≤_, _<_}
 use lib.Dec.{eqb}
 use lib.ListN.{length, getD, set, replicate, drop}
 use Rattle.language.specs.Limits.{tableEntries}
@@ -35,9 +35,10 @@ gathered links waits v body =
     cond (moves waits v body) (gatherFrom links waits v (suc body) (set (replicate tableEntries 0) body 1) [])
     []
 
--- the list stands at the end of an array, from a place on, and each flag is 0 or 1
+-- the list stands at the end of an array, from a place on, each of its entries is at or below the body, and each flag is 0 or 1
 pub record Gathers (links waits : List ℕ) (v body : ℕ) (list flags : List ℕ) (at : ℕ) : Type 0 where
   pub within : at ≤ tableEntries
   pub size : length list ≡ tableEntries
   pub same : drop at list ≡ gathered links waits v body
+  pub upto : (k : ℕ) → at ≤ k → k < tableEntries → getD list k 0 ≤ body
   pub marks : Marks flags

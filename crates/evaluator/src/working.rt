@@ -10,7 +10,6 @@ use chunks::rows::tally;
 use chunks::running::by_columns;
 use columns::calling::ask;
 use columns::calling::call;
-use columns::calling::call_numbers;
 use columns::calling::cell;
 use language::limits::Table;
 use layout::cells::first_of;
@@ -164,9 +163,6 @@ fn plan(
         let second = second_of(links, i) as usize;
         if is_below(second, i) {
             let b = frame[second - 1];
-            if (a < Packed::WINDOW) & (b < Packed::WINDOW) {
-                return done(pack(call_numbers(kind, a, b)));
-            }
             return follow(links, waits, second - 1, kind, call(kind, readings, a, b));
         }
         return done(ask(kind, readings, a));

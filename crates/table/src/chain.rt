@@ -26,8 +26,9 @@ pub const HASHES: usize = 512;
 // A cell for each hash, and one for each entry, held or about to be appended.
 pub const CHAIN_CELLS: usize = HASHES + (Table::ENTRIES + Text::PARTS);
 
-// Up to so many entries are compared with each other, with no chain: to clear one would take longer.
-const COMPARED: u16 = 6;
+// Up to so many entries are compared with each other, with no chain: to clear one would take longer. With 8 and fewer the compiler writes the
+// comparison out for each pair, which takes 1.2 KB of code.
+const COMPARED: u16 = 9;
 
 // The chain of a node.
 pub fn hash(x: Shape) -> u16
@@ -128,7 +129,7 @@ fn is_new(links: &[u16], cells: &[u64], i: u16) -> bool
     let x = node_at(links, cells, i);
     let mut j = i;
     while 0 < j {
-        if is_at(links, cells, j - 1, x) {
+        if same(node_at(links, cells, j - 1), x) {
             return false;
         }
         j -= 1;

@@ -1,11 +1,11 @@
 -- `chunks::fitting::place` meets its contract. The invariant: what is left of the list gives the same map. Assumes nothing.
-use mathlib.Core.Path.{_≡_, _∙_, ap}
-use mathlib.Core.Logic.{⊎-elim}
+use mathlib.Core.Path.{_≡_, refl, _∙_}
 use Prim.Native.Nat.{_-_}
+use native.Mathlib.Omega.{arith}
 use borrow.Author.Needs.{needs}
-use lib.ListN.{length, set, length-set}
+use lib.ListN.{length, length-set}
 use Rattle.language.specs.Limits.{tableEntries}
-use Rattle.chunks.proofs.Fits.{Along, along-begin, marked, past-set, place-again, place-end}
+use Rattle.chunks.proofs.Fits.{Along, along-begin, marked, place-again, place-end}
 use Rattle.chunks.proofs.fitting.place.Statement.{statement}
 use Rattle.chunks.proofs.fitting.place.Tie as tie
 
@@ -28,7 +28,10 @@ entry-requires : tie.Need-entry-requires Inv-loop μ-loop
 entry-requires c κs = search needs
 
 element-write-map : tie.Need-element-write-map Inv-loop μ-loop
-element-write-map c = search needs
+element-write-map c =
+    let at-loop-test = c .before .before in
+    let at-loop = at-loop-test .before in
+    omega (arith, c .entry .ensures, at-loop .before .pre .1 (at-loop .loop .k) (at-loop .loop .inv .0 .past) (at-loop-test .loop-test .taken))
 
 add-c : tie.Need-add-c Inv-loop μ-loop
 add-c c = search needs
@@ -41,17 +44,15 @@ loop-less c = search needs
 
 loop-again : tie.Need-loop-again Inv-loop μ-loop
 loop-again c =
-    let at-entry = c .before in
-    let at-loop-test = at-entry .before .before in
+    let at-loop-test = c .before .before in
     let at-loop = at-loop-test .before in
     let at-start = at-loop .before in
     let map = at-loop .loop .map in
-    let j = at-entry .entry .result in
-    let m = at-loop .loop .c in
-    let written : c .if1 .map ≡ set map j m = ⊎-elim (λ w. w .1) (λ w. past-set map (c .if1 .map) j m (at-loop .loop .inv .1) (w .0 .left) (w .1)) (c .if1 .came) in (
+    let j = c .entry .result in
+    let m = at-loop .loop .c in (
       place-again (at-start .args .v) (at-start .args .map .now) map (at-start .args .list .now) (at-start .args .at) m (at-loop .loop .k)
-          (at-start .pre .1 .0) (at-loop .loop .inv .0) (at-loop-test .loop-test .taken) j (at-entry .entry .ensures) (c .if1 .map) written,
-      ap length written ∙ length-set map j m ∙ at-loop .loop .inv .1,
+          (at-start .pre .0 .1 .0) (at-loop .loop .inv .0) (at-loop-test .loop-test .taken) j (c .entry .ensures) _ refl,
+      length-set map j m ∙ at-loop .loop .inv .1,
     )
 
 sub-own : tie.Need-sub-own Inv-loop μ-loop

@@ -12,26 +12,17 @@ pack-requires c κs = search calls
 returns : tie.Need-returns
 returns c = search calls
 
-call-number-requires : tie.Need-call-number-requires
-call-number-requires c κs = search calls
+call-cell-requires : tie.Need-call-cell-requires
+call-cell-requires c κs = search calls
 
 returns-2 : tie.Need-returns-2
 returns-2 c = search calls
 
-call-requires : tie.Need-call-requires
-call-requires c κs = search calls
-
-settled-requires : tie.Need-settled-requires
-settled-requires c κs = search calls
-
-returns-3 : tie.Need-returns-3
-returns-3 c = search calls
-
 ask-requires : tie.Need-ask-requires
 ask-requires c κs = search calls
 
-returns-4 : tie.Need-returns-4
-returns-4 c = search calls
+returns-3 : tie.Need-returns-3
+returns-3 c = search calls
 
 pub cell-spec : {M : Type 1} → statement M
 cell-spec =
@@ -40,10 +31,7 @@ cell-spec =
     call-numbers-requires
     pack-requires
     returns
-    call-number-requires
+    call-cell-requires
     returns-2
-    call-requires
-    settled-requires
-    returns-3
     ask-requires
-    returns-4)
+    returns-3)

@@ -1,6 +1,8 @@
 -- The invariant: the sweep from here on, with what stands in the list already, gives the whole list. Assumes nothing.
+use Prim.Native.Nat.{_-_}
+use native.Mathlib.Omega.{arith}
 use borrow.Author.Needs.{needs}
-use Rattle.evaluator.proofs.Reaching.{Sweeps, gather-begin, gather-yes, gather-no, gather-end, gather-none, marks-begin, marks-set, marks-spread, length-kept}
+use Rattle.evaluator.proofs.Reaching.{Sweeps, gather-begin, gather-yes, gather-no, gather-end, gather-none, marks-begin, marks-set, marks-spread, upto-more, length-kept}
 use Rattle.evaluator.proofs.reach.gather.Statement.{statement}
 use Rattle.evaluator.proofs.reach.gather.Tie as tie
 
@@ -20,7 +22,7 @@ add-j : tie.Need-add-j Inv-loop μ-loop
 add-j c = search needs
 
 loop-holds : tie.Need-loop-holds Inv-loop μ-loop
-loop-holds c = record { low = search needs; room = search needs; within = search needs; size = search needs; marks = marks-set _ _ (marks-begin _ (c .before .before .before .pre .1 .1)); same = search (needs, gather-begin) }
+loop-holds c = record { low = search needs; room = search needs; within = search needs; size = search needs; upto = λ k h l. absurd (omega arith); marks = marks-set _ _ (marks-begin _ (c .before .before .before .pre .1 .1)); same = search (needs, gather-begin) }
 
 sub-j : tie.Need-sub-j Inv-loop μ-loop
 sub-j c = search needs
@@ -57,6 +59,7 @@ loop-again c =
       room = search needs;
       within = search needs;
       size = search (needs, length-kept);
+      upto = upto-more (at-loop .loop .list) (at-loop .loop .at) (at-loop .loop .j - 1) (at-args .args .body) (search needs) (search needs) (search needs) (search needs) (at-loop .loop .inv .upto);
       marks = rw (c .spread .ensures) (marks-spread (at-args .args .links .now) (at-args .args .waits .now) (at-args .args .v) _ (at-loop .loop .flags) (at-loop .loop .inv .marks));
       same = gather-yes (at-args .args .links .now) (at-args .args .waits .now) (at-args .args .v) (at-loop .loop .j) (at-loop .loop .at)
           (at-loop .loop .flags) (at-loop .loop .list) (at-loop-test .loop-test .taken) (at-loop .loop .inv .same) _ (at-if2 .if2 .taken) (search needs)
@@ -67,13 +70,13 @@ loop-less-2 : tie.Need-loop-less-2 Inv-loop μ-loop
 loop-less-2 c = search needs
 
 loop-again-2 : tie.Need-loop-again-2 Inv-loop μ-loop
-loop-again-2 c = record { low = search needs; room = search needs; within = search needs; size = search needs; marks = c .before .before .before .loop .inv .marks; same = search (needs, gather-no) }
+loop-again-2 c = record { low = search needs; room = search needs; within = search needs; size = search needs; upto = c .before .before .before .loop .inv .upto; marks = c .before .before .before .loop .inv .marks; same = search (needs, gather-no) }
 
 returns : tie.Need-returns Inv-loop μ-loop
-returns c = record { within = search needs; size = search needs; marks = c .before .loop .inv .marks; same = search (needs, gather-end) }
+returns c = record { within = search needs; size = search needs; upto = c .before .loop .inv .upto; marks = c .before .loop .inv .marks; same = search (needs, gather-end) }
 
 returns-2 : tie.Need-returns-2 Inv-loop μ-loop
-returns-2 c = record { within = search needs; size = search needs; marks = marks-begin _ (c .before .before .before .pre .1 .1); same = search (needs, gather-none) }
+returns-2 c = record { within = search needs; size = search needs; upto = λ k h l. absurd (omega arith); marks = marks-begin _ (c .before .before .before .pre .1 .1); same = search (needs, gather-none) }
 
 pub gather-spec : {M : Type 1} → statement M
 gather-spec =

@@ -146,7 +146,7 @@ apply-returns-3 t c =
     let g = graph (c .before .before .before .before .before .before .before .before .before .before .before .before .before .before .args .links .now) (c .before .before .before .before .before .before .before .before .before .before .before .before .before .before .args .waits .now) (c .before .before .before .before .before .before .before .before .before .before .before .before .before .before .args .readings .now) in
     columns-applies g (c .before .before .before .before .before .before .before .before .before .before .before .before .before .before .args .frame .now) (c .before .before .before .before .before .before .before .before .before .before .before .before .before .before .args .i) (c .before .before .before .before .before .before .before .before .before .before .before .before .plan .result) (c .before .before .before .before .before .before .before .before .before .before .before .before .plan .ensures .0) (c .before .before .before .before .before .before .before .before .before .before .before .if1 .left)
     (c .before .before .before .before .before .before .before .before .before .before .before .before .plan .ensures .1 (c .before .before .before .before .before .before .before .before .before .before .before .if1 .left)) _ _ _ (c .before .before .before .before .before .before .before .before .gather .ensures) (c .before .before .by-columns .result .tally) (c .conclude .result) (c .before .before .before .before .before .before .if2 .left)
-    (c .before .before .by-columns .ensures .0 (c .before .if3 .taken)) (c .conclude .ensures)
+    (c .before .before .by-columns .ensures .1 .0 (c .before .if3 .taken)) (c .conclude .ensures)
 
 apply-count-in-requires : (t : ℕ) → apply-lts.Need-count-in-requires (apply-claims t) (apply-at t) apply.Post apply-Inv-loop apply-μ-loop
 apply-count-in-requires t c κs = search needs
@@ -158,7 +158,7 @@ apply-loop-holds : (t : ℕ) → apply-lts.Need-loop-holds (apply-claims t) (app
 apply-loop-holds t c =
     let g = graph (c .before .before .before .before .before .before .before .before .before .before .before .before .before .before .before .args .links .now) (c .before .before .before .before .before .before .before .before .before .before .before .before .before .before .before .args .waits .now) (c .before .before .before .before .before .before .before .before .before .before .before .before .before .before .before .args .readings .now) in (
       search needs,
-      runs-begin g (c .before .before .before .before .before .before .before .before .before .before .before .before .before .plan .result .body) (c .before .before .before .before .before .before .before .before .before .before .before .before .before .plan .result .variable) _ (c .before .before .before .before .before .before .before .before .before .before .before .before .before .before .before .args .frame .now) _ _ (c .start .result) (c .before .before .before .by-columns .ensures .1 (c .before .before .if3 .left)) (c .start .ensures),
+      runs-begin g (c .before .before .before .before .before .before .before .before .before .before .before .before .before .plan .result .body) (c .before .before .before .before .before .before .before .before .before .before .before .before .before .plan .result .variable) _ (c .before .before .before .before .before .before .before .before .before .before .before .before .before .before .before .args .frame .now) _ _ (c .start .result) (c .before .before .before .by-columns .ensures .1 .1 (c .before .before .if3 .left)) (c .start .ensures),
     )
 
 apply-cast-reading : (t : ℕ) → apply-lts.Need-cast-reading (apply-claims t) (apply-at t) apply.Post apply-Inv-loop apply-μ-loop

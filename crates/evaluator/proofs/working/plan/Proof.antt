@@ -117,21 +117,9 @@ element-copy-out-b c =
       below-most (at-second-of .second-of .result) (at-args .args .i) (at-is-below2 .is-below2 .result) (at-is-below2 .is-below2 .ensures) (c .if4 .taken),
     )
 
-call-numbers-requires : tie.Need-call-numbers-requires
-call-numbers-requires c κs = search planning
-
-pack-requires : tie.Need-pack-requires
-pack-requires c κs = search planning
-
-done-requires-2 : tie.Need-done-requires-2
-done-requires-2 c κs = search planning
-
-returns-3 : tie.Need-returns-3
-returns-3 c = search planning
-
 sub-follow : tie.Need-sub-follow
 sub-follow c =
-    let at-if4 = c .before .before in
+    let at-if4 = c .before in
     let at-is-below2 = at-if4 .before in
     let is-below2 = at-is-below2 .is-below2 in
     let at-second-of = at-is-below2 .before in
@@ -147,7 +135,7 @@ call-requires c κs = search planning
 
 follow-requires : tie.Need-follow-requires
 follow-requires c κs =
-    let at-if4 = c .before .before .before in
+    let at-if4 = c .before .before in
     let at-is-below2 = at-if4 .before in
     let is-below2 = at-is-below2 .is-below2 in
     let at-second-of = at-is-below2 .before in
@@ -158,10 +146,10 @@ follow-requires c κs =
       below-most (at-second-of .second-of .result) (at-args .args .i) (is-below2 .result) (is-below2 .ensures) (at-if4 .if4 .taken),
     )
 
-returns-4 : tie.Need-returns-4
-returns-4 c =
+returns-3 : tie.Need-returns-3
+returns-3 c =
     let at-call = c .before in
-    let at-if4 = at-call .before .before .before in
+    let at-if4 = at-call .before .before in
     let at-is-below2 = at-if4 .before in
     let is-below2 = at-is-below2 .is-below2 in
     let at-second-of = at-is-below2 .before in
@@ -185,17 +173,17 @@ returns-4 c =
 ask-requires : tie.Need-ask-requires
 ask-requires c κs = search planning
 
+done-requires-2 : tie.Need-done-requires-2
+done-requires-2 c κs = search planning
+
+returns-4 : tie.Need-returns-4
+returns-4 c = search planning
+
 done-requires-3 : tie.Need-done-requires-3
 done-requires-3 c κs = search planning
 
 returns-5 : tie.Need-returns-5
 returns-5 c = search planning
-
-done-requires-4 : tie.Need-done-requires-4
-done-requires-4 c κs = search planning
-
-returns-6 : tie.Need-returns-6
-returns-6 c = search planning
 
 pub plan-spec : {M : Type 1} → statement M
 plan-spec =
@@ -221,16 +209,12 @@ plan-spec =
     sub-b
     mul-b
     element-copy-out-b
-    call-numbers-requires
-    pack-requires
-    done-requires-2
-    returns-3
     sub-follow
     call-requires
     follow-requires
-    returns-4
+    returns-3
     ask-requires
+    done-requires-2
+    returns-4
     done-requires-3
-    returns-5
-    done-requires-4
-    returns-6)
+    returns-5)

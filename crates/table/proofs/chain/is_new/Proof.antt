@@ -20,11 +20,14 @@ node-at-requires c κs = search needs
 loop-holds : tie.Need-loop-holds Inv-loop μ-loop
 loop-holds c = refl
 
-sub-is-at : tie.Need-sub-is-at Inv-loop μ-loop
-sub-is-at c = search needs
+sub-node-at : tie.Need-sub-node-at Inv-loop μ-loop
+sub-node-at c = search needs
 
-is-at-requires : tie.Need-is-at-requires Inv-loop μ-loop
-is-at-requires c κs = search needs
+node-at-requires-2 : tie.Need-node-at-requires-2 Inv-loop μ-loop
+node-at-requires-2 c κs = search needs
+
+same-requires : tie.Need-same-requires Inv-loop μ-loop
+same-requires c κs = search needs
 
 returns : tie.Need-returns Inv-loop μ-loop
 returns c = search (needs, new-hit)
@@ -49,8 +52,9 @@ is-new-spec =
     μ-loop
     node-at-requires
     loop-holds
-    sub-is-at
-    is-at-requires
+    sub-node-at
+    node-at-requires-2
+    same-requires
     returns
     sub-j
     loop-less
