@@ -10,7 +10,7 @@ use Rattle.layout.specs.Memory.{Node, nodeAt}
 use Rattle.table.specs.WellFormed.{distinct}
 use Rattle.table.specs.Bind.{Bound, bindOne, bindAll}
 use Rattle.layout.specs.Numbered.{numbered}
-use Rattle.layout.specs.Held.{heldAt, recordAt, textWords}
+use Rattle.layout.specs.Held.{heldAt, recordAt}
 use Rattle.table.specs.Chain.{Chained, chainEntries}
 
 abbrev pub bound : List Node → List ℕ → Bound
@@ -26,15 +26,15 @@ pub record Ready (links cells : List ℕ) (count total r : ℕ) (numbers fresh c
   pub low : count ≤ total
   pub high : total ≤ count + r
   pub places : length numbers ≡ textParts
-  pub room : length fresh ≡ textWords
   pub chained : Chained (heldAt links cells count fresh) chain total
   pub apart : distinct (numbered (heldAt links cells count fresh) 0 total) ≡ true
   pub known : (j : ℕ) → j < r → getD numbers j 0 < chainEntries
 
--- one record more
-pub record BoundOne (links cells : List ℕ) (count total : ℕ) (records : List ℕ) (r : ℕ) (numbers fresh : List ℕ) (total′ : ℕ) (numbers′ fresh′ chain′ : List ℕ) : Type 0 where
-  pub is : boundNow links cells count total′ (r + 1) numbers′ fresh′ ≡ bindOne (boundNow links cells count total r numbers fresh) (recordAt records r)
-  pub ready : Ready links cells count total′ (r + 1) numbers′ fresh′ chain′
+-- one record more: a new entry waits in the words of a record that is bound, and the records still to be bound stay
+pub record BoundOne (links cells : List ℕ) (count total r : ℕ) (numbers records : List ℕ) (total′ : ℕ) (numbers′ records′ chain′ : List ℕ) : Type 0 where
+  pub is : boundNow links cells count total′ (r + 1) numbers′ records′ ≡ bindOne (boundNow links cells count total r numbers records) (recordAt records r)
+  pub later : (j : ℕ) → r < j → recordAt records′ j ≡ recordAt records j
+  pub ready : Ready links cells count total′ (r + 1) numbers′ records′ chain′
 
 -- all n records
 pub record BoundAll (links cells : List ℕ) (count : ℕ) (records : List ℕ) (n total : ℕ) (numbers fresh : List ℕ) : Type 0 where
@@ -42,7 +42,6 @@ pub record BoundAll (links cells : List ℕ) (count : ℕ) (records : List ℕ) 
   pub low : count ≤ total
   pub high : total ≤ count + n
   pub places : length numbers ≡ textParts
-  pub room : length fresh ≡ textWords
 
 -- 01, refusal 13: entries held plus new forms exceed the table's
 abbrev pub isFull : ℕ → Bool

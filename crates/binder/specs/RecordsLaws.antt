@@ -56,19 +56,27 @@ module _ (fresh : List ℕ) (i : ℕ) (n : Node) where
         word-level (n .kind) (n .first) (n .second) (n .level) hk hf hs hl,
       )
 
-  pub fresh-other : (j : ℕ) → (j ≡ i → ⊥) → freshAt (withFresh fresh i n) j ≡ freshAt fresh j
-  unfolding freshAt withFresh
-  fresh-other j u =
-      rw (
-        getD-set-other (set fresh (2 * i) (wordOf (n .kind) (n .first) (n .second) (n .level))) (2 * i + 1) (2 * j) (n .key) 0 (λ e. u (omega arith)),
-        getD-set-other (set fresh (2 * i) (wordOf (n .kind) (n .first) (n .second) (n .level))) (2 * i + 1) (2 * j + 1) (n .key) 0 (λ e. u (omega arith)),
-        getD-set-other fresh (2 * i) (2 * j) (wordOf (n .kind) (n .first) (n .second) (n .level)) 0 (λ e. u (omega arith)),
-        getD-set-other fresh (2 * i) (2 * j + 1) (wordOf (n .kind) (n .first) (n .second) (n .level)) 0 (λ e. u (omega arith)),
-      )
+  word-other : (k : ℕ) → (k ≡ 2 * i → ⊥) → (k ≡ 2 * i + 1 → ⊥) → getD (withFresh fresh i n) k 0 ≡ getD fresh k 0
+  unfolding withFresh
+  word-other k u v =
+      let word = wordOf (n .kind) (n .first) (n .second) (n .level) in
+      getD-set-other (set fresh (2 * i) word) (2 * i + 1) k (n .key) 0 (λ e. v (omega arith)) ∙ getD-set-other fresh (2 * i) k word 0 (λ e. u (omega arith))
 
-pub fresh-size : (fresh : List ℕ) (i : ℕ) (n : Node) → length (withFresh fresh i n) ≡ length fresh
-unfolding withFresh
-fresh-size fresh i n = simp length-set
+  -- another place keeps its two words, as a node that waits and as a record
+  module _ (j : ℕ) (u : j ≡ i → ⊥) where
+    first-other : getD (withFresh fresh i n) (2 * j) 0 ≡ getD fresh (2 * j) 0
+    first-other = word-other (2 * j) (λ e. u (omega arith)) (λ e. omega arith)
+
+    key-other : getD (withFresh fresh i n) (2 * j + 1) 0 ≡ getD fresh (2 * j + 1) 0
+    key-other = word-other (2 * j + 1) (λ e. omega arith) (λ e. u (omega arith))
+
+    fresh-other : freshAt (withFresh fresh i n) j ≡ freshAt fresh j
+    unfolding freshAt
+    fresh-other = rw (first-other, key-other)
+
+    record-other : recordAt (withFresh fresh i n) j ≡ recordAt fresh j
+    unfolding recordAt
+    record-other = rw (first-other, key-other)
 
 module _ (links cells : List ℕ) (count : ℕ) where
   held-back : (fresh : List ℕ) (j : ℕ) → count ≤ j → heldAt links cells count fresh j ≡ freshAt fresh (j - count)
@@ -130,12 +138,12 @@ known-more numbers r v h l e k j m =
       | no most ↦ let q : j ≡ r = omega arith in let g = getD-set-same numbers r v 0 (omega arith) in rw q (omega arith)
     ]
 
-module _ (links cells : List ℕ) (count total : ℕ) (records : List ℕ) (r : ℕ) (numbers fresh chain : List ℕ)
-    (ready : Ready links cells count total r numbers fresh chain) (few : r < textParts)
+module _ (links cells : List ℕ) (count total r : ℕ) (numbers records chain : List ℕ)
+    (ready : Ready links cells count total r numbers records chain) (few : r < textParts)
     (m : Node) (qm : m ≡ relink (take r numbers) (recordAt records r))
-    (c : ℕ) (qc : c ≡ lastSame (heldAt links cells count fresh) m total) where
+    (c : ℕ) (qc : c ≡ lastSame (heldAt links cells count records) m total) where
   abbrev ν : ℕ → Node
-  ν = heldAt links cells count fresh
+  ν = heldAt links cells count records
 
   abbrev ns : List Node
   ns = numbered ν 0 total
@@ -144,7 +152,7 @@ module _ (links cells : List ℕ) (count total : ℕ) (records : List ℕ) (r : 
   found : index sameNode m ns ≡ cond (eqb c 0) total (c - 1)
   found = find-last ν m total (ready .apart) ∙ rw (← qc)
 
-  bind-as : bindOne (boundNow links cells count total r numbers fresh) (recordAt records r)
+  bind-as : bindOne (boundNow links cells count total r numbers records) (recordAt records r)
       ≡ bound (cond (ltb (cond (eqb c 0) total (c - 1)) total) ns (ns ++ (m ∷ []))) (take r numbers ++ (cond (eqb c 0) total (c - 1) ∷ []))
   unfolding bindOne
   bind-as = rw (← qm) (rw (found, length-numbered ν 0 total))
@@ -152,7 +160,7 @@ module _ (links cells : List ℕ) (count total : ℕ) (records : List ℕ) (r : 
   numbers-more : (v : ℕ) → take (r + 1) (set numbers r v) ≡ take r numbers ++ (v ∷ [])
   numbers-more v = let z = ready .places in rw (add-one r) (take-suc-set numbers r v (omega arith))
 
-  pub bound-old : 0 < c → BoundOne links cells count total records r numbers fresh total (set numbers r (c - 1)) fresh chain
+  pub bound-old : 0 < c → BoundOne links cells count total r numbers records total (set numbers r (c - 1)) records chain
   bound-old h =
       let l : c ≤ total = (let b = last-le ν m total in omega arith) in
       let a = ready .low in
@@ -160,12 +168,12 @@ module _ (links cells : List ℕ) (count total : ℕ) (records : List ℕ) (r : 
       let d = ready .few in
       record {
         is = rw (numbers-more (c - 1)) (sym (bind-as ∙ rw (ne-eqb c 0 (λ e. omega arith)) (rw (lt-ltb (c - 1) total (omega arith)))));
+        later = λ j l. refl;
         ready = record {
           few = d;
           low = a;
           high = omega arith;
           places = length-set numbers r (c - 1) ∙ ready .places;
-          room = ready .room;
           chained = ready .chained;
           apart = ready .apart;
           known = known-more numbers r (c - 1) (ready .known) (omega arith) (ready .places) few;
@@ -188,45 +196,53 @@ module _ (links cells : List ℕ) (count total : ℕ) (records : List ℕ) (r : 
   unfolding relink recordAt
   level-low = rw qm (omega arith)
 
-  pub bound-new : (h : ℕ) (fresh′ chain′ : List ℕ) → c ≤ 0 → h ≡ hashOf m → fresh′ ≡ withFresh fresh (total - count) m → chain′ ≡ linked chain h total
-      → BoundOne links cells count total records r numbers fresh (total + 1) (set numbers r total) fresh′ chain′
-  bound-new h fresh′ chain′ z qh qf qg =
+  pub bound-new : (h : ℕ) (records′ chain′ : List ℕ) → length records ≡ textWords → c ≤ 0 → h ≡ hashOf m → records′ ≡ withFresh records (total - count) m
+      → chain′ ≡ linked chain h total → BoundOne links cells count total r numbers records (total + 1) (set numbers r total) records′ chain′
+  bound-new h records′ chain′ y z qh qf qg =
       let a = ready .low in
       let b = ready .high in
       let d = ready .few in
-      let y = ready .room in
-      let last : heldAt links cells count fresh′ total ≡ m =
-      held-back links cells count fresh′ total a ∙ ap (λ (f : List ℕ). freshAt f (total - count)) qf ∙ fresh-same fresh (total - count) m kind-low first-low second-low level-low (omega arith) in
-      let old : (j : ℕ) → j < total → ν j ≡ heldAt links cells count fresh′ j =
-      λ j l. held-same links cells count fresh total m j a l ∙ ap (λ (f : List ℕ). heldAt links cells count f j) (sym qf) in
-      let more : numbered (heldAt links cells count fresh′) 0 (total + 1) ≡ ns ++ (m ∷ []) =
-      ap (numbered (heldAt links cells count fresh′) 0) (add-one total) ∙ numbered-last (heldAt links cells count fresh′) total
-      ∙ ap (λ (l : List Node). l ++ (heldAt links cells count fresh′ total ∷ [])) (sym (numbered-agree ν (heldAt links cells count fresh′) 0 total (λ j l. old j (omega arith))))
+      let last : heldAt links cells count records′ total ≡ m =
+      held-back links cells count records′ total a ∙ ap (λ (f : List ℕ). freshAt f (total - count)) qf ∙ fresh-same records (total - count) m kind-low first-low second-low level-low (omega arith) in
+      let old : (j : ℕ) → j < total → ν j ≡ heldAt links cells count records′ j =
+      λ j l. held-same links cells count records total m j a l ∙ ap (λ (f : List ℕ). heldAt links cells count f j) (sym qf) in
+      let more : numbered (heldAt links cells count records′) 0 (total + 1) ≡ ns ++ (m ∷ []) =
+      ap (numbered (heldAt links cells count records′) 0) (add-one total) ∙ numbered-last (heldAt links cells count records′) total
+      ∙ ap (λ (l : List Node). l ++ (heldAt links cells count records′ total ∷ [])) (sym (numbered-agree ν (heldAt links cells count records′) 0 total (λ j l. old j (omega arith))))
       ∙ ap (λ (x : Node). ns ++ (x ∷ [])) last in
       let none : eqb c 0 ≡ true = eq-eqb c 0 (omega arith) in
       record {
         is = rw (more, numbers-more total) (sym (bind-as ∙ rw none (rw (le-ltb total total (omega arith)))));
+        later = λ j l. ap (λ (w : List ℕ). recordAt w j) qf ∙ record-other records (total - count) m j (λ e. omega arith);
         ready = record {
           few = d;
           low = omega arith;
           high = omega arith;
           places = length-set numbers r total ∙ ready .places;
-          room = ap length qf ∙ fresh-length ∙ y;
           chained =
-              chained-more (heldAt links cells count fresh′) chain chain′ total h
-              (chained-agree ν (heldAt links cells count fresh′) chain total (ready .chained) old)
+              chained-more (heldAt links cells count records′) chain chain′ total h
+              (chained-agree ν (heldAt links cells count records′) chain total (ready .chained) old)
               qg (qh ∙ ap hashOf (sym last)) (hash-low h m qh) (omega arith);
           apart = ap distinct more ∙ distinct-snoc m ns ∙ rw (ready .apart, has-last ν m total, ← qc) (rw none);
           known = known-more numbers r total (ready .known) (omega arith) (ready .places) few;
         };
       }
-    where
-      fresh-length : length (withFresh fresh (total - count) m) ≡ length fresh
-      fresh-length = fresh-size fresh (total - count) m
 
 bind-none : (b : Bound) → bindAll b [] ≡ b
 unfolding bindAll
 bind-none b = refl
+
+-- numberings that agree from here on
+numbered-from : (ν μ : ℕ → Node) (a b k : ℕ) → ((j : ℕ) → ν (a + j) ≡ μ (b + j)) → numbered ν a k ≡ numbered μ b k
+unfolding numbered
+numbered-from ν μ a b zero g = refl
+numbered-from ν μ a b (suc k) g =
+    let p : a + 0 ≡ a = omega arith in
+    let q : b + 0 ≡ b = omega arith in
+    rw (
+      rw (p, q) at (g 0),
+      numbered-from ν μ (suc a) (suc b) k (λ j. let u : suc a + j ≡ a + suc j = omega arith in let v : suc b + j ≡ b + suc j = omega arith in rw (u, v) (g (suc j))),
+    )
 
 -- the loop over the records
 module _ (links cells : List ℕ) (count : ℕ) (records : List ℕ) (n : ℕ) where
@@ -236,45 +252,43 @@ module _ (links cells : List ℕ) (count : ℕ) (records : List ℕ) (n : ℕ) w
   same-start : (fresh : List ℕ) → numbered (heldAt links cells count fresh) 0 count ≡ numbered (nodeAt links cells) 0 count
   same-start fresh = numbered-agree (heldAt links cells count fresh) (nodeAt links cells) 0 count (λ j l. held-front links cells count fresh j (omega arith))
 
-  pub ready-start : (numbers fresh chain : List ℕ) → count ≤ tableEntries → length numbers ≡ textParts → length fresh ≡ textWords
+  pub ready-start : (numbers fresh chain : List ℕ) → count ≤ tableEntries → length numbers ≡ textParts
       → Chained (heldAt links cells count fresh) chain count
       → distinct (numbered (nodeAt links cells) 0 count) ≡ true → Ready links cells count count 0 numbers fresh chain
-  ready-start numbers fresh chain h p q ch d =
-      record { few = h; low = omega arith; high = omega arith; places = p; room = q; chained = ch; apart = rw (same-start fresh) d; known = λ j l. absurd (omega arith) }
+  ready-start numbers fresh chain h p ch d =
+      record { few = h; low = omega arith; high = omega arith; places = p; chained = ch; apart = rw (same-start fresh) d; known = λ j l. absurd (omega arith) }
 
-  pub bind-start : (numbers fresh : List ℕ) → bindAll (boundNow links cells count count 0 numbers fresh) (numbered (recordAt records) 0 (n - 0)) ≡ whole
-  bind-start numbers fresh = rw (sub-zero, same-start fresh)
+  pub bind-start : (numbers : List ℕ) → bindAll (boundNow links cells count count 0 numbers records) (numbered (recordAt records) 0 (n - 0)) ≡ whole
+  bind-start numbers = rw (sub-zero, same-start records)
 
-  module _ (total r : ℕ) (numbers fresh chain : List ℕ)
-      (all : bindAll (boundNow links cells count total r numbers fresh) (numbered (recordAt records) r (n - r)) ≡ whole) where
-    pub bind-go : (total′ : ℕ) (numbers′ fresh′ chain′ : List ℕ) → BoundOne links cells count total records r numbers fresh total′ numbers′ fresh′ chain′ → r < n
-        → bindAll (boundNow links cells count total′ (r + 1) numbers′ fresh′) (numbered (recordAt records) (r + 1) (n - (r + 1))) ≡ whole
+  module _ (total r : ℕ) (numbers fresh : List ℕ)
+      (all : bindAll (boundNow links cells count total r numbers fresh) (numbered (recordAt fresh) r (n - r)) ≡ whole) where
+    pub bind-go : (total′ : ℕ) (numbers′ fresh′ chain′ : List ℕ) → BoundOne links cells count total r numbers fresh total′ numbers′ fresh′ chain′ → r < n
+        → bindAll (boundNow links cells count total′ (r + 1) numbers′ fresh′) (numbered (recordAt fresh′) (r + 1) (n - (r + 1))) ≡ whole
     unfolding bindAll numbered
-    bind-go total′ numbers′ fresh′ chain′ b h = rw (b .is) (sym (rw (left-suc n r h, add-one r)) ∙ all)
+    bind-go total′ numbers′ fresh′ chain′ b h =
+        let same : numbered (recordAt fresh′) (r + 1) (n - (r + 1)) ≡ numbered (recordAt fresh) (r + 1) (n - (r + 1)) =
+        numbered-from (recordAt fresh′) (recordAt fresh) (r + 1) (r + 1) (n - (r + 1)) (λ j. b .later (r + 1 + j) (omega arith)) in
+        rw (b .is, same) (sym (rw (left-suc n r h, add-one r)) ∙ all)
 
-    pub bind-end : Ready links cells count total r numbers fresh chain → r ≤ n → n ≤ r → BoundAll links cells count records n total numbers fresh
-    bind-end ready h k =
+    pub bind-end : (chain : List ℕ) → Ready links cells count total r numbers fresh chain → r ≤ n → n ≤ r → BoundAll links cells count records n total numbers fresh
+    bind-end chain ready h k =
         let q : r ≡ n = omega arith in
         let a = ready .high in
-        record { is = ap (λ (k : ℕ). boundNow links cells count total k numbers fresh) (sym q) ∙ done ∙ all; low = ready .low; high = omega arith; places = ready .places; room = ready .room }
+        record { is = ap (λ (k : ℕ). boundNow links cells count total k numbers fresh) (sym q) ∙ done ∙ all; low = ready .low; high = omega arith; places = ready .places }
       where
-        no-more : (b : Bound) (k : ℕ) → k ≡ 0 → bindAll b (numbered (recordAt records) r k) ≡ b
-        no-more b k e = rw (e, numbered-zero (recordAt records) r) (bind-none b)
+        no-more : (b : Bound) (k : ℕ) → k ≡ 0 → bindAll b (numbered (recordAt fresh) r k) ≡ b
+        no-more b k e = rw (e, numbered-zero (recordAt fresh) r) (bind-none b)
 
-        done : boundNow links cells count total r numbers fresh ≡ bindAll (boundNow links cells count total r numbers fresh) (numbered (recordAt records) r (n - r))
+        done : boundNow links cells count total r numbers fresh ≡ bindAll (boundNow links cells count total r numbers fresh) (numbered (recordAt fresh) r (n - r))
         done = sym (no-more (boundNow links cells count total r numbers fresh) (n - r) (omega arith))
 
 -- what binding leaves: the entries held, then those that wait; their number; and the numbers of the records
 numbered-split : (ν μ : ℕ → Node) (i c k : ℕ) → ((j : ℕ) → ν (i + c + j) ≡ μ j) → numbered ν i (c + k) ≡ numbered ν i c ++ numbered μ 0 k
 unfolding numbered
-numbered-split ν μ i zero k h = let z : 0 + k ≡ k = omega arith in rw z (shift i 0 k (λ j. let q : i + j ≡ i + 0 + j = omega arith in let z : 0 + j ≡ j = omega arith in rw (q, z) (h j)))
-  where
-    shift : (a b k : ℕ) → ((j : ℕ) → ν (a + j) ≡ μ (b + j)) → numbered ν a k ≡ numbered μ b k
-    shift a b zero g = refl
-    shift a b (suc k) g =
-        let p : a + 0 ≡ a = omega arith in
-        let q : b + 0 ≡ b = omega arith in
-        rw (rw (p, q) at (g 0), shift (suc a) (suc b) k (λ j. let u : suc a + j ≡ a + suc j = omega arith in let v : suc b + j ≡ b + suc j = omega arith in rw (u, v) (g (suc j))))
+numbered-split ν μ i zero k h =
+    let z : 0 + k ≡ k = omega arith in
+    rw z (numbered-from ν μ i 0 k (λ j. let q : i + j ≡ i + 0 + j = omega arith in let z : 0 + j ≡ j = omega arith in rw (q, z) (h j)))
 numbered-split ν μ i (suc c) k h =
     let z : suc c + k ≡ suc (c + k) = omega arith in
     rw z (ap (λ (l : List Node). ν i ∷ l) (numbered-split ν μ (suc i) c k (λ j. let q : suc i + c + j ≡ i + suc c + j = omega arith in rw q (h j))))
@@ -304,8 +318,8 @@ module _ (links cells : List ℕ) (count : ℕ) (records : List ℕ) (n total : 
   pub bound-total : total ≡ length (after .nodes)
   bound-total = sym (length-numbered (heldAt links cells count fresh) 0 total) ∙ ap (λ (b : Bound). length (b .nodes)) (all .is)
 
-pub ready-next : (links cells : List ℕ) (count total : ℕ) (records : List ℕ) (r : ℕ) (numbers fresh : List ℕ) (total′ : ℕ) (numbers′ fresh′ chain′ : List ℕ)
-    → BoundOne links cells count total records r numbers fresh total′ numbers′ fresh′ chain′ → Ready links cells count total′ (r + 1) numbers′ fresh′ chain′
-ready-next links cells count total records r numbers fresh total′ numbers′ fresh′ chain′ b = b .ready
+pub ready-next : (links cells : List ℕ) (count total r : ℕ) (numbers records : List ℕ) (total′ : ℕ) (numbers′ records′ chain′ : List ℕ)
+    → BoundOne links cells count total r numbers records total′ numbers′ records′ chain′ → Ready links cells count total′ (r + 1) numbers′ records′ chain′
+ready-next links cells count total r numbers records total′ numbers′ records′ chain′ b = b .ready
 
-pub ruleset binding = (link-none, link-known, link-late, relink-is, bound-old, bound-new, ready-start, bind-start, bind-go, bind-end, ready-next)
+pub ruleset binding = (link-none, link-known, link-late, relink-is, bound-old, bound-new, ready-start, bind-start, bind-end, ready-next)

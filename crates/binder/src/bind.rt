@@ -38,11 +38,11 @@ fn relinked(numbers: &[u16; Text::PARTS], r: u16, link: u16) -> u16
     1
 }
 
-// Record r, its links those of entries.
+// Record r, its links those of entries. The array has all its words, which reading it tells.
 fn relink(records: &[u64; TEXT_WORDS], numbers: &[u16; Text::PARTS], r: u16) -> Shape
     requires { ⌜ (r ≤ textParts) × (length (now numbers) ≡ textParts) ⌝ }
     requires { ⌜ ((j : ℕ) → j < r → getD (now numbers) j 0 < chainEntries) ⌝ }
-    ensures { λ x. ⌜ shaped x ≡ relink (take r (now (numbers .entry))) (recordAt (now (records .entry)) r) ⌝ }
+    ensures { λ x. ⌜ (shaped x ≡ relink (take r (now (numbers .entry))) (recordAt (now (records .entry)) r)) × (length (now (records .entry)) ≡ textWords) ⌝ }
 {
     let x = record_at(records, r);
     Shape {
@@ -54,67 +54,56 @@ fn relink(records: &[u64; TEXT_WORDS], numbers: &[u16; Text::PARTS], r: u16) -> 
     }
 }
 
-// Record r is bound: found, or put behind the entries that wait. The answer is how many entries there are then.
+// Record r is bound: found, or put behind the entries that wait. Of these there are at most r, so that the new one is put over a record that is
+// bound. The answer is how many entries there are then.
 fn bind_one(
     links: &[u16],
     cells: &[u64],
     count: u16,
     total: u16,
-    records: &[u64; TEXT_WORDS],
+    records: &mut [u64; TEXT_WORDS],
     r: u16,
     numbers: &mut [u16; Text::PARTS],
-    fresh: &mut [u64; TEXT_WORDS],
     chain: &mut [u16; CHAIN_CELLS],
 ) -> u16
-    requires { ⌜ Ready (now links) (now cells) count total r (now numbers) (now fresh) (now chain) ⌝ }
+    requires { ⌜ Ready (now links) (now cells) count total r (now numbers) (now records) (now chain) ⌝ }
     requires { ⌜ r < textParts ⌝ }
-    ensures { λ t. ⌜ BoundOne (now (links .entry)) (now (cells .entry)) count total
-        (now (records .entry)) r (now (numbers .entry)) (now (fresh .entry))
-        t (now (numbers .exit)) (now (fresh .exit)) (now (chain .exit)) ⌝ }
+    ensures { λ t. ⌜ BoundOne (now (links .entry)) (now (cells .entry)) count total r (now (numbers .entry)) (now (records .entry))
+        t (now (numbers .exit)) (now (records .exit)) (now (chain .exit)) ⌝ }
 {
     let x = relink(records, numbers, r);
     let h = hash(x);
-    let c = seek(links, cells, count, fresh, chain, total, h, x);
+    let c = seek(links, cells, count, records, chain, total, h, x);
     if 0 < c {
         numbers[r as usize] = c - 1;
         return total;
     }
-    add_fresh(fresh, total - count, x);
+    add_fresh(records, total - count, x);
     enter(chain, h, total);
     numbers[r as usize] = total;
     total + 1
 }
 
-// The n records are bound: each has its entry's number, the entries to append wait, and the answer is how many entries there are then.
+// The n records are bound: each has its entry's number, the entries to append wait in place of the records, and the answer is how many entries
+// there are then.
 pub fn bind(
     links: &[u16],
     cells: &[u64],
     count: u16,
-    records: &[u64; TEXT_WORDS],
+    records: &mut [u64; TEXT_WORDS],
     n: u16,
     numbers: &mut [u16; Text::PARTS],
-    fresh: &mut [u64; TEXT_WORDS],
 ) -> u16
-    requires { ⌜ (count ≤ tableEntries) × (n ≤ textParts) × (length (now numbers) ≡ textParts) × (length (now fresh) ≡ textWords) ⌝ }
+    requires { ⌜ (count ≤ tableEntries) × (n ≤ textParts) × (length (now numbers) ≡ textParts) ⌝ }
     requires { ⌜ distinct (numbered (nodeAt (now links) (now cells)) 0 count) ≡ true ⌝ }
-    ensures { λ t. ⌜ BoundAll (now (links .entry)) (now (cells .entry)) count (now (records .entry)) n t (now (numbers .exit)) (now (fresh .exit)) ⌝ }
+    ensures { λ t. ⌜ BoundAll (now (links .entry)) (now (cells .entry)) count (now (records .entry)) n t (now (numbers .exit)) (now (records .exit)) ⌝ }
 {
     let mut chain = [0u16; CHAIN_CELLS];
-    enter_all(links, cells, count, fresh, &mut chain);
+    enter_all(links, cells, count, records, &mut chain);
     let mut total = count;
     let mut r: u16 = 0;
     while r < n {
-        total = bind_one(
-            links,
-            cells,
-            count,
-            total,
-            records,
-            r,
-            numbers,
-            fresh,
-            &mut chain,
-        );
+        total = bind_one(links, cells, count, total, records, r, numbers, &mut chain);
         r += 1;
     }
     total

@@ -127,7 +127,8 @@ fn bound_number(total: u16, last: u16) -> u64
     65536 * total as u64 + last as u64
 }
 
-// Binds n records to the first `count` entries: how many entries there are then, and the last record's.
+// Binds n records to the first `count` entries: how many entries there are then, and the last record's. The entries to append are put over a copy
+// of the records.
 #[no_mangle]
 pub extern "C" fn measured_bind(
     links: &[u16],
@@ -140,8 +141,8 @@ pub extern "C" fn measured_bind(
 {
     if can_bind(links, cells, count, n) {
         let mut numbers = [0u16; Text::PARTS];
-        let mut fresh = [0u64; TEXT_WORDS];
-        let total = bind::bind(links, cells, count, records, n, &mut numbers, &mut fresh);
+        let mut copied = *records;
+        let total = bind::bind(links, cells, count, &mut copied, n, &mut numbers);
         return bound_number(total, at16(&numbers, n as usize - 1));
     }
     0

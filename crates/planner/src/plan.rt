@@ -30,7 +30,7 @@ pub struct Plan {
 }
 
 // Reads the text and binds it to the `count` entries held, whether or not there is room for the new ones: `parts` gets the record of each part,
-// `numbers` the entry of each record, and `fresh` the entries to append.
+// `numbers` the entry of each record, and `fresh` the records and, in their place, the entries to append.
 fn bind_text(
     text: &[u8],
     links: &[u16],
@@ -46,8 +46,7 @@ fn bind_text(
         → Binds (memory readings heads (now (links .entry)) (now (cells .entry)))
         (now (text .entry)) p (now (parts .exit)) (now (numbers .exit)) (now (fresh .exit))) ⌝ }
 {
-    let mut records = [0u64; TEXT_WORDS];
-    match read(text, &mut records, parts) {
+    match read(text, fresh, parts) {
         Read::Refused { number, place } => Plan {
             number,
             place,
@@ -60,7 +59,7 @@ fn bind_text(
             records: size,
             root,
         } => {
-            let total = bind(links, cells, count, &records, size, numbers, fresh);
+            let total = bind(links, cells, count, fresh, size, numbers);
             Plan {
                 number: 0,
                 place: 0,

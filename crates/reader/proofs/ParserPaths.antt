@@ -30,9 +30,9 @@ use Rattle.lexer.specs.declared.tokens.Lexed.{Lexed}
 use Rattle.reader.specs.declared.answer.Read.{Read}
 use Rattle.reader.specs.declared.answer.Read.the-variants.{Done, Refused}
 use Rattle.lexer.specs.Lexing.{lexAt, tokensFrom}
-use Rattle.steps.specs.Cursors.{cursorOf, stateOf, refusing, passing}
-use Rattle.steps.specs.CursorsLaws.{head-place, at-kind, not-kind}
-use Rattle.steps.specs.Scratch.{Wrote, WroteFor, NameAhead, NumberAhead, ShutAhead, Recorded, callOf}
+use Rattle.steps.specs.Cursors.{cursorOf, stateOf, refusedAt, passedOrRefused, passing}
+use Rattle.steps.specs.CursorsLaws.{head-place, at-kind, not-kind, refused-here, judged-here}
+use Rattle.steps.specs.Scratch.{Wrote, WroteFor, WroteCall, NameAhead, NumberAhead, ShutAhead, Recorded, callOf}
 use Rattle.reader.specs.Parsing.{Ready, ReadyAt, Parses, Continues}
 use Rattle.reader.specs.Results.{answerOf, noBinders, ReadsInto}
 
@@ -63,6 +63,9 @@ module _ (text : List ℕ) where
     pub not-ahead : (k : ℕ) → (x .kind ≡ k → ⊥) → C.isAt k (tokensFrom text (c .at)) ≡ false
     not-ahead k q = not-kind text (c .at) x e k q
 
+  ahead-of : {k : ℕ} {x : Lexed} {m : Mode} {c : Cursor} {R P S : List ℕ} → ReadyAt k x m text c R P S → C.isAt k (tokensFrom text (c .at)) ≡ true
+  ahead-of {k} {x} {c = c} f = ahead c x (f .next) k (f .kind)
+
   -- ---- what any call leaves
   module _ (m : Mode) (c a : Cursor) (R P S R′ P′ S′ : List ℕ) (h : Parses m text c R P S a R′ P′ S′) (z : a .number ≡ 0) where
     pub read-less : tokens-left a + passes m ≤ tokens-left c
@@ -91,22 +94,21 @@ module _ (text : List ℕ) where
         }
 
   -- ---- fewer tokens are left
-  pub shut-less : (k : Call) (c a : Cursor) (R P R′ P′ : List ℕ) (x : Lexed) → x ≡ lexAt text (c .at) → x .kind ≡ 8 → WroteFor text (D.readShut end (callOf k)) c R P a R′ P′
+  pub shut-less : (k : Call) (c a : Cursor) (R P R′ P′ : List ℕ) (x : Lexed) → x ≡ lexAt text (c .at) → x .kind ≡ 8 → WroteCall x k c R P a R′ P′
       → a .number ≡ 0 → tokens-left a + 1 ≤ tokens-left c
-  shut-less k c a R P R′ P′ x e q h z = PathsCalls.less-shut end 0 0 (stateOf text c R P []) (callOf k) (ahead c x e 8 q) (h .same []) (eq-eqb (a .number) 0 z)
+  shut-less k c a R P R′ P′ x e q h z = PathsCalls.less-shut end 0 0 (stateOf text c R P []) (callOf k) (ahead c x e 8 q) (h .same text [] e) (eq-eqb (a .number) 0 z)
 
-  pub comma-less : (more n : ℕ) (c h : Cursor) (x : Lexed) → x ≡ lexAt text (c .at) → x .kind ≡ 9 → n ≡ C.atComma more → cursorOf text h ≡ passing text n c
+  pub comma-less : (more n : ℕ) (c h : Cursor) (x : Lexed) → x ≡ lexAt text (c .at) → x .kind ≡ 9 → n ≡ C.atComma more → h ≡ passedOrRefused x n c
       → h .number ≡ 0 → tokens-left h + 1 ≤ tokens-left c
   comma-less more n c h x e q o p z =
       PathsCalls.less-comma end 0 0 (stateOf text c [] [] []) (record { kind = 0; takes = more; receiver = 0; place = 0; argument = 0 }) (cursorOf text h) (ahead c x e 9 q)
-      (p ∙ ap (λ (j : ℕ). passing text j c) o) (eq-eqb (h .number) 0 z)
+      (judged-here text c x e h n _ o p) (eq-eqb (h .number) 0 z)
 
   pub need-less : (k : ℕ) (v a : Cursor) → 0 < k → cursorOf text a ≡ C.need end k (cursorOf text v) → a .number ≡ 0 → tokens-left a + 1 ≤ tokens-left v
   need-less k v a l g z = subst (Moved 1 0 (cursorOf text v)) (sym g) (moved-need end k (cursorOf text v) l) .went z .0
 
-  refusing-some : (n : ℕ) (c r : Cursor) → cursorOf text r ≡ refusing text (suc n) c → r .number ≡ 0 → ⊥
-  unfolding C.refuse
-  refusing-some n c r g z = let e : r .number ≡ suc n = ap (λ (v : C.Cursor). v .number) g in omega arith
+  refused-some : (c r : Cursor) (place : ℕ) → r ≡ refusedAt c 5 place → r .number ≡ 0 → ⊥
+  refused-some c r place g z = let e : r .number ≡ 5 = ap (λ (v : Cursor). v .number) g in omega arith
 
   -- ---- arguments and more
   module _ (marks depth : ℕ) (k : Call) (c : Cursor) (R P S : List ℕ) where
@@ -135,18 +137,20 @@ module _ (text : List ℕ) where
         let q = o .place in
         record { count = omega arith; place = omega arith; kind = o .kind; receiver = omega arith; argument = omega arith }
 
-    module _ (x : Lexed) (a : Cursor) (R′ P′ : List ℕ) (e : x ≡ lexAt text (c .at)) (q : x .kind ≡ 8)
-        (h : WroteFor text (D.readShut end (callOf k)) c R P a R′ P′) where
+    module _ (x : Lexed) (a : Cursor) (R′ P′ : List ℕ) (e : x ≡ lexAt text (c .at)) (q : x .kind ≡ 8) (h : WroteCall x k c R P a R′ P′) where
+      shut-read : stateOf text a R′ P′ S ≡ D.readShut end (callOf k) s
+      shut-read = h .same text S e
+
       not-refused : a .number ≡ 0 → D.readShut end (callOf k) s .cursor .number ≡ 0
-      not-refused z = sym (ap (λ (u : State). u .cursor .number) (h .same S)) ∙ z
+      not-refused z = sym (ap (λ (u : State). u .cursor .number) shut-read) ∙ z
 
       pub arguments-none : Ready (inArguments (callOf k) marks depth) text c R P S → Continues (inArguments (callOf k) marks depth) marks depth text c R P S a R′ P′ S
       arguments-none f =
           let b = ahead c x e 8 q in
           record {
-            stops = λ z. record { reads = PathsCalls.none-refused end marks depth s (callOf k) b (h .same S) (ne-eqb (a .number) 0 z) };
-            goes = λ z r R″ P″ S″ y. record { reads = PathsCalls.none-read end marks depth s (callOf k) b (h .same S) (eq-eqb (a .number) 0 z) (y .reads) };
-            fit = λ z. record { fit = subst (Fit (inCalls marks depth)) (sym (h .same S)) (G.fit-shut-arguments end marks depth s (callOf k) (f .fit) b (not-refused z)) };
+            stops = λ z. record { reads = PathsCalls.none-refused end marks depth s (callOf k) b shut-read (ne-eqb (a .number) 0 z) };
+            goes = λ z r R″ P″ S″ y. record { reads = PathsCalls.none-read end marks depth s (callOf k) b shut-read (eq-eqb (a .number) 0 z) (y .reads) };
+            fit = λ z. record { fit = subst (Fit (inCalls marks depth)) (sym shut-read) (G.fit-shut-arguments end marks depth s (callOf k) (f .fit) b (not-refused z)) };
             less = shut-less k c a R P R′ P′ x e q h;
           }
 
@@ -154,9 +158,9 @@ module _ (text : List ℕ) where
       more-last f =
           let b = ahead c x e 8 q in
           record {
-            stops = λ z. record { reads = PathsCalls.last-refused end marks depth s (callOf k) b (h .same S) (ne-eqb (a .number) 0 z) };
-            goes = λ z r R″ P″ S″ y. record { reads = PathsCalls.last-read end marks depth s (callOf k) b (h .same S) (eq-eqb (a .number) 0 z) (y .reads) };
-            fit = λ z. record { fit = subst (Fit (inCalls marks depth)) (sym (h .same S)) (G.fit-shut-more end marks depth s (callOf k) (f .fit) b (not-refused z)) };
+            stops = λ z. record { reads = PathsCalls.last-refused end marks depth s (callOf k) b shut-read (ne-eqb (a .number) 0 z) };
+            goes = λ z r R″ P″ S″ y. record { reads = PathsCalls.last-read end marks depth s (callOf k) b shut-read (eq-eqb (a .number) 0 z) (y .reads) };
+            fit = λ z. record { fit = subst (Fit (inCalls marks depth)) (sym shut-read) (G.fit-shut-more end marks depth s (callOf k) (f .fit) b (not-refused z)) };
             less = shut-less k c a R P R′ P′ x e q h;
           }
 
@@ -187,18 +191,18 @@ module _ (text : List ℕ) where
             })
 
     -- another argument
-    pub more-refused : (x : Lexed) (r : Cursor) → x ≡ lexAt text (c .at) → (x .kind ≡ 8 → ⊥) → (x .kind ≡ 9 → ⊥) → cursorOf text r ≡ refusing text 5 c
+    pub more-refused : (x : Lexed) (r : Cursor) → x ≡ lexAt text (c .at) → (x .kind ≡ 8 → ⊥) → (x .kind ≡ 9 → ⊥) → r ≡ refusedAt c 5 (x .start)
         → Continues (inMore (callOf k) marks depth) marks depth text c R P S r R P S
     more-refused x r e p q g =
-        stopped (refusing-some 4 c r g)
+        stopped (refused-some c r _ g)
         (record {
-          reads = subst (λ (v : C.Cursor). Reads end (inMore (callOf k) marks depth) s (moved s v)) (sym g)
+          reads = subst (λ (v : C.Cursor). Reads end (inMore (callOf k) marks depth) s (moved s v)) (sym (refused-here text c x e r 5 g))
               (PathsCalls.more-refused end marks depth s (callOf k) (not-ahead c x e 8 p) (not-ahead c x e 9 q));
         })
 
-    module _ (x : Lexed) (n : ℕ) (h : Cursor) (e : x ≡ lexAt text (c .at)) (q : x .kind ≡ 9) (o : n ≡ C.atComma (k .takes)) (p : cursorOf text h ≡ passing text n c) where
+    module _ (x : Lexed) (n : ℕ) (h : Cursor) (e : x ≡ lexAt text (c .at)) (q : x .kind ≡ 9) (o : n ≡ C.atComma (k .takes)) (p : h ≡ passedOrRefused x n c) where
       comma-is : cursorOf text h ≡ passing text (C.atComma (k .takes)) c
-      comma-is = p ∙ ap (λ (j : ℕ). passing text j c) o
+      comma-is = judged-here text c x e h n _ o p
 
       pub comma-refused : (h .number ≡ 0 → ⊥) → Continues (inMore (callOf k) marks depth) marks depth text c R P S h R P S
       comma-refused z = stopped z (record { reads = PathsCalls.comma-refused end marks depth s (callOf k) (cursorOf text h) (ahead c x e 9 q) comma-is (ne-eqb (h .number) 0 z) })
@@ -243,53 +247,50 @@ module _ (text : List ℕ) where
     abbrev here : State
     here = stateOf text c R P S
 
-    module _ (h : Cursor) (f : ReadyAt 6 (inCalls marks depth) text c R P S) (p : cursorOf text h ≡ C.callHead end marks (cursorOf text c)) where
+    module _ {x : Lexed} (h : Cursor) (f : ReadyAt 6 x (inCalls marks depth) text c R P S) (p : cursorOf text h ≡ C.callHead end marks (cursorOf text c)) where
       pub call-head-refused : (h .number ≡ 0 → ⊥) → Continues (inCalls marks depth) marks depth text c R P S h R P S
-      call-head-refused z = stopped z (record { reads = PathsCalls.call-head-refused end marks depth here (cursorOf text h) (f .ahead) p (ne-eqb (h .number) 0 z) })
+      call-head-refused z = stopped z (record { reads = PathsCalls.call-head-refused end marks depth here (cursorOf text h) (ahead-of f) p (ne-eqb (h .number) 0 z) })
 
       module _ (z : h .number ≡ 0) where
         pub call-less : tokens-left h + 3 ≤ tokens-left c
-        call-less = PathsCalls.less-call end marks depth here (cursorOf text h) (f .ahead) p (eq-eqb (h .number) 0 z)
+        call-less = PathsCalls.less-call end marks depth here (cursorOf text h) (ahead-of f) p (eq-eqb (h .number) 0 z)
 
         pub call-fit : Ready (inArguments (D.newCall (cursorOf text c) (cursorOf text h)) marks depth) text h R P S
         call-fit =
             record {
               fit = subst (λ (v : C.Cursor). Fit (inArguments (D.newCall (cursorOf text c) v) marks depth) (moved here v)) (sym p)
-                  (F.fit-call end marks depth here (f .fit) (f .ahead) (sym (ap (λ (v : C.Cursor). v .number) p) ∙ z));
+                  (F.fit-call end marks depth here (f .fit) (ahead-of f) (sym (ap (λ (v : C.Cursor). v .number) p) ∙ z));
             }
 
         pub call-read : {r : Cursor} {R′ P′ S′ : List ℕ} → Continues (inArguments (D.newCall (cursorOf text c) (cursorOf text h)) marks depth) marks depth text h R P S r R′ P′ S′
             → Continues (inCalls marks depth) marks depth text c R P S r R′ P′ S′
         call-read =
             behind (omega (arith, call-less))
-            (λ r R″ P″ S″ y. record { reads = PathsCalls.call-read end marks depth here (cursorOf text h) (f .ahead) p (eq-eqb (h .number) 0 z) (y .reads) })
+            (λ r R″ P″ S″ y. record { reads = PathsCalls.call-read end marks depth here (cursorOf text h) (ahead-of f) p (eq-eqb (h .number) 0 z) (y .reads) })
 
-    -- ---- a chain of calls, from c up to a: what the calls from a on give, those from c on give
-    pub record Chain (a : Cursor) (R′ P′ S′ : List ℕ) : Type 0 where
+    -- ---- a chain of calls, from c up to a, where the token x is next: what the calls from a on give, those from c on give
+    pub record Chain (x : Lexed) (a : Cursor) (R′ P′ S′ : List ℕ) : Type 0 where
+      pub next : x ≡ lexAt text (a .at)
       pub goes : (r : Cursor) (R″ P″ S″ : List ℕ) → Parses (inCalls marks depth) text a R′ P′ S′ r R″ P″ S″ → Parses (inCalls marks depth) text c R P S r R″ P″ S″
       pub fit : Ready (inCalls marks depth) text a R′ P′ S′
       pub less : tokens-left a ≤ tokens-left c
 
-    pub chain-none : Ready (inCalls marks depth) text c R P S → Chain c R P S
-    chain-none f = record { goes = λ _ _ _ _ y. y; fit = f; less = omega arith }
+    pub chain-none : {x : Lexed} → x ≡ lexAt text (c .at) → Ready (inCalls marks depth) text c R P S → Chain x c R P S
+    chain-none e f = record { next = e; goes = λ _ _ _ _ y. y; fit = f; less = omega arith }
 
-    module _ (a : Cursor) (R′ P′ S′ : List ℕ) (h : Chain a R′ P′ S′) (t : Bool) (e : t ≡ C.isAt 6 (tokensFrom text (a .at))) where
-      pub chain-over : t ≡ false → Parses (inCalls marks depth) text c R P S a R′ P′ S′
-      chain-over q = h .goes a R′ P′ S′ (record { reads = PathsCalls.calls-over end marks depth (stateOf text a R′ P′ S′) (sym e ∙ q) })
+    pub chain-over : {x : Lexed} (a : Cursor) (R′ P′ S′ : List ℕ) → Chain x a R′ P′ S′ → (x .kind ≡ 6 → ⊥) → Parses (inCalls marks depth) text c R P S a R′ P′ S′
+    chain-over a R′ P′ S′ h q = h .goes a R′ P′ S′ (record { reads = PathsCalls.calls-over end marks depth (stateOf text a R′ P′ S′) (not-ahead a _ (h .next) 6 q) })
 
-      pub chain-ready : t ≡ true → ReadyAt 6 (inCalls marks depth) text a R′ P′ S′
-      chain-ready q = record { ahead = sym e ∙ q; fit = h .fit .fit }
-
-    module _ (a : Cursor) (R′ P′ S′ : List ℕ) (h : Chain a R′ P′ S′) (b : Cursor) (R″ P″ S″ : List ℕ)
+    module _ {x : Lexed} (a : Cursor) (R′ P′ S′ : List ℕ) (h : Chain x a R′ P′ S′) (b : Cursor) (R″ P″ S″ : List ℕ)
         (k : Continues (inCalls marks depth) marks depth text a R′ P′ S′ b R″ P″ S″) where
       pub chain-refused : (b .number ≡ 0 → ⊥) → Parses (inCalls marks depth) text c R P S b R″ P″ S″
       chain-refused z = h .goes b R″ P″ S″ (k .stops z)
 
-      pub chain-on : b .number ≡ 0 → Chain b R″ P″ S″
-      chain-on z =
+      pub chain-on : {y : Lexed} → y ≡ lexAt text (b .at) → b .number ≡ 0 → Chain y b R″ P″ S″
+      chain-on e z =
           let l = h .less in
           let m = k .less z in
-          record { goes = λ r R₁ P₁ S₁ y. h .goes r R₁ P₁ S₁ (k .goes z r R₁ P₁ S₁ y); fit = k .fit z; less = omega arith }
+          record { next = e; goes = λ r R₁ P₁ S₁ y. h .goes r R₁ P₁ S₁ (k .goes z r R₁ P₁ S₁ y); fit = k .fit z; less = omega arith }
 
   -- ---- expression
   module _ (w : Bool) (marks depth : ℕ) (c : Cursor) (R P S : List ℕ) where
@@ -300,19 +301,16 @@ module _ (text : List ℕ) where
     at-it = stateOf text c R P S
 
     module _ (x : Lexed) (e : x ≡ lexAt text (c .at)) where
-      pub ready-at : (k : ℕ) → x .kind ≡ k → Ready E text c R P S → ReadyAt k E text c R P S
-      ready-at k q f = record { ahead = ahead c x e k q; fit = f .fit }
-
-      pub name-ahead : x .kind ≡ 10 → Ready E text c R P S → NameAhead text depth c S
+      pub name-ahead : x .kind ≡ 10 → Ready E text c R P S → NameAhead text x depth c S
       name-ahead q f =
           let g = f .fit in
           let n = g .count in
           let m = g .marks in
           let d = g .depth in
-          record { ahead = ahead c x e 10 q; parts = g .parts; count = omega arith; depth = omega arith; links = g .links }
+          record { next = e; kind = q; parts = g .parts; count = omega arith; depth = omega arith; links = g .links }
 
-      pub number-ahead : x .kind ≡ 11 → Ready E text c R P S → NumberAhead text c
-      number-ahead q f = let g = f .fit in let n = g .count in record { ahead = ahead c x e 11 q; parts = g .parts; count = omega arith }
+      pub number-ahead : x .kind ≡ 11 → Ready E text c R P S → NumberAhead text x c
+      number-ahead q f = let g = f .fit in let n = g .count in record { next = e; kind = q; parts = g .parts; count = omega arith }
 
       pub atom-name : (a : Cursor) (R′ P′ : List ℕ) → x .kind ≡ 10 → stateOf text a R′ P′ S ≡ D.readName end w depth at-it → Ready E text c R P S
           → Continues E marks depth text c R P S a R′ P′ S
@@ -338,30 +336,30 @@ module _ (text : List ℕ) where
           }
 
       pub atom-refused : (r : Cursor) → (x .kind ≡ 1 → ⊥) → (x .kind ≡ 4 → ⊥) → (x .kind ≡ 7 → ⊥) → (x .kind ≡ 10 → ⊥) → (x .kind ≡ 11 → ⊥)
-          → cursorOf text r ≡ refusing text 5 c → Continues E marks depth text c R P S r R P S
+          → r ≡ refusedAt c 5 (x .start) → Continues E marks depth text c R P S r R P S
       atom-refused r n₁ n₂ n₃ n₄ n₅ g =
-          stopped (refusing-some 4 c r g)
+          stopped (refused-some c r _ g)
           (record {
-            reads = subst (λ (v : C.Cursor). Reads end E at-it (moved at-it v)) (sym g)
+            reads = subst (λ (v : C.Cursor). Reads end E at-it (moved at-it v)) (sym (refused-here text c x e r 5 g))
                 (Paths.expression-refused end w marks depth at-it (not-ahead c x e 1 n₁) (not-ahead c x e 4 n₂) (not-ahead c x e 7 n₃) (not-ahead c x e 10 n₄) (not-ahead c x e 11 n₅));
           })
 
     -- ---- brackets
-    module _ (n : ℕ) (h : Cursor) (f : ReadyAt 7 E text c R P S) (o : n ≡ C.atBracket w marks) (p : cursorOf text h ≡ passing text n c) where
+    module _ {x : Lexed} (n : ℕ) (h : Cursor) (f : ReadyAt 7 x E text c R P S) (o : n ≡ C.atBracket w marks) (p : h ≡ passedOrRefused x n c) where
       open-is : cursorOf text h ≡ passing text (C.atBracket w marks) c
-      open-is = p ∙ ap (λ (j : ℕ). passing text j c) o
+      open-is = judged-here text c x (f .next) h n _ o p
 
       pub bracket-refused : (h .number ≡ 0 → ⊥) → Continues E marks depth text c R P S h R P S
-      bracket-refused z = stopped z (record { reads = Paths.bracket-refused end w marks depth at-it (cursorOf text h) (f .ahead) open-is (ne-eqb (h .number) 0 z) })
+      bracket-refused z = stopped z (record { reads = Paths.bracket-refused end w marks depth at-it (cursorOf text h) (ahead-of f) open-is (ne-eqb (h .number) 0 z) })
 
       module _ (z : h .number ≡ 0) where
         pub bracket-less : tokens-left h + 1 ≤ tokens-left c
-        bracket-less = Paths.less-bracket end w marks depth at-it (cursorOf text h) (f .ahead) open-is (eq-eqb (h .number) 0 z)
+        bracket-less = Paths.less-bracket end w marks depth at-it (cursorOf text h) (ahead-of f) open-is (eq-eqb (h .number) 0 z)
 
         inner-fit : Fit (inExpression false (suc marks) depth) (stateOf text h R P S)
         inner-fit =
             subst (λ (v : C.Cursor). Fit (inExpression false (suc marks) depth) (moved at-it v)) (sym open-is)
-            (F.fit-bracketed end marks depth at-it w (f .fit) (f .ahead) (sym (ap (λ (v : C.Cursor). v .number) open-is) ∙ z))
+            (F.fit-bracketed end marks depth at-it w (f .fit) (ahead-of f) (sym (ap (λ (v : C.Cursor). v .number) open-is) ∙ z))
 
         pub bracket-fit : Ready (inExpression false (marks + 1) depth) text h R P S
         bracket-fit = record { fit = less-marks (λ m. Fit m (stateOf text h R P S)) inner-fit }
@@ -373,16 +371,16 @@ module _ (text : List ℕ) where
           pub bracketed-refused : (v .number ≡ 0 → ⊥) → Continues E marks depth text c R P S v R′ P′ S′
           bracketed-refused u =
               stopped u
-              (record { reads = Paths.bracketed-refused end w marks depth at-it (cursorOf text h) (f .ahead) open-is (eq-eqb (h .number) 0 z) inner-reads (ne-eqb (v .number) 0 u) })
+              (record { reads = Paths.bracketed-refused end w marks depth at-it (cursorOf text h) (ahead-of f) open-is (eq-eqb (h .number) 0 z) inner-reads (ne-eqb (v .number) 0 u) })
 
           pub bracket-read : (a : Cursor) → v .number ≡ 0 → cursorOf text a ≡ C.need end 8 (cursorOf text v) → Continues E marks depth text c R P S a R′ P′ S′
           bracket-read a u g =
               let o = eq-eqb (h .number) 0 z in
               let i = eq-eqb (v .number) 0 u in
               record {
-                stops = λ t. record { reads = Paths.bracket-shut-refused end w marks depth at-it (cursorOf text h) (f .ahead) open-is o (cursorOf text a) inner-reads i g (ne-eqb (a .number) 0 t) };
+                stops = λ t. record { reads = Paths.bracket-shut-refused end w marks depth at-it (cursorOf text h) (ahead-of f) open-is o (cursorOf text a) inner-reads i g (ne-eqb (a .number) 0 t) };
                 goes = λ t r R″ P″ S″ k.
-                    record { reads = Paths.bracket-read end w marks depth at-it (cursorOf text h) (f .ahead) open-is o (cursorOf text a) inner-reads i g (eq-eqb (a .number) 0 t) (k .reads) };
+                    record { reads = Paths.bracket-read end w marks depth at-it (cursorOf text h) (ahead-of f) open-is o (cursorOf text a) inner-reads i g (eq-eqb (a .number) 0 t) (k .reads) };
                 fit = λ _.
                     record {
                       fit = subst (λ (b : C.Cursor). Fit (inCalls marks depth) (moved (stateOf text v R′ P′ S′) b)) (sym g)
@@ -392,9 +390,9 @@ module _ (text : List ℕ) where
               }
 
     -- ---- lambda
-    module _ (h : Cursor) (f : ReadyAt 4 E text c R P S) (p : cursorOf text h ≡ C.lambdaHead end w marks depth S (cursorOf text c)) where
+    module _ {x : Lexed} (h : Cursor) (f : ReadyAt 4 x E text c R P S) (p : cursorOf text h ≡ C.lambdaHead end w marks depth S (cursorOf text c)) where
       pub lambda-head-refused : (h .number ≡ 0 → ⊥) → Parses E text c R P S h R P S
-      lambda-head-refused z = record { reads = Paths.lambda-head-refused end w marks depth at-it (cursorOf text h) (f .ahead) p (ne-eqb (h .number) 0 z) }
+      lambda-head-refused z = record { reads = Paths.lambda-head-refused end w marks depth at-it (cursorOf text h) (ahead-of f) p (ne-eqb (h .number) 0 z) }
 
       module _ (z : h .number ≡ 0) where
         lambda-zero : C.lambdaHead end w marks depth S (cursorOf text c) .number ≡ 0
@@ -407,7 +405,7 @@ module _ (text : List ℕ) where
         lambda-deep = let m = lambda-few in let d = f .fit .depth in omega arith
 
         pub lambda-less : tokens-left h + 3 ≤ tokens-left c
-        lambda-less = Paths.less-lambda end w marks depth at-it (cursorOf text h) (f .ahead) p (eq-eqb (h .number) 0 z)
+        lambda-less = Paths.less-lambda end w marks depth at-it (cursorOf text h) (ahead-of f) p (eq-eqb (h .number) 0 z)
 
         module _ (S₁ : List ℕ) (u : S₁ ≡ set (set S (2 * depth) (h .name)) (2 * depth + 1) 0) where
           entered : D.enter depth (h .name) 0 (stateOf text h R P S) ≡ stateOf text h R P S₁
@@ -418,7 +416,7 @@ module _ (text : List ℕ) where
           body-fit =
               subst (Fit (inExpression false (suc marks) (suc depth)))
               (ap (λ (v : C.Cursor). D.enter depth (v .name) 0 (moved at-it v)) (sym p) ∙ entered)
-              (F.fit-lambda-body end marks depth at-it w (f .fit) (f .ahead) lambda-zero)
+              (F.fit-lambda-body end marks depth at-it w (f .fit) (ahead-of f) lambda-zero)
 
           pub lambda-fit : Ready (inExpression false (marks + 1) (depth + 1)) text h R P S₁
           lambda-fit = record { fit = less-both (λ m. Fit m (stateOf text h R P S₁)) body-fit }
@@ -431,7 +429,7 @@ module _ (text : List ℕ) where
 
             pub lambda-body-refused : (r .number ≡ 0 → ⊥) → Parses E text c R P S r R′ P′ S′
             lambda-body-refused t =
-                record { reads = Paths.lambda-body-refused end w marks depth at-it (cursorOf text h) (f .ahead) p (eq-eqb (h .number) 0 z) body-reads (ne-eqb (r .number) 0 t) }
+                record { reads = Paths.lambda-body-refused end w marks depth at-it (cursorOf text h) (ahead-of f) p (eq-eqb (h .number) 0 z) body-reads (ne-eqb (r .number) 0 t) }
 
             module _ (t : r .number ≡ 0) where
               pub lambda-root : r .root < textParts
@@ -439,7 +437,7 @@ module _ (text : List ℕ) where
 
               pub lambda-room : Recorded r (c .parts) 4 (r .root + 1) 0
               lambda-room =
-                  let m = Paths.lambda-room end w marks depth at-it (cursorOf text h) (f .fit) (f .ahead) p z body-reads t in
+                  let m = Paths.lambda-room end w marks depth at-it (cursorOf text h) (f .fit) (ahead-of f) p z body-reads t in
                   let k = lambda-root in
                   record { count = m .count; place = m .place; kind = omega arith; first = omega arith; second = omega arith }
 
@@ -450,13 +448,13 @@ module _ (text : List ℕ) where
                     reads = subst (Reads end E at-it)
                         (ap₂ (λ (j k : ℕ). D.put (c .parts) (nodeWith functionKind (h .name) j 0 k) (stateOf text r R′ P′ S′)) (sym (add-one (r .root))) (sym l)
                         ∙ sym (d .same text S′))
-                        (Paths.lambda-read end w marks depth at-it (cursorOf text h) (f .ahead) p (eq-eqb (h .number) 0 z) body-reads (eq-eqb (r .number) 0 t));
+                        (Paths.lambda-read end w marks depth at-it (cursorOf text h) (ahead-of f) p (eq-eqb (h .number) 0 z) body-reads (eq-eqb (r .number) 0 t));
                   }
 
     -- ---- let
-    module _ (h : Cursor) (f : ReadyAt 1 E text c R P S) (p : cursorOf text h ≡ C.letHead end w marks (cursorOf text c)) where
+    module _ {x : Lexed} (h : Cursor) (f : ReadyAt 1 x E text c R P S) (p : cursorOf text h ≡ C.letHead end w marks (cursorOf text c)) where
       pub let-head-refused : (h .number ≡ 0 → ⊥) → Parses E text c R P S h R P S
-      let-head-refused z = record { reads = Paths.let-head-refused end w marks depth at-it (cursorOf text h) (f .ahead) p (ne-eqb (h .number) 0 z) }
+      let-head-refused z = record { reads = Paths.let-head-refused end w marks depth at-it (cursorOf text h) (ahead-of f) p (ne-eqb (h .number) 0 z) }
 
       module _ (z : h .number ≡ 0) where
         let-zero : C.letHead end w marks (cursorOf text c) .number ≡ 0
@@ -469,16 +467,16 @@ module _ (text : List ℕ) where
         let-deep = let m = let-few in let d = f .fit .depth in omega arith
 
         pub let-less : tokens-left h + 3 ≤ tokens-left c
-        let-less = Paths.less-let end w marks depth at-it (cursorOf text h) (f .ahead) p (eq-eqb (h .number) 0 z)
+        let-less = Paths.less-let end w marks depth at-it (cursorOf text h) (ahead-of f) p (eq-eqb (h .number) 0 z)
 
         pub let-place : c .parts < textParts
         let-place =
             G.room-part w marks depth 3 at-it (cursorOf text h) (f .fit)
-            (subst (Moved 3 1 (cursorOf text c)) (sym p) (moved-let end w marks (cursorOf text c) (behind-some 1 (tokensFrom text (c .at)) (lit< tt) (f .ahead)))) z .place
+            (subst (Moved 3 1 (cursorOf text c)) (sym p) (moved-let end w marks (cursorOf text c) (behind-some 1 (tokensFrom text (c .at)) (lit< tt) (ahead-of f)))) z .place
 
         value-fit : Fit (inExpression false (suc marks) depth) (stateOf text h R P S)
         value-fit =
-            subst (λ (v : C.Cursor). Fit (inExpression false (suc marks) depth) (moved at-it v)) (sym p) (F.fit-let-value end marks depth at-it w (f .fit) (f .ahead) let-zero)
+            subst (λ (v : C.Cursor). Fit (inExpression false (suc marks) depth) (moved at-it v)) (sym p) (F.fit-let-value end marks depth at-it w (f .fit) (ahead-of f) let-zero)
 
         pub let-value-fit : Ready (inExpression false (marks + 1) depth) text h R P S
         let-value-fit = record { fit = less-marks (λ m. Fit m (stateOf text h R P S)) value-fit }
@@ -489,13 +487,13 @@ module _ (text : List ℕ) where
 
           pub let-value-refused : (v .number ≡ 0 → ⊥) → Parses E text c R P S v R₁ P₁ S₁
           let-value-refused u =
-              record { reads = Paths.let-value-refused end w marks depth at-it (cursorOf text h) (f .ahead) p (eq-eqb (h .number) 0 z) value-reads (ne-eqb (v .number) 0 u) }
+              record { reads = Paths.let-value-refused end w marks depth at-it (cursorOf text h) (ahead-of f) p (eq-eqb (h .number) 0 z) value-reads (ne-eqb (v .number) 0 u) }
 
           module _ (b : Cursor) (u : v .number ≡ 0) (g : cursorOf text b ≡ C.need end 2 (cursorOf text v)) where
             pub let-in-refused : (b .number ≡ 0 → ⊥) → Parses E text c R P S b R₁ P₁ S₁
             let-in-refused t =
                 record {
-                  reads = Paths.let-in-refused end w marks depth at-it (cursorOf text h) (f .ahead) p (eq-eqb (h .number) 0 z)
+                  reads = Paths.let-in-refused end w marks depth at-it (cursorOf text h) (ahead-of f) p (eq-eqb (h .number) 0 z)
                       (cursorOf text b) value-reads (eq-eqb (v .number) 0 u) g (ne-eqb (b .number) 0 t);
                 }
 
@@ -522,7 +520,7 @@ module _ (text : List ℕ) where
                 pub let-body-refused : (r .number ≡ 0 → ⊥) → Parses E text c R P S r R₂ P₂ S₃
                 let-body-refused a =
                     record {
-                      reads = Paths.let-body-refused end w marks depth at-it (cursorOf text h) (f .ahead) p (eq-eqb (h .number) 0 z)
+                      reads = Paths.let-body-refused end w marks depth at-it (cursorOf text h) (ahead-of f) p (eq-eqb (h .number) 0 z)
                           (cursorOf text b) value-reads (eq-eqb (v .number) 0 u) g (eq-eqb (b .number) 0 t)
                           in-reads (ne-eqb (r .number) 0 a);
                     }
@@ -536,7 +534,7 @@ module _ (text : List ℕ) where
                   let-read P₃ d =
                       record {
                         reads = subst (λ (l : List ℕ). Reads end E at-it (stateOf text r R₂ l S₃)) (sym d)
-                            (Paths.let-read end w marks depth at-it (cursorOf text h) (f .ahead) p (eq-eqb (h .number) 0 z)
+                            (Paths.let-read end w marks depth at-it (cursorOf text h) (ahead-of f) p (eq-eqb (h .number) 0 z)
                             (cursorOf text b) value-reads (eq-eqb (v .number) 0 u) g (eq-eqb (b .number) 0 t)
                             in-reads (eq-eqb (r .number) 0 a));
                       }

@@ -1,11 +1,10 @@
 -- What the parser's functions require and ensure: descent's Fit and Reads of the states that the cursor and the arrays stand for.
 -- Assumes nothing: these are definitions.
 use mathlib.Core.Path.{_≡_}
-use mathlib.Core.Bool.{true}
 use mathlib.Core.List.{List}
 use Prim.Native.Nat.{ℕ, _+_, _*_, _≤_}
 use lib.ListN.{length}
-use Rattle.descent.specs.Cursor.{isAt, letKind, lambdaKind}
+use Rattle.descent.specs.Cursor.{letKind, lambdaKind}
 use Rattle.descent.specs.Descent.{Mode, inCalls}
 use Rattle.descent.specs.Fit.{Fit}
 use Rattle.descent.specs.Paths.{Reads}
@@ -17,9 +16,10 @@ use Rattle.steps.specs.Cursors.{stateOf}
 pub record Ready (m : Mode) (text : List ℕ) (c : Cursor) (records places scope : List ℕ) : Type 0 where
   pub fit : Fit m (stateOf text c records places scope)
 
--- where a token of one kind is next
-pub record ReadyAt (k : ℕ) (m : Mode) (text : List ℕ) (c : Cursor) (records places scope : List ℕ) : Type 0 where
-  pub ahead : isAt k (tokensFrom text (c .at)) ≡ true
+-- where the token x is next, of one kind
+pub record ReadyAt (k : ℕ) (x : Lexed) (m : Mode) (text : List ℕ) (c : Cursor) (records places scope : List ℕ) : Type 0 where
+  pub next : x ≡ lexAt text (c .at)
+  pub kind : x .kind ≡ k
   pub fit : Fit m (stateOf text c records places scope)
 
 -- where the token x is next, and begins neither a let nor a lambda

@@ -21,9 +21,8 @@ use steps::scratch::Call;
 ghost use mathlib.Core.Path.{_≡_};
 ghost use Prim.Native.Nat.{_-_, _≤_};
 ghost use Rattle.language.specs.Limits.{textParts};
-ghost use Rattle.descent.specs.Cursor.{isAt, letKind, lambdaKind, dotKind, openKind};
+ghost use Rattle.descent.specs.Cursor.{letKind, lambdaKind, dotKind, openKind};
 ghost use Rattle.descent.specs.Descent.{firstGiven, nextGiven, inExpression, inCalls, inArguments, inMore};
-ghost use Rattle.lexer.specs.Lexing.{tokensFrom};
 ghost use Rattle.steps.specs.Scratch.{callOf};
 ghost use Rattle.reader.specs.Parsing.{Ready, ReadyAt, ReadyAtom, Parses, Continues};
 ghost use Rattle.reader.specs.Results.{ReadsInto};
@@ -81,10 +80,10 @@ fn expression(
     let x = tokens::token(text, c.at);
     let kind = x.kind;
     if kind == Lexed::LET {
-        return read_let(text, w, marks, depth, c, records, places, scope);
+        return read_let(text, x, w, marks, depth, c, records, places, scope);
     }
     if kind == Lexed::LAMBDA {
-        return read_lambda(text, w, marks, depth, c, records, places, scope);
+        return read_lambda(text, x, w, marks, depth, c, records, places, scope);
     }
     let a = atom(text, x, w, marks, depth, c, records, places, scope);
     if a.number == 0 {
@@ -112,20 +111,21 @@ fn atom(
 {
     let kind = x.kind;
     if kind == Lexed::OPEN {
-        return read_bracket(text, w, marks, depth, c, records, places, scope);
+        return read_bracket(text, x, w, marks, depth, c, records, places, scope);
     }
     if kind == Lexed::WORD {
-        return scratch::read_name(text, w, depth, c, scope, records, places);
+        return scratch::read_name(text, x, w, depth, c, scope, records, places);
     }
     if kind == Lexed::NUMBER {
-        return scratch::read_number(text, w, c, records, places);
+        return scratch::read_number(text, x, w, c, records, places);
     }
-    cursor::refused(text, 5, c)
+    cursor::refused(x, 5, c)
 }
 
 // let name = expression in expression
 fn read_let(
     text: &[u8],
+    x: Lexed,
     w: bool,
     marks: usize,
     depth: usize,
@@ -134,12 +134,12 @@ fn read_let(
     places: &mut [u16; Text::PARTS],
     scope: &mut [u64; SCOPE_CELLS],
 ) -> Cursor
-    requires { ⌜ ReadyAt letKind (inExpression w marks depth) (now text) c (now records) (now places) (now scope) ⌝ }
+    requires { ⌜ ReadyAt letKind x (inExpression w marks depth) (now text) c (now records) (now places) (now scope) ⌝ }
     ensures { λ r. ⌜ Parses (inExpression w marks depth) (now (text .entry)) c
         (now (records .entry)) (now (places .entry)) (now (scope .entry))
         r (now (records .exit)) (now (places .exit)) (now (scope .exit)) ⌝ }
 {
-    let h = cursor::let_head(text, w, marks, c);
+    let h = cursor::let_head(text, x, w, marks, c);
     if h.number == 0 {
         let v = expression(text, false, marks + 1, depth, h, records, places, scope);
         if v.number == 0 {
@@ -167,6 +167,7 @@ fn read_let(
 // \ name -> expression
 fn read_lambda(
     text: &[u8],
+    x: Lexed,
     w: bool,
     marks: usize,
     depth: usize,
@@ -175,12 +176,12 @@ fn read_lambda(
     places: &mut [u16; Text::PARTS],
     scope: &mut [u64; SCOPE_CELLS],
 ) -> Cursor
-    requires { ⌜ ReadyAt lambdaKind (inExpression w marks depth) (now text) c (now records) (now places) (now scope) ⌝ }
+    requires { ⌜ ReadyAt lambdaKind x (inExpression w marks depth) (now text) c (now records) (now places) (now scope) ⌝ }
     ensures { λ r. ⌜ Parses (inExpression w marks depth) (now (text .entry)) c
         (now (records .entry)) (now (places .entry)) (now (scope .entry))
         r (now (records .exit)) (now (places .exit)) (now (scope .exit)) ⌝ }
 {
-    let h = cursor::lambda_head(text, w, marks, depth, scope, c);
+    let h = cursor::lambda_head(text, x, w, marks, depth, scope, c);
     if h.number == 0 {
         let level = cursor::lambdas_in(scope, depth);
         scratch::enter(depth, h.name, 0, scope);
@@ -208,6 +209,7 @@ fn read_lambda(
 // ( expression )
 fn read_bracket(
     text: &[u8],
+    x: Lexed,
     w: bool,
     marks: usize,
     depth: usize,
@@ -216,12 +218,12 @@ fn read_bracket(
     places: &mut [u16; Text::PARTS],
     scope: &mut [u64; SCOPE_CELLS],
 ) -> Cursor
-    requires { ⌜ ReadyAt openKind (inExpression w marks depth) (now text) c (now records) (now places) (now scope) ⌝ }
+    requires { ⌜ ReadyAt openKind x (inExpression w marks depth) (now text) c (now records) (now places) (now scope) ⌝ }
     ensures { λ r. ⌜ Continues (inExpression w marks depth) marks depth (now (text .entry)) c
         (now (records .entry)) (now (places .entry)) (now (scope .entry))
         r (now (records .exit)) (now (places .exit)) (now (scope .exit)) ⌝ }
 {
-    let h = cursor::judged(text, cursor::at_bracket(w, marks), c);
+    let h = cursor::judged(x, cursor::at_bracket(w, marks), c);
     if h.number == 0 {
         let e = expression(text, false, marks + 1, depth, h, records, places, scope);
         if e.number == 0 {
@@ -232,14 +234,6 @@ fn read_bracket(
     } else {
         h
     }
-}
-
-// Is a call next?
-fn is_call(text: &[u8], at: usize) -> bool
-    ensures { λ r. ⌜ r ≡ isAt dotKind (tokensFrom (now (text .entry)) at) ⌝ }
-{
-    let x = tokens::token(text, at);
-    x.kind == Lexed::DOT
 }
 
 // The calls on the record last read. A chain of them is a loop, so that its length takes no stack.
@@ -258,11 +252,13 @@ fn calls(
         r (now (records .exit)) (now (places .exit)) (now (scope .exit)) ⌝ }
 {
     let mut a = c;
-    while is_call(text, a.at) {
-        a = call(text, marks, depth, a, records, places, scope);
+    let mut x = tokens::token(text, a.at);
+    while x.kind == Lexed::DOT {
+        a = call(text, x, marks, depth, a, records, places, scope);
         if a.number != 0 {
             return a;
         }
+        x = tokens::token(text, a.at);
     }
     a
 }
@@ -270,6 +266,7 @@ fn calls(
 // One call, up to the bracket that ends it.
 fn call(
     text: &[u8],
+    x: Lexed,
     marks: usize,
     depth: usize,
     c: Cursor,
@@ -277,12 +274,12 @@ fn call(
     places: &mut [u16; Text::PARTS],
     scope: &mut [u64; SCOPE_CELLS],
 ) -> Cursor
-    requires { ⌜ ReadyAt dotKind (inCalls marks depth) (now text) c (now records) (now places) (now scope) ⌝ }
+    requires { ⌜ ReadyAt dotKind x (inCalls marks depth) (now text) c (now records) (now places) (now scope) ⌝ }
     ensures { λ r. ⌜ Continues (inCalls marks depth) marks depth (now (text .entry)) c
         (now (records .entry)) (now (places .entry)) (now (scope .entry))
         r (now (records .exit)) (now (places .exit)) (now (scope .exit)) ⌝ }
 {
-    let h = cursor::call_head(text, marks, c);
+    let h = cursor::call_head(text, x, marks, c);
     if h.number == 0 {
         let k = Call {
             kind: h.name as u8,
@@ -315,7 +312,7 @@ fn arguments(
 {
     let x = tokens::token(text, c.at);
     if x.kind == Lexed::SHUT {
-        scratch::read_shut(text, k, c, records, places)
+        scratch::read_shut(x, k, c, records, places)
     } else {
         let a = expression(
             text,
@@ -363,10 +360,10 @@ fn more(
     let x = tokens::token(text, c.at);
     let kind = x.kind;
     if kind == Lexed::SHUT {
-        return scratch::read_shut(text, k, c, records, places);
+        return scratch::read_shut(x, k, c, records, places);
     }
     if kind == Lexed::COMMA {
-        let h = cursor::judged(text, cursor::at_comma(k.takes), c);
+        let h = cursor::judged(x, cursor::at_comma(k.takes), c);
         if h.number == 0 {
             let a = expression(text, false, marks + 1, depth, h, records, places, scope);
             if a.number == 0 {
@@ -376,7 +373,7 @@ fn more(
         }
         return h;
     }
-    cursor::refused(text, 5, c)
+    cursor::refused(x, 5, c)
 }
 
 // Reads a whole text, over scratch arrays of any contents: an expression, and then the end. 01's refusals 5 to 12 are given by the lowest number

@@ -24,9 +24,9 @@ use Rattle.steps.specs.declared.cursor.Cursor.{Cursor}
 use Rattle.lexer.specs.declared.tokens.Lexed.{Lexed}
 use Rattle.lexer.specs.Lexing.{lexAt, tokensFrom, bytesAt, nameAt}
 use Rattle.lexer.specs.LexingLaws.{name-whole}
-use Rattle.steps.specs.Cursors.{cursorOf, passedTo, partTo, namedTo, refusedAt, refusing, passing, passingPart, binderNamed, memberNamed, callOpened}
+use Rattle.steps.specs.Cursors.{cursorOf, passedTo, partTo, namedTo, refusedAt, passedOrRefused, partOrRefused, passingPart, binderNamed, memberNamed, callOpened}
 use Rattle.steps.specs.Cursors.{nameFault, numberFault, binderFault, openFault}
-use Rattle.steps.specs.CursorsLaws.{head-place, behind-head, head-word, is-at}
+use Rattle.steps.specs.CursorsLaws.{behind-head, head-word, is-at, refused-here, passed-here, judged-part-here}
 
 -- ---- the faults, from the picks that they are made of
 pub part-fault : (parts r : ℕ) → r ≡ cond (leb textParts parts) 12 0 → r ≡ D.atPart parts
@@ -138,6 +138,20 @@ next-stop : (end : ℕ) {x : D.Cursor} (a : D.Cursor) (k : D.Cursor → D.Cursor
 unfolding D.next when
 next-stop end a k e z = rw (← e, ne-eqb (a .number) 0 z)
 
+-- ---- a token that is judged
+module _ (x : Lexed) (n : ℕ) (c r : Cursor) where
+  pub judged-passed : n ≡ 0 → r ≡ passedTo c (x .end) → r ≡ passedOrRefused x n c
+  judged-passed z q = rw (eq-eqb n 0 z) q
+
+  pub judged-refused : (n ≡ 0 → ⊥) → r ≡ refusedAt c n (x .start) → r ≡ passedOrRefused x n c
+  judged-refused z q = rw (ne-eqb n 0 z) q
+
+  pub part-passed : n ≡ 0 → r ≡ partTo c (x .end) → r ≡ partOrRefused x n c
+  part-passed z q = rw (eq-eqb n 0 z) q
+
+  pub part-refused : (n ≡ 0 → ⊥) → r ≡ refusedAt c n (x .start) → r ≡ partOrRefused x n c
+  part-refused z q = rw (ne-eqb n 0 z) q
+
 -- ---- the token at the cursor
 module _ (text : List ℕ) (c : Cursor) (x : Lexed) (e : x ≡ lexAt text (c .at)) where
   abbrev C : D.Cursor
@@ -149,55 +163,16 @@ module _ (text : List ℕ) (c : Cursor) (x : Lexed) (e : x ≡ lexAt text (c .at
   abbrev bytes : List ℕ
   bytes = bytesAt text (x .start) (x .end)
 
-  refuse-here : (n : ℕ) → cursorOf text (refusedAt c n (x .start)) ≡ D.refuse (length text) n C
-  unfolding D.refuse
-  refuse-here n =
-      λ i. record { rest = left; parts = c .parts; count = c .count; root = c .root; name = c .name; takes = c .takes; number = n; place = sym (head-place text (c .at) x e) i }
-
-  pass-here : cursorOf text (passedTo c (x .end)) ≡ D.pass C
-  unfolding D.pass
-  pass-here =
-      λ i. record { rest = sym (behind-head text (c .at) x e) i; parts = c .parts; count = c .count; root = c .root; name = c .name; takes = c .takes; number = c .number; place = c .place }
-
-  part-here : cursorOf text (partTo c (x .end)) ≡ D.passPart C
-  unfolding D.passPart
-  part-here =
-      λ i. record {
-        rest = sym (behind-head text (c .at) x e) i;
-        parts = add-one (c .parts) i;
-        count = c .count;
-        root = c .root;
-        name = c .name;
-        takes = c .takes;
-        number = c .number;
-        place = c .place;
-      }
-
   named-here : (n n′ t t′ : ℕ) → n ≡ n′ → t ≡ t′ → cursorOf text (namedTo c (x .end) n t)
       ≡ record { rest = D.behindHead left; parts = c .parts; count = c .count; root = c .root; name = n′; takes = t′; number = c .number; place = c .place }
   named-here n n′ t t′ p q =
       λ i. record { rest = sym (behind-head text (c .at) x e) i; parts = c .parts; count = c .count; root = c .root; name = p i; takes = q i; number = c .number; place = c .place }
 
-  pub refused-path : (n : ℕ) (r : Cursor) → r ≡ refusedAt c n (x .start) → cursorOf text r ≡ refusing text n c
-  refused-path n r q = ap (cursorOf text) q ∙ refuse-here n
-
   stops : (n m : ℕ) (r : Cursor) (d : Unit {0} → D.Cursor) → n ≡ m → (n ≡ 0 → ⊥) → r ≡ refusedAt c n (x .start) → cursorOf text r ≡ D.judge (length text) m C d
-  stops n m r d p z q = ap (cursorOf text) q ∙ refuse-here n ∙ judge-stop (length text) n C d z ∙ ap (λ (k : ℕ). D.judge (length text) k C d) p
+  stops n m r d p z q = refused-here text c x e r n q ∙ judge-stop (length text) n C d z ∙ ap (λ (k : ℕ). D.judge (length text) k C d) p
 
   goes : (n m : ℕ) (r : Cursor) (d : Unit {0} → D.Cursor) → n ≡ m → n ≡ 0 → cursorOf text r ≡ d tt → cursorOf text r ≡ D.judge (length text) m C d
   goes n m r d p z q = q ∙ judge-go (length text) n C d z ∙ ap (λ (k : ℕ). D.judge (length text) k C d) p
-
-  pub judged-passed : (n : ℕ) (r : Cursor) → n ≡ 0 → r ≡ passedTo c (x .end) → cursorOf text r ≡ passing text n c
-  judged-passed n r z q = goes n n r _ refl z (ap (cursorOf text) q ∙ pass-here)
-
-  pub judged-refused : (n : ℕ) (r : Cursor) → (n ≡ 0 → ⊥) → r ≡ refusedAt c n (x .start) → cursorOf text r ≡ passing text n c
-  judged-refused n r z q = stops n n r _ refl z q
-
-  pub part-passed : (n : ℕ) (r : Cursor) → n ≡ 0 → r ≡ partTo c (x .end) → cursorOf text r ≡ passingPart text n c
-  part-passed n r z q = goes n n r _ refl z (ap (cursorOf text) q ∙ part-here)
-
-  pub part-refused : (n : ℕ) (r : Cursor) → (n ≡ 0 → ⊥) → r ≡ refusedAt c n (x .start) → cursorOf text r ≡ passingPart text n c
-  part-refused n r z q = stops n n r _ refl z q
 
   mark-at : (k : ℕ) → cond (eqb (x .kind) k) 0 5 ≡ D.atMark k left
   unfolding D.atMark
@@ -206,7 +181,7 @@ module _ (text : List ℕ) (c : Cursor) (x : Lexed) (e : x ≡ lexAt text (c .at
   pub need-passed : (k : ℕ) (r : Cursor) → x .kind ≡ k → r ≡ passedTo c (x .end) → cursorOf text r ≡ D.need (length text) k (cursorOf text c)
   unfolding D.need
   need-passed k r z q =
-      goes 0 _ r _ (ap (λ (t : Bool). cond t 0 5) (sym (eq-eqb (x .kind) k z)) ∙ mark-at k) refl (ap (cursorOf text) q ∙ pass-here)
+      goes 0 _ r _ (ap (λ (t : Bool). cond t 0 5) (sym (eq-eqb (x .kind) k z)) ∙ mark-at k) refl (passed-here text c x e r q)
 
   pub need-refused : (k : ℕ) (r : Cursor) → (x .kind ≡ k → ⊥) → r ≡ refusedAt c 5 (x .start) → cursorOf text r ≡ D.need (length text) k (cursorOf text c)
   unfolding D.need
@@ -281,15 +256,15 @@ module _ (text : List ℕ) (c : Cursor) (x : Lexed) (e : x ≡ lexAt text (c .at
     open-number = f ∙ ap (λ (t : Bool). cond t (cond (leb 16 marks) 12 0) 5) (sym (is-at text (c .at) x e 7))
 
     pub open-passed : (r : Cursor) → n ≡ 0 → r ≡ passedTo c (x .end) → cursorOf text r ≡ callOpened text marks c
-    open-passed r z q = goes n _ r _ open-number z (ap (cursorOf text) q ∙ pass-here)
+    open-passed r z q = goes n _ r _ open-number z (passed-here text c x e r q)
 
     pub open-refused : (r : Cursor) → (n ≡ 0 → ⊥) → r ≡ refusedAt c n (x .start) → cursorOf text r ≡ callOpened text marks c
     open-refused r z q = stops n _ r _ open-number z q
 
 -- ---- the heads
-module _ (text : List ℕ) (n : ℕ) (c a : Cursor) (pa : cursorOf text a ≡ passingPart text n c) where
+module _ (text : List ℕ) (x : Lexed) (n : ℕ) (c a : Cursor) (e : x ≡ lexAt text (c .at)) (pa : a ≡ partOrRefused x n c) where
   first : (m : ℕ) → n ≡ m → cursorOf text a ≡ passingPart text m c
-  first m p = pa ∙ ap (λ (k : ℕ). passingPart text k c) p
+  first m p = judged-part-here text c x e a n m p pa
 
   module _ (w : Bool) (marks : ℕ) (p : n ≡ D.atLet w marks (c .parts)) where
     pub let-stops : (a .number ≡ 0 → ⊥) → cursorOf text a ≡ D.letHead (length text) w marks (cursorOf text c)

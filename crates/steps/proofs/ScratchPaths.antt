@@ -11,6 +11,7 @@ use lib.ListN.{length, set}
 use mir.Syntax.{w32, w64}
 use mir.Val.{SFits, toZ, ofZ}
 use borrow.Author.Tests.{eq-eqb, ne-eqb, eqb-true}
+use Rattle.language.specs.Cases.{by-cond}
 use Rattle.language.specs.Limits.{textParts}
 use Rattle.language.specs.Names.{isLong, packed, dataWord}
 use Rattle.rules.specs.declared.Value.the-variants.{Number}
@@ -33,9 +34,9 @@ use Rattle.lexer.specs.declared.tokens.Literal.{Literal}
 use Rattle.lexer.specs.declared.tokens.Literal.the-variants.{In, Beyond}
 use Rattle.lexer.specs.Lexing.{lexAt, tokensFrom, bytesAt, valueOf, judged, nameAt}
 use Rattle.lexer.specs.LexingLaws.{judged-in, judged-beyond, name-whole}
-use Rattle.steps.specs.Cursors.{cursorOf, stateOf, passing, passingPart, nameFault, numberFault}
-use Rattle.steps.specs.CursorsLaws.{head-kind, head-word, head-value}
-use Rattle.steps.specs.Scratch.{Wrote, WroteIn, WroteFor, Linked, Recorded, BoundRoom, ScopedRoom, NameRoom, NameAhead, NumberAhead, ShutAhead, callOf, isBeyond, keyOf}
+use Rattle.steps.specs.Cursors.{stateOf, passedOrRefused, partOrRefused, passing, passingPart, nameFault, numberFault}
+use Rattle.steps.specs.CursorsLaws.{head-word, head-value, judged-here, judged-part-here}
+use Rattle.steps.specs.Scratch.{Wrote, WroteIn, WroteFor, WroteCall, Linked, Recorded, BoundRoom, ScopedRoom, NameRoom, NameAhead, NumberAhead, ShutAhead, isBeyond, keyOf}
 
 -- ---- put
 pub put-path : (c : Cursor) (p k y f s l : ℕ) (records places : List ℕ)
@@ -119,30 +120,12 @@ key-path z f v e =
     k ∙ ap keyOf (sym e)
 
 -- ---- a token that is passed
-judged-zero : (end n : ℕ) (c : C.Cursor) (d : Unit {0} → C.Cursor) → C.judge end n c d .number ≡ 0 → n ≡ 0
-unfolding C.judge C.refuse
-judged-zero end n c d = by-test (λ x. x .number ≡ 0 → n ≡ 0) (eqb n 0) d (λ _. C.refuse end n c) (λ e _. eqb-true n 0 e) (λ _ z. z)
-
-part-count : (end n : ℕ) (c : C.Cursor) → C.judge end n c (λ _. C.passPart c) .count ≡ c .count
-unfolding C.judge C.refuse C.passPart
-part-count end n c = by-test (λ x. x .count ≡ c .count) (eqb n 0) (λ _. C.passPart c) (λ _. C.refuse end n c) (λ _. refl) (λ _. refl)
-
-pass-count : (end n : ℕ) (c : C.Cursor) → C.judge end n c (λ _. C.pass c) .count ≡ c .count
-unfolding C.judge C.refuse C.pass
-pass-count end n c = by-test (λ x. x .count ≡ c .count) (eqb n 0) (λ _. C.pass c) (λ _. C.refuse end n c) (λ _. refl) (λ _. refl)
-
-abbrev cursor-number : C.Cursor → ℕ
-cursor-number c = c .number
-
-abbrev cursor-count : C.Cursor → ℕ
-cursor-count c = c .count
-
-module _ (text : List ℕ) (c a : Cursor) (n : ℕ) (pa : cursorOf text a ≡ passingPart text n c) where
+module _ (x : Lexed) (c a : Cursor) (n : ℕ) (pa : a ≡ partOrRefused x n c) where
   passed-zero : a .number ≡ 0 → n ≡ 0
-  passed-zero z = judged-zero (length text) n (cursorOf text c) _ (sym (ap cursor-number pa) ∙ z)
+  passed-zero = rw pa (by-cond (λ (b : Cursor). b .number ≡ 0 → n ≡ 0) (eqb n 0) _ _ (λ t _. eqb-true n 0 t) (λ _ z. z))
 
   same-count : a .count ≡ c .count
-  same-count = ap cursor-count pa ∙ part-count (length text) n (cursorOf text c)
+  same-count = rw pa (by-cond (λ (b : Cursor). b .count ≡ c .count) (eqb n 0) _ _ (λ _. refl) (λ _. refl))
 
   module _ (w : Bool) (z : a .number ≡ 0) where
     module _ (long : Bool) (f : n ≡ nameFault w long (c .parts)) where
@@ -152,8 +135,8 @@ module _ (text : List ℕ) (c a : Cursor) (n : ℕ) (pa : cursorOf text a ≡ pa
       few-parts : c .parts < textParts
       few-parts = part-fits (c .parts) (not-refused w 8 _ (not-refused long 6 _ (sym f ∙ passed-zero z) .1) .1)
 
-      pub name-room : (depth : ℕ) (scope : List ℕ) → NameAhead text depth c scope → NameRoom a (c .parts) depth scope
-      name-room depth scope h =
+      pub name-room : (text : List ℕ) (depth : ℕ) (scope : List ℕ) → NameAhead text x depth c scope → NameRoom a (c .parts) depth scope
+      name-room text depth scope h =
           let few = few-parts in
           let e = same-count in
           let m = h .count in
@@ -163,49 +146,46 @@ module _ (text : List ℕ) (c a : Cursor) (n : ℕ) (pa : cursorOf text a ≡ pa
       not-beyond : beyond ≡ false
       not-beyond = not-refused beyond 5 _ (sym f ∙ passed-zero z) .0
 
-      pub number-room : NumberAhead text c → Recorded a (c .parts) 0 0 0
-      number-room h =
+      pub number-room : (text : List ℕ) → NumberAhead text x c → Recorded a (c .parts) 0 0 0
+      number-room text h =
           let few = part-fits (c .parts) (not-refused w 8 _ (not-refused beyond 5 _ (sym f ∙ passed-zero z) .1) .1) in
           let e = same-count in
           let m = h .count in
           record { count = omega arith; place = few; kind = omega arith; first = omega arith; second = omega arith }
 
 -- ---- read_name and read_number
-ahead-kind : (text : List ℕ) (at k : ℕ) (x : Lexed) → x ≡ lexAt text at → C.isAt k (tokensFrom text at) ≡ true → x .kind ≡ k
-ahead-kind text at k x e h = sym (head-kind text at x e) ∙ eqb-true (C.headKind (tokensFrom text at)) k h
+module _ (text : List ℕ) (w : Bool) (c a : Cursor) (x : Lexed) (n : ℕ) (pa : a ≡ partOrRefused x n c) (records places : List ℕ) where
+  part-is : x ≡ lexAt text (c .at) → (m : ℕ) → n ≡ m → (scope : List ℕ) → moved (stateOf text c records places scope) (passingPart text m c) ≡ stateOf text a records places scope
+  part-is e m p scope = ap (λ (b : C.Cursor). moved (stateOf text c records places scope) b) (sym (judged-part-here text c x e a n m p pa))
 
-module _ (text : List ℕ) (w : Bool) (c a : Cursor) (x : Lexed) (n : ℕ) (e : x ≡ lexAt text (c .at)) (pa : cursorOf text a ≡ passingPart text n c) (records places : List ℕ) where
   abbrev bytes-there : List ℕ
   bytes-there = bytesAt text (x .start) (x .end)
 
-  module _ (depth : ℕ) (scope : List ℕ) (long : Bool) (l : long ≡ isLong bytes-there) (f : n ≡ nameFault w long (c .parts)) (h : NameAhead text depth c scope) where
+  module _ (depth : ℕ) (scope : List ℕ) (long : Bool) (l : long ≡ isLong bytes-there) (f : n ≡ nameFault w long (c .parts)) (h : NameAhead text x depth c scope) where
     abbrev read-name : State
     read-name = D.readName (length text) w depth (stateOf text c records places scope)
 
     the-word : C.headWord (tokensFrom text (c .at)) ≡ bytes-there
-    the-word = head-word text (c .at) x e (ahead-kind text (c .at) 10 x e (h .ahead))
+    the-word = head-word text (c .at) x (h .next) (h .kind)
 
     name-number : n ≡ C.atName w (C.headWord (tokensFrom text (c .at))) (c .parts)
     unfolding C.atName
     name-number = f ∙ rw (l, the-word)
 
-    name-passed : moved (stateOf text c records places scope) (passingPart text (C.atName w (C.headWord (tokensFrom text (c .at))) (c .parts)) c) ≡ stateOf text a records places scope
-    name-passed = ap (λ (b : C.Cursor). moved (stateOf text c records places scope) b) (ap (λ (k : ℕ). passingPart text k c) (sym name-number) ∙ sym pa)
-
     pub name-stopped : (a .number ≡ 0 → ⊥) → stateOf text a records places scope ≡ read-name
     unfolding D.readName
-    name-stopped z = sym (then-stop _ name-passed (ne-eqb (a .number) 0 z))
+    name-stopped z = sym (then-stop _ (part-is (h .next) _ name-number scope) (ne-eqb (a .number) 0 z))
 
     pub name-read : (m : ℕ) (r : Cursor) (records′ places′ : List ℕ) → a .number ≡ 0 → m ≡ nameAt bytes-there
         → WroteIn scope (D.putName (c .parts) m depth) a records places r records′ places′ → stateOf text r records′ places′ scope ≡ read-name
     unfolding D.readName
     name-read m r records′ places′ z q k =
-        let y : m ≡ packed (C.headWord (tokensFrom text (c .at))) = q ∙ name-whole bytes-there (sym l ∙ not-long text c a n pa w z long f) ∙ ap packed (sym the-word) in
-        sym (then-go _ name-passed (eq-eqb (a .number) 0 z) (rw (← y) (sym (k .same text))))
+        let y : m ≡ packed (C.headWord (tokensFrom text (c .at))) = q ∙ name-whole bytes-there (sym l ∙ not-long x c a n pa w z long f) ∙ ap packed (sym the-word) in
+        sym (then-go _ (part-is (h .next) _ name-number scope) (eq-eqb (a .number) 0 z) (rw (← y) (sym (k .same text))))
 
-  module _ (value : Literal) (beyond : Bool) (v : value ≡ judged (valueOf bytes-there)) (b : beyond ≡ isBeyond value) (f : n ≡ numberFault w beyond (c .parts)) (h : NumberAhead text c) where
+  module _ (value : Literal) (beyond : Bool) (v : value ≡ judged (valueOf bytes-there)) (b : beyond ≡ isBeyond value) (f : n ≡ numberFault w beyond (c .parts)) (h : NumberAhead text x c) where
     the-value : C.headValue (tokensFrom text (c .at)) ≡ valueOf bytes-there
-    the-value = head-value text (c .at) x e (ahead-kind text (c .at) 11 x e (h .ahead))
+    the-value = head-value text (c .at) x (h .next) (h .kind)
 
     outside-is : (u : Literal) → u ≡ judged (valueOf bytes-there) → isBeyond u ≡ C.isOutside (valueOf bytes-there)
     outside-is (In z) q = sym (judged-in (valueOf bytes-there) z (sym q) .1)
@@ -215,46 +195,42 @@ module _ (text : List ℕ) (w : Bool) (c a : Cursor) (x : Lexed) (n : ℕ) (e : 
     unfolding C.atNumber
     number-number = f ∙ rw (b ∙ outside-is value v, the-value)
 
-    module _ (scope : List ℕ) where
-      number-passed : moved (stateOf text c records places scope) (passingPart text (C.atNumber w (C.headValue (tokensFrom text (c .at))) (c .parts)) c) ≡ stateOf text a records places scope
-      number-passed = ap (λ (b : C.Cursor). moved (stateOf text c records places scope) b) (ap (λ (k : ℕ). passingPart text k c) (sym number-number) ∙ sym pa)
-
     key-is : (u : Literal) → u ≡ judged (valueOf bytes-there) → isBeyond u ≡ false → keyOf u ≡ numberKey (C.headValue (tokensFrom text (c .at)))
     key-is (In z) q o = ap numberKey (judged-in (valueOf bytes-there) z (sym q) .0 ∙ sym the-value)
     key-is Beyond q o = absurd (true≢false o)
 
     pub number-stopped : (a .number ≡ 0 → ⊥) → WroteFor text (D.readNumber (length text) w) c records places a records places
     unfolding D.readNumber
-    number-stopped z = record { same = λ scope. sym (then-stop _ (number-passed scope) (ne-eqb (a .number) 0 z)) }
+    number-stopped z = record { same = λ scope. sym (then-stop _ (part-is (h .next) _ number-number scope) (ne-eqb (a .number) 0 z)) }
 
     pub number-read : (m : ℕ) (r : Cursor) (records′ places′ : List ℕ) → a .number ≡ 0 → m ≡ keyOf value
         → Wrote (D.put (c .parts) (node numberKind m 0 0)) a records places r records′ places′
         → WroteFor text (D.readNumber (length text) w) c records places r records′ places′
     unfolding D.readNumber
     number-read m r records′ places′ z q k =
-        let y : m ≡ numberKey (C.headValue (tokensFrom text (c .at))) = q ∙ key-is value v (sym b ∙ not-beyond text c a n pa w z beyond f) in
-        record { same = λ scope. sym (then-go _ (number-passed scope) (eq-eqb (a .number) 0 z) (rw (← y) (sym (k .same text scope)))) }
+        let y : m ≡ numberKey (C.headValue (tokensFrom text (c .at))) = q ∙ key-is value v (sym b ∙ not-beyond x c a n pa w z beyond f) in
+        record { same = λ scope. sym (then-go _ (part-is (h .next) _ number-number scope) (eq-eqb (a .number) 0 z) (rw (← y) (sym (k .same text scope)))) }
 
 -- ---- read_shut
-module _ (text : List ℕ) (k : Call) (c a : Cursor) (n : ℕ) (f : n ≡ C.atShut (k .takes)) (pa : cursorOf text a ≡ passing text n c) (records places : List ℕ) where
-  shut-passed : (scope : List ℕ) → moved (stateOf text c records places scope) (passing text (C.atShut (k .takes)) c) ≡ stateOf text a records places scope
-  shut-passed scope = ap (λ (b : C.Cursor). moved (stateOf text c records places scope) b) (ap (λ (k : ℕ). passing text k c) (sym f) ∙ sym pa)
+module _ (x : Lexed) (k : Call) (c a : Cursor) (n : ℕ) (f : n ≡ C.atShut (k .takes)) (pa : a ≡ passedOrRefused x n c) (records places : List ℕ) where
+  shut-is : (text scope : List ℕ) → x ≡ lexAt text (c .at) → moved (stateOf text c records places scope) (passing text (C.atShut (k .takes)) c) ≡ stateOf text a records places scope
+  shut-is text scope e = ap (λ (b : C.Cursor). moved (stateOf text c records places scope) b) (sym (judged-here text c x e a n _ f pa))
 
   pub shut-room : ShutAhead k c → Recorded a (k .place) (k .kind) (k .receiver + 1) (k .argument)
   shut-room h =
-      let e : a .count ≡ c .count = ap cursor-count pa ∙ pass-count (length text) n (cursorOf text c) in
+      let e : a .count ≡ c .count = rw pa (by-cond (λ (b : Cursor). b .count ≡ c .count) (eqb n 0) _ _ (λ _. refl) (λ _. refl)) in
       let m = h .count in
       let r = h .receiver in
       record { count = omega arith; place = h .place; kind = h .kind; first = omega arith; second = h .argument }
 
-  pub shut-stopped : (a .number ≡ 0 → ⊥) → WroteFor text (D.readShut (length text) (callOf k)) c records places a records places
+  pub shut-stopped : (a .number ≡ 0 → ⊥) → WroteCall x k c records places a records places
   unfolding D.readShut
-  shut-stopped z = record { same = λ scope. sym (then-stop _ (shut-passed scope) (ne-eqb (a .number) 0 z)) }
+  shut-stopped z = record { same = λ text scope e. sym (then-stop _ (shut-is text scope e) (ne-eqb (a .number) 0 z)) }
 
   pub shut-read : (r : Cursor) (records′ places′ : List ℕ) → a .number ≡ 0
       → Wrote (D.put (k .place) (node (k .kind) 0 (k .receiver + 1) (k .argument))) a records places r records′ places′
-      → WroteFor text (D.readShut (length text) (callOf k)) c records places r records′ places′
+      → WroteCall x k c records places r records′ places′
   unfolding D.readShut
   shut-read r records′ places′ z h =
       let y : k .receiver + 1 ≡ suc (k .receiver) = add-one (k .receiver) in
-      record { same = λ scope. sym (then-go _ (shut-passed scope) (eq-eqb (a .number) 0 z) (rw (← y) (sym (h .same text scope)))) }
+      record { same = λ text scope e. sym (then-go _ (shut-is text scope e) (eq-eqb (a .number) 0 z) (rw (← y) (sym (h .same text scope)))) }

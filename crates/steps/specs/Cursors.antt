@@ -1,14 +1,16 @@
 -- The code's cursor stands for descent's: the tokens that are left are those from its place on. Assumes nothing: these are definitions.
+use mathlib.Core.Path.{_≡_}
 use mathlib.Core.Bool.{Bool, cond}
 use mathlib.Core.List.{List}
-use Prim.Native.Nat.{ℕ, _+_}
-use lib.Dec.{leb}
+use Prim.Native.Nat.{ℕ, _+_, _≤_}
+use lib.Dec.{leb, eqb}
 use lib.ListN.{length}
-use Rattle.language.specs.Limits.{openMarks}
+use Rattle.language.specs.Limits.{openMarks, textParts}
 use Rattle.descent.specs.Cursor as D
 use Rattle.descent.specs.Descent.{State}
 use Rattle.steps.specs.declared.cursor.Cursor.{Cursor}
-use Rattle.lexer.specs.Lexing.{tokensFrom}
+use Rattle.lexer.specs.declared.tokens.Lexed.{Lexed}
+use Rattle.lexer.specs.Lexing.{lexAt, tokensFrom}
 
 abbrev pub cursorOf : List ℕ → Cursor → D.Cursor
 cursorOf text c =
@@ -30,6 +32,18 @@ namedTo c at name takes = record { at = at; parts = c .parts; count = c .count; 
 
 abbrev pub refusedAt : Cursor → ℕ → ℕ → Cursor
 refusedAt c n place = record { at = c .at; parts = c .parts; count = c .count; root = c .root; name = c .name; takes = c .takes; number = n; place = place }
+
+-- the code's cursor where the token x is next, which is refused by a number other than 0 and else passed, or passed as a part
+abbrev pub passedOrRefused : Lexed → ℕ → Cursor → Cursor
+passedOrRefused x n c = cond (eqb n 0) (passedTo c (x .end)) (refusedAt c n (x .start))
+
+abbrev pub partOrRefused : Lexed → ℕ → Cursor → Cursor
+partOrRefused x n c = cond (eqb n 0) (partTo c (x .end)) (refusedAt c n (x .start))
+
+-- the token x is next, and a part can be counted
+pub record PartAhead (text : List ℕ) (x : Lexed) (c : Cursor) : Type 0 where
+  pub next : x ≡ lexAt text (c .at)
+  pub parts : c .parts ≤ textParts
 
 -- the token at the cursor is refused; or refused by a number other than 0 and else passed, as a part, or as a name
 abbrev pub refusing : List ℕ → ℕ → Cursor → D.Cursor

@@ -1,18 +1,22 @@
--- The token at the front of descent's cursor is the token that lexAt finds at the code's. Assumes nothing.
+-- The token at the front of descent's cursor is the token that lexAt finds at the code's, and is refused or passed as that is. Assumes nothing.
 use mathlib.Core.Path.{_≡_, refl, ap, sym, _∙_}
 use mathlib.Core.Bool.{true, false}
 use mathlib.Core.List.{List, [], _∷_}
 use Prim.Native.Nat.{ℕ, zero, suc}
+use native.Mathlib.Numerals.{add-one}
 use native.Mathlib.Omega.{arith}
 use lib.Dec.{eqb}
 use lib.ListN.{length, drop-of-length-le}
 use borrow.Author.Tests.{eq-eqb, ne-eqb}
-use Rattle.grammar.specs.Tokens.{Token, kLet, kIn, kEquals, kLambda, kArrow, kDot, kOpen, kShut, kComma, word, number, other, Located, scan}
+use Rattle.language.specs.Cases.{split}
+use Rattle.grammar.specs.Tokens.{when, Token, kLet, kIn, kEquals, kLambda, kArrow, kDot, kOpen, kShut, kComma, word, number, other, Located, scan}
 use Rattle.descent.specs.Cursor.{kindOf, wordOf, headKind, headWord, headValue, headPlace, behindHead, isAt}
 use Rattle.descent.specs.Cursor as D
 use Rattle.lexer.specs.declared.tokens.Lexed.{Lexed}
 use Rattle.lexer.specs.Lexing.{tokenKind, ended, lexAt, tokensFrom, bytesAt, valueOf, tokenFor}
 use Rattle.lexer.specs.LexingLaws.{Stands, lex-none, lex-end, lex-some, lex-word, lex-number}
+use Rattle.steps.specs.declared.cursor.Cursor.{Cursor}
+use Rattle.steps.specs.Cursors.{cursorOf, passedTo, partTo, refusedAt, passedOrRefused, partOrRefused, refusing, passing, passingPart}
 
 same-kind : (t : Token) → kindOf t ≡ tokenKind t
 unfolding kindOf
@@ -76,3 +80,56 @@ module _ (text : List ℕ) (at : ℕ) (x : Lexed) (e : x ≡ lexAt text at) wher
 
   pub not-kind : (k : ℕ) → (x .kind ≡ k → ⊥) → isAt k (tokensFrom text at) ≡ false
   not-kind k q = is-at k ∙ ne-eqb (x .kind) k q
+
+-- what the code makes of the token, descent makes of the one at the front
+module _ (text : List ℕ) (c : Cursor) (x : Lexed) (e : x ≡ lexAt text (c .at)) (r : Cursor) where
+  pub refused-here : (n : ℕ) → r ≡ refusedAt c n (x .start) → cursorOf text r ≡ refusing text n c
+  unfolding D.refuse
+  refused-here n q =
+      rw q λ i. record {
+        rest = tokensFrom text (c .at);
+        parts = c .parts;
+        count = c .count;
+        root = c .root;
+        name = c .name;
+        takes = c .takes;
+        number = n;
+        place = sym (head-place text (c .at) x e) i;
+      }
+
+  pub passed-here : r ≡ passedTo c (x .end) → cursorOf text r ≡ D.pass (cursorOf text c)
+  unfolding D.pass
+  passed-here q =
+      rw q λ i. record {
+        rest = sym (behind-head text (c .at) x e) i;
+        parts = c .parts;
+        count = c .count;
+        root = c .root;
+        name = c .name;
+        takes = c .takes;
+        number = c .number;
+        place = c .place;
+      }
+
+  part-here : r ≡ partTo c (x .end) → cursorOf text r ≡ D.passPart (cursorOf text c)
+  unfolding D.passPart
+  part-here q =
+      rw q λ i. record {
+        rest = sym (behind-head text (c .at) x e) i;
+        parts = add-one (c .parts) i;
+        count = c .count;
+        root = c .root;
+        name = c .name;
+        takes = c .takes;
+        number = c .number;
+        place = c .place;
+      }
+
+  module _ (n m : ℕ) (p : n ≡ m) where
+    pub judged-here : r ≡ passedOrRefused x n c → cursorOf text r ≡ passing text m c
+    unfolding D.judge when
+    judged-here q = rw (← p) (split (eqb n 0) (λ t. rw t (passed-here (rw t at q))) (λ f. rw f (refused-here n (rw f at q))))
+
+    pub judged-part-here : r ≡ partOrRefused x n c → cursorOf text r ≡ passingPart text m c
+    unfolding D.judge when
+    judged-part-here q = rw (← p) (split (eqb n 0) (λ t. rw t (part-here (rw t at q))) (λ f. rw f (refused-here n (rw f at q))))

@@ -4,18 +4,19 @@ use mathlib.Core.Path.{_≡_}
 use mathlib.Core.Bool.{Bool, true, false}
 use mathlib.Core.List.{List}
 use Prim.Native.Nat.{ℕ, _-_, _≤_, _<_}
-use lib.ListN.{set}
+use lib.ListN.{length, set}
 use Rattle.language.specs.Limits.{textParts, openMarks}
 use Rattle.layout.specs.Held.{kindBase}
 use Rattle.records.specs.Records.{numberKey}
-use Rattle.descent.specs.Cursor.{isAt, wordKind, digitsKind, binderLink}
+use Rattle.descent.specs.Cursor.{wordKind, digitsKind, binderLink}
 use Rattle.descent.specs.Descent.{State}
 use Rattle.descent.specs.Descent as D
 use Rattle.steps.specs.declared.cursor.Cursor.{Cursor}
 use Rattle.steps.specs.declared.scratch.Call.{Call}
+use Rattle.lexer.specs.declared.tokens.Lexed.{Lexed}
 use Rattle.lexer.specs.declared.tokens.Literal.{Literal}
 use Rattle.lexer.specs.declared.tokens.Literal.the-variants.{In, Beyond}
-use Rattle.lexer.specs.Lexing.{tokensFrom}
+use Rattle.lexer.specs.Lexing.{lexAt}
 use Rattle.steps.specs.Cursors.{stateOf}
 
 -- what a function that writes records and places does: whatever the text and the scope, in a scope, and for a text
@@ -63,16 +64,18 @@ pub record NameRoom (c : Cursor) (p d : ℕ) (scope : List ℕ) : Type 0 where
   pub depth : d ≤ openMarks
   pub links : (b : ℕ) → b < d → binderLink scope b ≤ textParts
 
--- a name, a number or the bracket that ends a call is next, and there is room for what it writes
-pub record NameAhead (text : List ℕ) (d : ℕ) (c : Cursor) (scope : List ℕ) : Type 0 where
-  pub ahead : isAt wordKind (tokensFrom text (c .at)) ≡ true
+-- the token x is next, a name or a number, and there is room for what it writes; room for what the bracket that ends a call writes
+pub record NameAhead (text : List ℕ) (x : Lexed) (d : ℕ) (c : Cursor) (scope : List ℕ) : Type 0 where
+  pub next : x ≡ lexAt text (c .at)
+  pub kind : x .kind ≡ wordKind
   pub parts : c .parts ≤ textParts
   pub count : c .count ≤ c .parts
   pub depth : d ≤ openMarks
   pub links : (b : ℕ) → b < d → binderLink scope b ≤ c .count
 
-pub record NumberAhead (text : List ℕ) (c : Cursor) : Type 0 where
-  pub ahead : isAt digitsKind (tokensFrom text (c .at)) ≡ true
+pub record NumberAhead (text : List ℕ) (x : Lexed) (c : Cursor) : Type 0 where
+  pub next : x ≡ lexAt text (c .at)
+  pub kind : x .kind ≡ digitsKind
   pub parts : c .parts ≤ textParts
   pub count : c .count ≤ c .parts
 
@@ -85,6 +88,11 @@ pub record ShutAhead (k : Call) (c : Cursor) : Type 0 where
 
 abbrev pub callOf : Call → D.Call
 callOf k = record { kind = k .kind; takes = k .takes; receiver = k .receiver; place = k .place; argument = k .argument }
+
+-- what reading the bracket that ends a call does, in each text that has it, the token x, at the cursor
+pub record WroteCall (x : Lexed) (k : Call) (c : Cursor) (records places : List ℕ) (r : Cursor) (records′ places′ : List ℕ) : Type 0 where
+  pub same : (text scope : List ℕ) → x ≡ lexAt text (c .at)
+      → stateOf text r records′ places′ scope ≡ D.readShut (length text) (callOf k) (stateOf text c records places scope)
 
 -- of a number's value: is it refused, and its key; one that is refused has any
 abbrev pub isBeyond : Literal → Bool

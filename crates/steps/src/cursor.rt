@@ -1,5 +1,5 @@
 // The cursor over a text, and what is refused at a token. Each function is the function of its name in descent's Cursor; the tokens that are
-// left are those from the cursor's place on.
+// left are those from the cursor's place on. A token x that is given is the one at the cursor, which the caller has lexed.
 use language::limits::Text;
 use language::names;
 use layout::nodes::Shape;
@@ -15,7 +15,7 @@ ghost use lib.ListN.{length};
 ghost use Rattle.language.specs.Limits.{textParts, openMarks};
 ghost use Rattle.descent.specs.Cursor.{binderLink, binderOf, lambdasIn};
 ghost use Rattle.descent.specs.Cursor.{atPart, atLet, atLambda, atBracket, atShut, atComma, need, letHead, lambdaHead, callHead};
-ghost use Rattle.steps.specs.Cursors.{cursorOf, passedTo, partTo, namedTo, refusedAt, refusing, passing, passingPart, binderNamed, memberNamed, callOpened};
+ghost use Rattle.steps.specs.Cursors.{cursorOf, passedTo, partTo, namedTo, refusedAt, passedOrRefused, partOrRefused, PartAhead, binderNamed, memberNamed, callOpened};
 ghost use Rattle.steps.specs.Cursors.{nameFault, numberFault, binderFault, openFault};
 
 // Two cells for each binder that can be open.
@@ -100,18 +100,16 @@ fn refused_at(c: Cursor, number: u8, place: usize) -> Cursor
 }
 
 // The token at the cursor is refused.
-pub fn refused(text: &[u8], number: u8, c: Cursor) -> Cursor
-    ensures { λ r. ⌜ cursorOf (now (text .entry)) r ≡ refusing (now (text .entry)) number c ⌝ }
+pub fn refused(x: Lexed, number: u8, c: Cursor) -> Cursor
+    ensures { λ r. ⌜ r ≡ refusedAt c number (x .start) ⌝ }
 {
-    let x = tokens::token(text, c.at);
     refused_at(c, number, x.start)
 }
 
 // The token at the cursor is refused by a number other than 0, or passed.
-pub fn judged(text: &[u8], number: u8, c: Cursor) -> Cursor
-    ensures { λ r. ⌜ cursorOf (now (text .entry)) r ≡ passing (now (text .entry)) number c ⌝ }
+pub fn judged(x: Lexed, number: u8, c: Cursor) -> Cursor
+    ensures { λ r. ⌜ r ≡ passedOrRefused x number c ⌝ }
 {
-    let x = tokens::token(text, c.at);
     if number == 0 {
         moved(c, x.end)
     } else {
@@ -120,11 +118,10 @@ pub fn judged(text: &[u8], number: u8, c: Cursor) -> Cursor
 }
 
 // The same, for a token that is a part.
-pub fn judged_part(text: &[u8], number: u8, c: Cursor) -> Cursor
+pub fn judged_part(x: Lexed, number: u8, c: Cursor) -> Cursor
     requires { ⌜ c .parts ≤ textParts ⌝ }
-    ensures { λ r. ⌜ cursorOf (now (text .entry)) r ≡ passingPart (now (text .entry)) number c ⌝ }
+    ensures { λ r. ⌜ r ≡ partOrRefused x number c ⌝ }
 {
-    let x = tokens::token(text, c.at);
     if number == 0 {
         counted(c, x.end)
     } else {
@@ -318,11 +315,11 @@ fn call_open(text: &[u8], marks: usize, c: Cursor) -> Cursor
 }
 
 // let name =
-pub fn let_head(text: &[u8], w: bool, marks: usize, c: Cursor) -> Cursor
-    requires { ⌜ c .parts ≤ textParts ⌝ }
+pub fn let_head(text: &[u8], x: Lexed, w: bool, marks: usize, c: Cursor) -> Cursor
+    requires { ⌜ PartAhead (now text) x c ⌝ }
     ensures { λ r. ⌜ cursorOf (now (text .entry)) r ≡ letHead (length (now (text .entry))) w marks (cursorOf (now (text .entry)) c) ⌝ }
 {
-    let a = judged_part(text, at_let(w, marks, c.parts), c);
+    let a = judged_part(x, at_let(w, marks, c.parts), c);
     if a.number == 0 {
         let b = binder_name(text, a);
         if b.number == 0 {
@@ -338,20 +335,17 @@ pub fn let_head(text: &[u8], w: bool, marks: usize, c: Cursor) -> Cursor
 // \ name ->
 pub fn lambda_head(
     text: &[u8],
+    x: Lexed,
     w: bool,
     marks: usize,
     depth: usize,
     scope: &[u64; SCOPE_CELLS],
     c: Cursor,
 ) -> Cursor
-    requires { ⌜ (c .parts ≤ textParts) × (depth ≤ openMarks) ⌝ }
+    requires { ⌜ PartAhead (now text) x c × (depth ≤ openMarks) ⌝ }
     ensures { λ r. ⌜ cursorOf (now (text .entry)) r ≡ lambdaHead (length (now (text .entry))) w marks depth (now (scope .entry)) (cursorOf (now (text .entry)) c) ⌝ }
 {
-    let a = judged_part(
-        text,
-        at_lambda(w, lambdas_in(scope, depth), marks, c.parts),
-        c,
-    );
+    let a = judged_part(x, at_lambda(w, lambdas_in(scope, depth), marks, c.parts), c);
     if a.number == 0 {
         let b = binder_name(text, a);
         if b.number == 0 {
@@ -365,11 +359,11 @@ pub fn lambda_head(
 }
 
 // . member (
-pub fn call_head(text: &[u8], marks: usize, c: Cursor) -> Cursor
-    requires { ⌜ c .parts ≤ textParts ⌝ }
+pub fn call_head(text: &[u8], x: Lexed, marks: usize, c: Cursor) -> Cursor
+    requires { ⌜ PartAhead (now text) x c ⌝ }
     ensures { λ r. ⌜ cursorOf (now (text .entry)) r ≡ callHead (length (now (text .entry))) marks (cursorOf (now (text .entry)) c) ⌝ }
 {
-    let a = judged_part(text, at_part(c.parts), c);
+    let a = judged_part(x, at_part(c.parts), c);
     if a.number == 0 {
         let b = member_name(text, a);
         if b.number == 0 {

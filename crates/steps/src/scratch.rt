@@ -11,15 +11,16 @@ use layout::nodes::RECORD_WEIGHT;
 use layout::nodes::Shape;
 use layout::nodes::TEXT_WORDS;
 use lexer::tokens;
+use lexer::tokens::Lexed;
 use lexer::tokens::Literal;
 ghost use mathlib.Core.Path.{_≡_};
 ghost use Prim.Native.Nat.{_+_, _*_, _≤_, _<_};
 ghost use lib.ListN.{length, set};
 ghost use Rattle.language.specs.Limits.{textParts, openMarks};
 ghost use Rattle.layout.specs.Memory.{nodeWith};
-ghost use Rattle.descent.specs.Descent.{put, putBound, putScoped, putName, readName, readNumber, readShut};
+ghost use Rattle.descent.specs.Descent.{put, putBound, putScoped, putName, readName, readNumber};
 ghost use Rattle.steps.specs.Cursors.{stateOf};
-ghost use Rattle.steps.specs.Scratch.{Wrote, WroteIn, WroteFor, Linked, Recorded, BoundRoom, ScopedRoom, NameRoom, NameAhead, NumberAhead, ShutAhead, isBeyond, keyOf, callOf};
+ghost use Rattle.steps.specs.Scratch.{Wrote, WroteIn, WroteFor, WroteCall, Linked, Recorded, BoundRoom, ScopedRoom, NameRoom, NameAhead, NumberAhead, ShutAhead, isBeyond, keyOf};
 
 // A call being read: its member's kind, how many arguments are still to come, the receiver's record, its part's place, and its first
 // argument, 0 for none or one more than a record.
@@ -192,6 +193,7 @@ fn key_of(value: Literal) -> u64
 // A name in use.
 pub fn read_name(
     text: &[u8],
+    x: Lexed,
     w: bool,
     depth: usize,
     c: Cursor,
@@ -199,14 +201,13 @@ pub fn read_name(
     records: &mut [u64; TEXT_WORDS],
     places: &mut [u16; Text::PARTS],
 ) -> Cursor
-    requires { ⌜ NameAhead (now text) depth c (now scope) ⌝ }
+    requires { ⌜ NameAhead (now text) x depth c (now scope) ⌝ }
     ensures { λ r. ⌜ stateOf (now (text .entry)) r (now (records .exit)) (now (places .exit)) (now (scope .entry))
         ≡ readName (length (now (text .entry))) w depth
         (stateOf (now (text .entry)) c (now (records .entry)) (now (places .entry)) (now (scope .entry))) ⌝ }
 {
-    let x = tokens::token(text, c.at);
     let number = cursor::at_name(w, tokens::is_long(text, x.start, x.end), c.parts);
-    let a = cursor::judged_part(text, number, c);
+    let a = cursor::judged_part(x, number, c);
     if a.number == 0 {
         put_name(
             a,
@@ -225,18 +226,18 @@ pub fn read_name(
 // A number.
 pub fn read_number(
     text: &[u8],
+    x: Lexed,
     w: bool,
     c: Cursor,
     records: &mut [u64; TEXT_WORDS],
     places: &mut [u16; Text::PARTS],
 ) -> Cursor
-    requires { ⌜ NumberAhead (now text) c ⌝ }
+    requires { ⌜ NumberAhead (now text) x c ⌝ }
     ensures { λ r. ⌜ WroteFor (now (text .entry)) (readNumber (length (now (text .entry))) w) c (now (records .entry)) (now (places .entry)) r (now (records .exit)) (now (places .exit)) ⌝ }
 {
-    let x = tokens::token(text, c.at);
     let value = tokens::number(text, x.start, x.end);
     let number = cursor::at_number(w, is_beyond(value), c.parts);
-    let a = cursor::judged_part(text, number, c);
+    let a = cursor::judged_part(x, number, c);
     if a.number == 0 {
         put(
             a,
@@ -256,16 +257,16 @@ pub fn read_number(
 
 // The bracket that ends a call.
 pub fn read_shut(
-    text: &[u8],
+    x: Lexed,
     k: Call,
     c: Cursor,
     records: &mut [u64; TEXT_WORDS],
     places: &mut [u16; Text::PARTS],
 ) -> Cursor
     requires { ⌜ ShutAhead k c ⌝ }
-    ensures { λ r. ⌜ WroteFor (now (text .entry)) (readShut (length (now (text .entry))) (callOf k)) c (now (records .entry)) (now (places .entry)) r (now (records .exit)) (now (places .exit)) ⌝ }
+    ensures { λ r. ⌜ WroteCall x k c (now (records .entry)) (now (places .entry)) r (now (records .exit)) (now (places .exit)) ⌝ }
 {
-    let a = cursor::judged(text, cursor::at_shut(k.takes), c);
+    let a = cursor::judged(x, cursor::at_shut(k.takes), c);
     if a.number == 0 {
         put(
             a,

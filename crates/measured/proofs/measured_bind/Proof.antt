@@ -8,7 +8,7 @@ can-bind-requires : tie.Need-can-bind-requires
 can-bind-requires c κs = search needs
 
 bind-requires : tie.Need-bind-requires
-bind-requires c κs = ((search (needs, bind-count), search (needs, bind-few), search needs, search needs), search (needs, bind-apart))
+bind-requires c κs = ((search (needs, bind-count), search (needs, bind-few), search needs), search (needs, bind-apart))
 
 slice-aggregate-at16 : tie.Need-slice-aggregate-at16
 slice-aggregate-at16 c = search needs

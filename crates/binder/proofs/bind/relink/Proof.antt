@@ -14,7 +14,7 @@ relinked-requires-2 : tie.Need-relinked-requires-2
 relinked-requires-2 c κs = search needs
 
 returns : tie.Need-returns
-returns c = search (needs, binding)
+returns c = (search (needs, binding), search needs)
 
 pub relink-spec : {M : Type 1} → statement M
 relink-spec = tie.close (tie.spec record-at-requires relinked-requires relinked-requires-2 returns)

@@ -1,6 +1,6 @@
 -- Each path through a reader is one of descent's rules, and the state at each call is fit and has fewer tokens left, or the call comes
 -- later in the order of those that pass none. The invariant of the loop over a chain of calls says that what the calls from here on give, the
--- whole chain gives. Assumes nothing.
+-- whole chain gives, and that x is the token here. Assumes nothing.
 use native.Mathlib.Omega.{arith}
 use borrow.Author.Needs.{needs}
 use Rattle.reader.specs.Parsing.{measure}
@@ -37,7 +37,6 @@ use Rattle.reader.proofs.parser.read_let.Kinds as read-let-kinds
 use Rattle.reader.proofs.parser.+arguments+atom+call+calls+expression+more+read_bracket+read_lambda+read_let.Lts-read_let as read-let-lts
 use Rattle.lexer.proofs.tokens.token.Reads as token-reads
 use Rattle.reader.proofs.parser.first_given.Reads as first-given-reads
-use Rattle.reader.proofs.parser.is_call.Reads as is-call-reads
 use Rattle.reader.proofs.parser.next_given.Reads as next-given-reads
 use Rattle.steps.proofs.cursor.at_bracket.Reads as at-bracket-reads
 use Rattle.steps.proofs.cursor.at_comma.Reads as at-comma-reads
@@ -68,7 +67,7 @@ abbrev μ-atom : Measures 4 atom-kinds.ps ℕ
 μ-atom κs a = measure 1 (a .0 .now) (a .1 .1 .1 .1 .1 .0)
 
 abbrev μ-call : Measures 4 call-kinds.ps ℕ
-μ-call κs a = measure 0 (a .0 .now) (a .1 .1 .1 .0)
+μ-call κs a = measure 0 (a .0 .now) (a .1 .1 .1 .1 .0)
 
 abbrev μ-calls : Measures 4 calls-kinds.ps ℕ
 μ-calls κs a = measure 1 (a .0 .now) (a .1 .1 .1 .0)
@@ -80,13 +79,13 @@ abbrev μ-more : Measures 4 more-kinds.ps ℕ
 μ-more κs a = measure 0 (a .0 .now) (a .1 .1 .1 .1 .0)
 
 abbrev μ-read-bracket : Measures 4 read-bracket-kinds.ps ℕ
-μ-read-bracket κs a = measure 0 (a .0 .now) (a .1 .1 .1 .1 .0)
+μ-read-bracket κs a = measure 0 (a .0 .now) (a .1 .1 .1 .1 .1 .0)
 
 abbrev μ-read-lambda : Measures 4 read-lambda-kinds.ps ℕ
-μ-read-lambda κs a = measure 0 (a .0 .now) (a .1 .1 .1 .1 .0)
+μ-read-lambda κs a = measure 0 (a .0 .now) (a .1 .1 .1 .1 .1 .0)
 
 abbrev μ-read-let : Measures 4 read-let-kinds.ps ℕ
-μ-read-let κs a = measure 0 (a .0 .now) (a .1 .1 .1 .1 .0)
+μ-read-let κs a = measure 0 (a .0 .now) (a .1 .1 .1 .1 .1 .0)
 
 abbrev arguments-at : ℕ → In 4 arguments-kinds.ps
 arguments-at t = and 4 arguments-kinds.ps (is 4 arguments-kinds.ps μ-arguments t) arguments.Pre
@@ -232,7 +231,7 @@ atom-read-bracket-requires : (t : ℕ) → atom-lts.Need-read-bracket-requires (
 atom-read-bracket-requires t c κs =
     let at-if1 = c .before .before .before in
     let at-pre = at-if1 .before .before in
-    (omega (arith, at-pre .pre .0), L.ready-at _ _ _ _ _ _ _ _ _ (at-pre .pre .1 .next) _ (at-if1 .if1 .taken) (at-pre .pre .1 .ready))
+    (omega (arith, at-pre .pre .0), record { next = at-pre .pre .1 .next; kind = at-if1 .if1 .taken; fit = at-pre .pre .1 .ready .fit })
 
 atom-returns : (t : ℕ) → atom-lts.Need-returns (atom-claims t) (atom-at t) atom.Post
 atom-returns t c = c .read-bracket .ensures
@@ -278,10 +277,10 @@ call-claims t =
     (call-head-reads.Asked, call-head-reads.Learnt, arguments-below t, arguments.Post)
 
 call-call-head-requires : (t : ℕ) → call-lts.Need-call-head-requires (call-claims t) (call-at t) call.Post
-call-call-head-requires t c κs = c .before .pre .1 .fit .parts
+call-call-head-requires t c κs = record { next = c .before .pre .1 .next; parts = c .before .pre .1 .fit .parts }
 
-call-cast-t12 : (t : ℕ) → call-lts.Need-cast-t12 (call-claims t) (call-at t) call.Post
-call-cast-t12 t c =
+call-cast-t13 : (t : ℕ) → call-lts.Need-cast-t13 (call-claims t) (call-at t) call.Post
+call-cast-t13 t c =
     let at-if1 = c .before in
     let at-call-head = at-if1 .before .before in
     let at-pre = at-call-head .before .before in
@@ -308,42 +307,46 @@ call-returns-2 t c = L.call-head-refused _ _ _ _ _ _ _ _ (c .before .before .bef
 
 abbrev calls-claims : ℕ → calls-lts.Claims
 calls-claims t =
-    (is-call-reads.Asked, is-call-reads.Learnt, call-below t, call.Post)
+    (token-reads.Asked, token-reads.Learnt, call-below t, call.Post)
 
 abbrev calls-Inv-loop : calls-lts.InvT-loop
-calls-Inv-loop text marks depth records₀ places₀ scope₀ a₀ records places scope a =
-    L.Chain text marks depth a₀ records₀ places₀ scope₀ a records places scope
+calls-Inv-loop text marks depth records₀ places₀ scope₀ a₀ x₀ records places scope a x =
+    L.Chain text marks depth a₀ records₀ places₀ scope₀ x a records places scope
 
 abbrev calls-μ-loop : calls-lts.MeasureT-loop
-calls-μ-loop text marks depth records₀ places₀ scope₀ a₀ records places scope a = measure 0 text a
+calls-μ-loop text marks depth records₀ places₀ scope₀ a₀ x₀ records places scope a x = measure 0 text a
+
+calls-token-requires : (t : ℕ) → calls-lts.Need-token-requires (calls-claims t) (calls-at t) calls.Post calls-Inv-loop calls-μ-loop
+calls-token-requires t c κs = search needs
 
 calls-loop-holds : (t : ℕ) → calls-lts.Need-loop-holds (calls-claims t) (calls-at t) calls.Post calls-Inv-loop calls-μ-loop
-calls-loop-holds t c = L.chain-none _ _ _ _ _ _ _ (c .before .pre .1)
-
-calls-is-call-requires : (t : ℕ) → calls-lts.Need-is-call-requires (calls-claims t) (calls-at t) calls.Post calls-Inv-loop calls-μ-loop
-calls-is-call-requires t c κs = search needs
+calls-loop-holds t c = L.chain-none _ _ _ _ _ _ _ (c .token .ensures) (c .before .before .pre .1)
 
 calls-call-requires : (t : ℕ) → calls-lts.Need-call-requires (calls-claims t) (calls-at t) calls.Post calls-Inv-loop calls-μ-loop
 calls-call-requires t c κs =
     let at-if1 = c .before .before .before in
-    let at-is-call = at-if1 .before in
-    let at-loop = at-is-call .before in
-    let at-pre = at-loop .before .before in (
-      omega (arith, at-pre .pre .0, at-loop .loop .inv .less),
-      L.chain-ready _ _ _ _ _ _ _ _ _ _ _ (at-loop .loop .inv) _ (at-is-call .is-call .ensures) (at-if1 .if1 .taken),
-    )
+    let at-loop = at-if1 .before .before in
+    let at-pre = at-loop .before .before .before in
+    let chain = at-loop .loop .inv in
+    (omega (arith, at-pre .pre .0, chain .less), record { next = chain .next; kind = at-if1 .if1 .taken; fit = chain .fit .fit })
 
 calls-returns : (t : ℕ) → calls-lts.Need-returns (calls-claims t) (calls-at t) calls.Post calls-Inv-loop calls-μ-loop
 calls-returns t c = L.chain-refused _ _ _ _ _ _ _ _ _ _ _ (c .before .before .before .before .before .before .before .before .loop .inv) _ _ _ _ (c .before .before .call .ensures) (c .if2 .taken)
 
+calls-token-requires-2 : (t : ℕ) → calls-lts.Need-token-requires-2 (calls-claims t) (calls-at t) calls.Post calls-Inv-loop calls-μ-loop
+calls-token-requires-2 t c κs = search needs
+
 calls-loop-less : (t : ℕ) → calls-lts.Need-loop-less (calls-claims t) (calls-at t) calls.Post calls-Inv-loop calls-μ-loop
-calls-loop-less t c = omega (arith, c .before .before .call .ensures .less (c .if2 .left))
+calls-loop-less t c = omega (arith, c .before .before .before .call .ensures .less (c .before .if2 .left))
 
 calls-loop-again : (t : ℕ) → calls-lts.Need-loop-again (calls-claims t) (calls-at t) calls.Post calls-Inv-loop calls-μ-loop
-calls-loop-again t c = L.chain-on _ _ _ _ _ _ _ _ _ _ _ (c .before .before .before .before .before .before .before .before .loop .inv) _ _ _ _ (c .before .before .call .ensures) (c .if2 .left)
+calls-loop-again t c =
+    let at-call = c .before .before .before in
+    let at-loop = at-call .before .before .before .before .before .before in
+    L.chain-on _ _ _ _ _ _ _ _ _ _ _ (at-loop .loop .inv) _ _ _ _ (at-call .call .ensures) (c .token2 .ensures) (c .before .if2 .left)
 
 calls-returns-2 : (t : ℕ) → calls-lts.Need-returns-2 (calls-claims t) (calls-at t) calls.Post calls-Inv-loop calls-μ-loop
-calls-returns-2 t c = L.chain-over _ _ _ _ _ _ _ _ _ _ _ (c .before .before .loop .inv) _ (c .before .is-call .ensures) (c .if1 .left)
+calls-returns-2 t c = L.chain-over _ _ _ _ _ _ _ _ _ _ _ (c .before .before .loop .inv) (c .if1 .left)
 
 abbrev expression-claims : ℕ → expression-lts.Claims
 expression-claims t =
@@ -357,7 +360,7 @@ expression-read-let-requires t c κs =
     let at-if1 = c .before .before .before in
     let at-token = at-if1 .before in
     let at-pre = at-token .before .before in
-    (omega (arith, at-pre .pre .0), L.ready-at _ _ _ _ _ _ _ _ _ (at-token .token .ensures) _ (at-if1 .if1 .taken) (at-pre .pre .1))
+    (omega (arith, at-pre .pre .0), record { next = at-token .token .ensures; kind = at-if1 .if1 .taken; fit = at-pre .pre .1 .fit })
 
 expression-returns : (t : ℕ) → expression-lts.Need-returns (expression-claims t) (expression-at t) expression.Post
 expression-returns t c = c .read-let .ensures
@@ -367,7 +370,7 @@ expression-read-lambda-requires t c κs =
     let at-if2 = c .before .before .before in
     let at-token = at-if2 .before .before in
     let at-pre = at-token .before .before in
-    (omega (arith, at-pre .pre .0), L.ready-at _ _ _ _ _ _ _ _ _ (at-token .token .ensures) _ (at-if2 .if2 .taken) (at-pre .pre .1))
+    (omega (arith, at-pre .pre .0), record { next = at-token .token .ensures; kind = at-if2 .if2 .taken; fit = at-pre .pre .1 .fit })
 
 expression-returns-2 : (t : ℕ) → expression-lts.Need-returns-2 (expression-claims t) (expression-at t) expression.Post
 expression-returns-2 t c = c .read-lambda .ensures
@@ -582,7 +585,9 @@ read-lambda-claims t =
     (lambda-head-reads.Asked, lambda-head-reads.Learnt, lambdas-in-reads.Asked, lambdas-in-reads.Learnt, enter-reads.Asked, enter-reads.Learnt, expression-below t, expression.Post, put-reads.Asked, put-reads.Learnt)
 
 read-lambda-lambda-head-requires : (t : ℕ) → read-lambda-lts.Need-lambda-head-requires (read-lambda-claims t) (read-lambda-at t) read-lambda.Post
-read-lambda-lambda-head-requires t c κs = (c .before .before .pre .1 .fit .parts, omega (arith, c .before .before .pre .1 .fit .depth, c .before .before .pre .1 .fit .marks))
+read-lambda-lambda-head-requires t c κs =
+    let at-pre = c .before .before in
+    (record { next = at-pre .pre .1 .next; parts = at-pre .pre .1 .fit .parts }, omega (arith, at-pre .pre .1 .fit .depth, at-pre .pre .1 .fit .marks))
 
 read-lambda-lambdas-in-requires : (t : ℕ) → read-lambda-lts.Need-lambdas-in-requires (read-lambda-claims t) (read-lambda-at t) read-lambda.Post
 read-lambda-lambdas-in-requires t c κs =
@@ -669,7 +674,7 @@ read-let-claims t =
     (let-head-reads.Asked, let-head-reads.Learnt, expression-below t, expression.Post, need-reads.Asked, need-reads.Learnt, enter-reads.Asked, enter-reads.Learnt, mark-reads.Asked, mark-reads.Learnt)
 
 read-let-let-head-requires : (t : ℕ) → read-let-lts.Need-let-head-requires (read-let-claims t) (read-let-at t) read-let.Post
-read-let-let-head-requires t c κs = c .before .pre .1 .fit .parts
+read-let-let-head-requires t c κs = record { next = c .before .pre .1 .next; parts = c .before .pre .1 .fit .parts }
 
 read-let-add-expression : (t : ℕ) → read-let-lts.Need-add-expression (read-let-claims t) (read-let-at t) read-let.Post
 read-let-add-expression t c = omega (arith, c .before .before .before .before .pre .1 .fit .marks)
@@ -853,7 +858,7 @@ pub +arguments+atom+call+calls+expression+more+read-bracket+read-lambda+read-let
     (call-at t)
     call.Post
     (call-call-head-requires t)
-    (call-cast-t12 t)
+    (call-cast-t13 t)
     (call-arguments-requires t)
     (call-returns t)
     (call-returns-2 t))
@@ -862,10 +867,11 @@ pub +arguments+atom+call+calls+expression+more+read-bracket+read-lambda+read-let
     calls.Post
     calls-Inv-loop
     calls-μ-loop
+    (calls-token-requires t)
     (calls-loop-holds t)
-    (calls-is-call-requires t)
     (calls-call-requires t)
     (calls-returns t)
+    (calls-token-requires-2 t)
     (calls-loop-less t)
     (calls-loop-again t)
     (calls-returns-2 t))

@@ -4,9 +4,6 @@ use Rattle.steps.proofs.CursorPaths.{judged-passed, judged-refused}
 use Rattle.steps.proofs.cursor.judged.Statement.{statement}
 use Rattle.steps.proofs.cursor.judged.Tie as tie
 
-token-requires : tie.Need-token-requires
-token-requires c κs = search needs
-
 moved-requires : tie.Need-moved-requires
 moved-requires c κs = search needs
 
@@ -21,4 +18,4 @@ returns-2 c = search judged-refused
 
 pub judged-spec : {M : Type 1} → statement M
 judged-spec =
-    tie.close (tie.spec token-requires moved-requires refused-at-requires returns returns-2)
+    tie.close (tie.spec moved-requires refused-at-requires returns returns-2)

@@ -4,9 +4,6 @@ use Rattle.steps.proofs.CursorPaths.{part-passed, part-refused}
 use Rattle.steps.proofs.cursor.judged_part.Statement.{statement}
 use Rattle.steps.proofs.cursor.judged_part.Tie as tie
 
-token-requires : tie.Need-token-requires
-token-requires c κs = search needs
-
 counted-requires : tie.Need-counted-requires
 counted-requires c κs = search needs
 
@@ -21,4 +18,4 @@ returns-2 c = search part-refused
 
 pub judged-part-spec : {M : Type 1} → statement M
 judged-part-spec =
-    tie.close (tie.spec token-requires counted-requires refused-at-requires returns returns-2)
+    tie.close (tie.spec counted-requires refused-at-requires returns returns-2)

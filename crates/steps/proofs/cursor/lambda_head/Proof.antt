@@ -20,7 +20,7 @@ need-requires : tie.Need-need-requires
 need-requires c κs = search needs
 
 returns : tie.Need-returns
-returns c = search lambda-goes
+returns c = search (lambda-goes, c .before .before .before .before .before .before .before .before .before .before .pre .0)
 
 returns-2 : tie.Need-returns-2
 returns-2 c = search lambda-name-stops

@@ -4,9 +4,6 @@ use Rattle.steps.proofs.ScratchPaths.{name-room, name-read, name-stoppe
 use Rattle.steps.proofs.scratch.read_name.Tie as tie
 use Rattle.steps.proofs.scratch.read_name.Statement.{statement}
 
-token-requires : tie.Need-token-requires
-token-requires c κs = search needs
-
 is-long-requires : tie.Need-is-long-requires
 is-long-requires c κs = search needs
 
@@ -32,7 +29,6 @@ pub read-name-spec : {M : Type 1} → statement M
 read-name-spec =
     tie.close
     (tie.spec
-    token-requires
     is-long-requires
     at-name-requires
     judged-part-requires

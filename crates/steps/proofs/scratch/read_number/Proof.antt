@@ -4,9 +4,6 @@ use Rattle.steps.proofs.ScratchPaths.{number-room, number-read, number-
 use Rattle.steps.proofs.scratch.read_number.Statement.{statement}
 use Rattle.steps.proofs.scratch.read_number.Tie as tie
 
-token-requires : tie.Need-token-requires
-token-requires c κs = search needs
-
 number-requires : tie.Need-number-requires
 number-requires c κs = search needs
 
@@ -35,7 +32,6 @@ pub read-number-spec : {M : Type 1} → statement M
 read-number-spec =
     tie.close
     (tie.spec
-    token-requires
     number-requires
     is-beyond-requires
     at-number-requires
