@@ -4,6 +4,7 @@ use mathlib.Core.Path.{_≡_, refl, sym, ap, _∙_}
 use mathlib.Core.Bool.{Bool, true, false, _&&_, and-eq-true-iff}
 use mathlib.Core.List.{List}
 use Prim.Native.Nat.{ℕ, _+_, _≤_, _<_}
+use native.Mathlib.Omega.{arith}
 use borrow.Author.Needs.{needs}
 use borrow.Author.Tests.{le-leb, lt-leb, ltb-true}
 use lib.Dec.{ltb}
@@ -23,6 +24,7 @@ use Rattle.values.specs.declared.apply.Applied.the-variants.{Done, Run}
 use Rattle.values.specs.Applied.{applied1}
 use Rattle.values.specs.Tested.{tested0, tested1}
 use Rattle.values.specs.TestedLaws.{tested0-is, tested1-is}
+use Rattle.values.specs.Keepable.{Bounded}
 use Rattle.values.specs.Packing.{packOf, unpackOf, windowCell, wrongCell}
 use Rattle.values.specs.PackingLaws.{numberIn, unpack-number}
 use Rattle.columns.specs.Calling.{boundedOf, askOf, callOf, settledOf, cellOf, Bounds}
@@ -53,6 +55,15 @@ module _ (v : Value) where
   unfolding boundedOf
   bounds-missing r e = rw e (record { same = refl; bounded = tt })
 
+-- one that ends within 16 bits is taken as it is
+pub bounded-is : (v : Value) → Bounded v → boundedOf v ≡ v
+unfolding boundedOf
+bounded-is (Number z) h = refl
+bounded-is (Window s l) h = rw (le-leb (s + l) 65535 h)
+bounded-is Function h = refl
+bounded-is Delayed h = refl
+bounded-is (Missing r) h = refl
+
 -- ---- members
 module _ (k r : Found) (f : r ≡ k) (xs : List ℤ) where
   pub ask-none : (a : ℕ) → r ≡ Unknown → wrongCell ≡ askOf k xs a
@@ -62,6 +73,17 @@ module _ (k r : Found) (f : r ≡ k) (xs : List ℤ) where
   pub ask-is : (m : Member) (a c : ℕ) (u v : Value) → r ≡ Is m → u ≡ unpackOf a → v ≡ tested0 m xs u → c ≡ packOf v → c ≡ askOf k xs a
   unfolding askOf
   ask-is m a c u v e p q s = rw (sym f ∙ e) (s ∙ ap packOf (q ∙ tested0-is m xs u ∙ ap (apply0 m xs) p))
+
+  -- what the cell holds again
+  pub back-none : (a c : ℕ) → r ≡ Unknown → (m : Member) → k ≡ Is m → unpackOf c ≡ apply0 m xs (unpackOf a)
+  back-none a c e m q = let z : Unknown ≡ Is m = sym e ∙ f ∙ q in let y : _≡_ {A = ℕ} 0 1 = cc in absurd (omega arith)
+
+  pub back-is : (n : Member) (a c : ℕ) (u v : Value) → r ≡ Is n → u ≡ unpackOf a → v ≡ tested0 n xs u → unpackOf c ≡ v
+      → (m : Member) → k ≡ Is m → unpackOf c ≡ apply0 m xs (unpackOf a)
+  back-is n a c u v e p t b m q =
+      let z : Is n ≡ Is m = sym e ∙ f ∙ q in
+      let same : n ≡ m = cc in
+      b ∙ t ∙ tested0-is n xs u ∙ (λ i. apply0 (same i) xs (p i))
 
   pub call-none : (a b : ℕ) → r ≡ Unknown → Done (Missing 2) ≡ callOf k xs a b
   unfolding callOf
@@ -165,6 +187,8 @@ pub ruleset calls = (
   bounds-missing,
   ask-none,
   ask-is,
+  back-none,
+  back-is,
   call-none,
   call-is,
   numbers-none,

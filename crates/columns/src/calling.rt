@@ -15,8 +15,11 @@ ghost use mathlib.Core.Path.{_≡_};
 ghost use mathlib.Core.List.{List};
 ghost use Prim.Native.Nat.{_<_};
 ghost use lib.IntN.{ℤ};
+ghost use Rattle.members.specs.declared.Member.{Member};
+ghost use Rattle.members.specs.declared.Found.the-variants.{Is};
+ghost use Rattle.rules.specs.Apply.{apply0};
 ghost use Rattle.values.specs.declared.apply.Applied.the-variants.{Done};
-ghost use Rattle.values.specs.Packing.{windowCell};
+ghost use Rattle.values.specs.Packing.{windowCell, unpackOf};
 ghost use Rattle.layout.specs.Nodes.{memberOfKind};
 ghost use Rattle.columns.specs.Calling.{askOf, callOf, settledOf, cellOf, Bounds};
 
@@ -39,7 +42,8 @@ fn bounded(v: Value) -> Value
 }
 
 pub fn ask(kind: u16, readings: &[i32], a: u64) -> u64
-    ensures { λ r. ⌜ r ≡ askOf (memberOfKind kind) (now (readings .entry)) a ⌝ }
+    ensures same { λ r. ⌜ r ≡ askOf (memberOfKind kind) (now (readings .entry)) a ⌝ }
+    ensures back { λ r. ⌜ ((m : Member) → memberOfKind kind ≡ Is m → unpackOf r ≡ apply0 m (now (readings .entry)) (unpackOf a)) ⌝ }
 {
     match member_of(kind) {
         Found::Is(m) => pack(apply0(m, readings, unpack(a))),

@@ -2,11 +2,8 @@
 use layout::nodes::member_of;
 use members::Found;
 use values::apply::Applied;
-use values::apply::apply0;
-use values::apply::apply1;
 use values::packing::Packed;
 use values::packing::pack;
-use values::packing::unpack;
 use values::runs::Tally;
 use values::runs::finish;
 ghost use mathlib.Core.Path.{_≡_};
@@ -31,10 +28,7 @@ pub struct Outcome {
 pub fn ask(kind: u16, readings: &[i32], a: u64) -> u64
     ensures { λ r. ⌜ ((m : Member) → kind ≡ memberKind m → unpackOf r ≡ Rules.apply0 m (now (readings .entry)) (unpackOf a)) ⌝ }
 {
-    match member_of(kind) {
-        Found::Is(m) => pack(apply0(m, readings, unpack(a))),
-        Found::Unknown => Packed::WRONG,
-    }
+    columns::calling::ask(kind, readings, a)
 }
 
 fn outcome_of(x: Applied) -> Outcome
@@ -61,15 +55,7 @@ pub fn call(kind: u16, readings: &[i32], a: u64, b: u64) -> Outcome
     requires { ⌜ Bounded (unpackOf a) ⌝ }
     ensures { λ r. ⌜ ((m : Member) → kind ≡ memberKind m → Is (applied1 m (now (readings .entry)) (unpackOf a) (unpackOf b)) r) ⌝ }
 {
-    match member_of(kind) {
-        Found::Is(m) => outcome_of(apply1(m, readings, unpack(a), unpack(b))),
-        Found::Unknown => Outcome {
-            runs: false,
-            cell: Packed::WRONG,
-            start: 0,
-            length: 0,
-        },
-    }
+    outcome_of(columns::calling::call(kind, readings, a, b))
 }
 
 // What a member that runs a function comes to, from the results.

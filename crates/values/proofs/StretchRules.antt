@@ -1,29 +1,34 @@
 -- What the proofs of the best stretch cite, in the shape that `search` finds: the laws of SlidingLaws at the locals' bits. Assumes nothing.
 use mathlib.Core.Path.{_≡_, refl, sym, ap, _∙_}
 use mathlib.Core.Bool.{Bool, true, false, cond}
-use mathlib.Core.List.{List}
+use mathlib.Core.List.{List, [], _∷_}
+use mathlib.Core.Logic.{inl, inr}
 use Prim.Native.Nat.{ℕ, _+_, _-_, _≤_, _<_}
 use native.Mathlib.Omega.{arith}
 use borrow.Author.Needs.{needs}
 use borrow.Author.Tests.{lt-ltb, le-ltb, ltb-true}
-use lib.Dec.{ltb}
+use lib.Dec.{ltb, eqb}
 use lib.IntN.{ℤ, pos, negsuc, natAbs, _+ℤ_, _-ℤ_}
 use lib.ListN.{length, take, getD, length-take}
 use lib.Signed.{ltZ}
 use mir.Syntax.{w32, w64}
 use mir.Val.{SFits, toZ, ofZ}
 use mir.Facts.{toZ-pos, toZ-ofZ}
+use types.Run.{OneOf}
+use Rattle.members.specs.Members.{memberNumber}
+use Rattle.members.specs.declared.Member.{Member}
 use Rattle.members.specs.declared.Member.the-variants.{BestSum, BestAt}
 use Rattle.rules.specs.declared.Value.{Value}
-use Rattle.rules.specs.declared.Value.the-variants.{Number, Missing}
-use Rattle.rules.specs.Values.{ranged, outsideWindow}
+use Rattle.rules.specs.declared.Value.the-variants.{Number, Function, Missing}
+use Rattle.rules.specs.Values.{ranged, wrongKind, outsideWindow}
 use Rattle.rules.specs.Windows.{readingsIn}
 use Rattle.rules.specs.Stretches.{sums, ofGreatest, firstAt, ofWidth, bestSum, bestAt}
 use Rattle.rules.specs.Rules.{rule, onWindow}
 use Rattle.values.specs.declared.stretches.Best.{Best}
 use Rattle.values.specs.Ranges.{mag-abs, abs-mag, abs-sum, abs-difference}
-use Rattle.values.specs.Sliding.{Totals, widthIn, better, best}
+use Rattle.values.specs.Sliding.{Totals, widthIn, better, best, Chooses}
 use Rattle.values.specs.SlidingLaws.{best-greatest, best-within, best-index, width-none, width-some, Slid, slid-none, slid-more, slid-all}
+use Rattle.values.proofs.Tables.{tag, besides, last-arm}
 use Rattle.values.proofs.Signed.{index-cast, widens, wide, wide-is, read-lt}
 use Rattle.values.proofs.WindowRules.{part-few}
 
@@ -127,17 +132,24 @@ last-slid ys w t b i s h = slid-all ys w t b i s h
 
 -- ---- the members
 
+abbrev besides-at : List ℕ
+besides-at = besides (BestAt ∷ [])
+
+-- of the two, the one that the last arm stands for
+not-at : (m : Member) → Chooses m → OneOf besides-at (tag m) → m ≡ BestSum
+not-at m (inl k) o = k
+not-at m (inr k) o =
+    let z : Missing wrongKind ≡ Function = rw k at (last-arm (λ j. cond (eqb (memberNumber j) (memberNumber BestAt)) Function (Missing wrongKind)) besides-at refl m o) in
+    cc
+
 module _ (xs ys : List ℤ) (s l : ℕ) (e : ys ≡ readingsIn xs s l) (n : ℤ) (g : SFits w32 n) (w : ℕ) (q : w ≡ widthIn (toZ w32 (ofZ w32 n)) (length ys)) where
   width-is : w ≡ widthIn n (length ys)
   width-is = q ∙ ap (λ (z : ℤ). widthIn z (length ys)) (toZ-ofZ g)
 
-  pub sum-none : w ≡ 0 → Missing outsideWindow ≡ onWindow BestSum xs s l n
-  unfolding onWindow rule bestSum
-  sum-none z = width-none (length ys) _ n (sym width-is ∙ z) ∙ ap (λ (zs : List ℤ). bestSum zs n) e
-
-  pub index-none : w ≡ 0 → Missing outsideWindow ≡ onWindow BestAt xs s l n
-  unfolding onWindow rule bestAt
-  index-none z = width-none (length ys) _ n (sym width-is ∙ z) ∙ ap (λ (zs : List ℤ). bestAt zs n) e
+  pub none-chosen : (m : Member) → Chooses m → w ≡ 0 → Missing outsideWindow ≡ onWindow m xs s l n
+  unfolding onWindow rule bestSum bestAt
+  none-chosen m (inl k) z = rw k (width-none (length ys) _ n (sym width-is ∙ z) ∙ ap (λ (zs : List ℤ). bestSum zs n) e)
+  none-chosen m (inr k) z = rw k (width-none (length ys) _ n (sym width-is ∙ z) ∙ ap (λ (zs : List ℤ). bestAt zs n) e)
 
   module _ (some : w ≡ 0 → ⊥) where
     chosen : (f : ℕ → Value) → (widthIn n (length ys) ≤ length ys) × (f (widthIn n (length ys)) ≡ ofWidth n (length ys) f)
@@ -147,11 +159,11 @@ module _ (xs ys : List ℤ) (s l : ℕ) (e : ys ≡ readingsIn xs s l) (n : ℤ)
     width-within = rw width-is (chosen (λ k. Missing outsideWindow) .0)
 
     module _ (b : Best) (is : b ≡ best ys w) where
-      pub sum-found : {r : Value} → SFits w64 (b .sum) → r ≡ ranged (toZ w64 (ofZ w64 (b .sum))) → r ≡ onWindow BestSum xs s l n
+      pub sum-found : (m : Member) → Chooses m → OneOf besides-at (tag m) → {r : Value} → SFits w64 (b .sum) → r ≡ ranged (toZ w64 (ofZ w64 (b .sum))) → r ≡ onWindow m xs s l n
       unfolding onWindow rule bestSum
-      sum-found f k =
-          k ∙ ap ranged (toZ-ofZ f ∙ ap (λ (c : Best). c .sum) is) ∙ best-greatest ys w width-within ranged
-          ∙ ap (λ (j : ℕ). ofGreatest ranged (sums ys j)) width-is ∙ chosen _ .1 ∙ ap (λ (zs : List ℤ). bestSum zs n) e
+      sum-found m t o f k =
+          rw (not-at m t o) (k ∙ ap ranged (toZ-ofZ f ∙ ap (λ (c : Best). c .sum) is) ∙ best-greatest ys w width-within ranged
+          ∙ ap (λ (j : ℕ). ofGreatest ranged (sums ys j)) width-is ∙ chosen _ .1 ∙ ap (λ (zs : List ℤ). bestSum zs n) e)
 
       index-small : length ys ≤ 65535 → b .at < 2147483648
       index-small few = omega (arith, ap (λ (c : Best). c .at) is, best-within ys w width-within)
@@ -159,12 +171,12 @@ module _ (xs ys : List ℤ) (s l : ℕ) (e : ys ≡ readingsIn xs s l) (n : ℤ)
       pub index-fits : length ys ≤ 65535 → SFits w32 (pos (b .at))
       index-fits few = record { sfits = index-small few }
 
-      pub index-found : length ys ≤ 65535 → Number (toZ w32 (b .at)) ≡ onWindow BestAt xs s l n
+      pub index-found : (m : Member) → m ≡ BestAt → length ys ≤ 65535 → Number (toZ w32 (b .at)) ≡ onWindow m xs s l n
       unfolding onWindow rule bestAt
-      index-found few =
-          ap Number (toZ-pos w32 (index-small few)) ∙ ap (λ (c : Best). Number (pos (c .at))) is ∙ best-index ys w width-within
+      index-found m k few =
+          rw k (ap Number (toZ-pos w32 (index-small few)) ∙ ap (λ (c : Best). Number (pos (c .at))) is ∙ best-index ys w width-within
           ∙ ap (λ (j : ℕ). ofGreatest (λ z. Number (pos (firstAt z (sums ys j)))) (sums ys j)) width-is ∙ chosen _ .1
-          ∙ ap (λ (zs : List ℤ). bestAt zs n) e
+          ∙ ap (λ (zs : List ℤ). bestAt zs n) e)
 
 pub ruleset stretch-rules = (
   needs,
@@ -184,8 +196,7 @@ pub ruleset stretch-rules = (
   slid-small,
   next-slid,
   last-slid,
-  sum-none,
-  index-none,
+  none-chosen,
   width-within,
   sum-found,
   index-fits,

@@ -28,6 +28,9 @@ member k = getD members k Add
 tagged : (m : Member) → member (tag m) ≡ m
 tagged m = ap member (eqb-true (tag m) (memberNumber m) (each (λ k. eqb (tag k) (memberNumber k)) refl m)) ∙ number-row m
 
+pub told : (m : Member) (k : ℕ) → tag m ≡ k → member k ≡ m
+told m k e = ap member (sym e) ∙ tagged m
+
 abbrev isIn : ℕ → List Member → Bool
 isIn n [] = false
 isIn n (m ∷ ms) = eqb n (memberNumber m) || isIn n ms
@@ -45,10 +48,10 @@ pub last-arm : (f : Member → Value) (ks : List ℕ) → map (λ k. f (member k
 last-arm f [] w m k = absurd k
 last-arm f (k ∷ []) w m e =
     let h : f (member k) ≡ Missing wrongKind = cc in
-    sym h ∙ ap f (ap member (sym e) ∙ tagged m)
+    sym h ∙ ap f (told m k e)
 last-arm f (k ∷ k′ ∷ ks) w m (inl e) =
     let h : f (member k) ≡ Missing wrongKind = cc in
-    sym h ∙ ap f (ap member (sym e) ∙ tagged m)
+    sym h ∙ ap f (told m k e)
 last-arm f (k ∷ k′ ∷ ks) w m (inr r) =
     let t : map (λ k. f (member k)) (k′ ∷ ks) ≡ map (λ k. Missing wrongKind) (k′ ∷ ks) = cc in
     last-arm f (k′ ∷ ks) t m r

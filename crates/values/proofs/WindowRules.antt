@@ -3,6 +3,7 @@
 use mathlib.Core.Path.{_≡_, refl, sym, ap, _∙_}
 use mathlib.Core.Bool.{true, false}
 use mathlib.Core.List.{List, [], _∷_}
+use mathlib.Core.Logic.{inl, inr}
 use Prim.Native.Nat.{ℕ, _+_, _-_, _≤_, _<_}
 use native.Mathlib.Omega.{arith}
 use borrow.Author.Needs.{needs}
@@ -15,6 +16,7 @@ use mir.Syntax.{w16, w32, w64}
 use mir.Val.{Fits, SFits, toZ, ofZ}
 use mir.Facts.{toZ-pos, toZ-ofZ}
 use types.Run.{OneOf}
+use Rattle.members.specs.Members.{memberNumber}
 use Rattle.members.specs.declared.Member.{Member}
 use Rattle.members.specs.declared.Member.the-variants.{Skip, Take, Count, Sum, Min, Max, At, BestSum, BestAt}
 use Rattle.rules.specs.declared.Value.{Value}
@@ -25,8 +27,8 @@ use Rattle.rules.specs.Rules.{rule, ofWindow, onWindow}
 use Rattle.rules.specs.WindowsLaws.{clips}
 use Rattle.values.specs.Ranges.{mag-abs}
 use Rattle.values.specs.WindowLaws.{end-counted, start-counted, nearest-none, nearest-itself, nearest-all, readings-none, readings-rest, readings-short, Summed, summed-none, summed-more, summed-all, Folded, folded-one, folded-more, folded-all, no-readings}
-use Rattle.values.specs.Sliding.{Totals}
-use Rattle.values.proofs.Tables.{tag, besides, last-arm}
+use Rattle.values.specs.Sliding.{Totals, Chooses}
+use Rattle.values.proofs.Tables.{tag, told, besides, last-arm}
 use Rattle.values.proofs.Signed.{not-negative, read, widens, wide, wide-is, sum-64, read-lt}
 
 -- ---- the part of the recording
@@ -235,12 +237,19 @@ module _ (xs : List ℤ) (s l : ℕ) where
     pub on-arm : {k : Member} → m ≡ k → r ≡ onWindow k xs s l (toZ w32 (ofZ w32 n)) → r ≡ onWindow m xs s l n
     on-arm e h = h ∙ (λ i. onWindow (sym e i) xs s l (toZ-ofZ g i))
 
+  pub best-arm : (m : Member) (n : ℤ) (r : Value) → SFits w32 n → r ≡ onWindow m xs s l (toZ w32 (ofZ w32 n)) → r ≡ onWindow m xs s l n
+  best-arm m n r g h = h ∙ ap (onWindow m xs s l) (toZ-ofZ g)
+
 abbrev of-rest : List ℕ
 of-rest = besides (Count ∷ Sum ∷ Min ∷ Max ∷ [])
 
 pub of-others : (m : Member) (xs : List ℤ) (s l : ℕ) → OneOf of-rest (tag m) → Missing wrongKind ≡ ofWindow m xs s l
 unfolding ofWindow rule
 of-others m xs s l k = last-arm (λ j. ofWindow j xs s l) of-rest refl m k
+
+pub best-asks : (m : Member) → OneOf (memberNumber BestSum ∷ memberNumber BestAt ∷ []) (tag m) → Chooses m
+best-asks m (inl e) = inl (sym (told m _ e))
+best-asks m (inr e) = inr (sym (told m _ e))
 
 abbrev on-rest : List ℕ
 on-rest = besides (Skip ∷ Take ∷ At ∷ BestSum ∷ BestAt ∷ [])
@@ -290,7 +299,9 @@ pub ruleset window-rules = (
   count-arm,
   skip-arm,
   take-arm,
+  best-arm,
   on-arm,
+  best-asks,
   of-others,
   on-others,
 )

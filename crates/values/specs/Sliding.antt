@@ -3,11 +3,14 @@
 use mathlib.Core.Path.{_≡_}
 use mathlib.Core.Bool.{cond}
 use mathlib.Core.List.{List, [], _∷_, map}
+use mathlib.Core.Logic.{_⊎_}
 use Prim.Native.Nat.{ℕ, suc, _-_, _*_, _≤_}
 use lib.Dec.{ltb}
 use lib.IntN.{ℤ, pos, negsuc, natAbs}
 use lib.ListN.{length, take}
 use lib.Signed.{ltZ}
+use Rattle.members.specs.declared.Member.{Member}
+use Rattle.members.specs.declared.Member.the-variants.{BestSum, BestAt}
 use Rattle.values.specs.declared.stretches.Best.{Best}
 use Rattle.rules.specs.Windows.{total}
 use Rattle.rules.specs.Stretches.{stretchesFrom}
@@ -37,3 +40,7 @@ sumsAfter xs w i = map total (stretchesFrom xs w (suc i) (length xs - w - i))
 
 unfoldable pub best : List ℤ → ℕ → Best
 best xs w = bestFrom (record { sum = total (take w xs); at = 0 }) 1 (sumsAfter xs w 0)
+
+-- the members that take something of the best stretch
+abbrev pub Chooses : Member → Type 0
+Chooses m = (m ≡ BestSum) ⊎ (m ≡ BestAt)

@@ -3,14 +3,14 @@
 use crate::numbers::number;
 use crate::windows::part;
 use crate::windows::total_of;
+use members::Member;
 use rules::Value;
 ghost use mathlib.Core.Path.{_≡_};
 ghost use Prim.Native.Nat.{_≤_};
 ghost use lib.IntN.{natAbs, _+ℤ_, _-ℤ_};
 ghost use lib.ListN.{length};
-ghost use Rattle.members.specs.declared.Member.the-variants as Members;
 ghost use Rattle.rules.specs.Rules.{onWindow};
-ghost use Rattle.values.specs.Sliding.{widthIn, better, best};
+ghost use Rattle.values.specs.Sliding.{widthIn, better, best, Chooses};
 
 // An exact sum, and the index where its stretch begins.
 pub struct Best {
@@ -64,9 +64,11 @@ fn best_of(readings: &[i32], width: usize) -> Best
     so_far
 }
 
-// The greatest sum, exact: it alone is tested for its range. Reason 5 for a width below 1 or above the length.
-pub fn best_sum(xs: &[i32], start: u16, length: u16, n: i32) -> Value
-    ensures { λ r. ⌜ r ≡ onWindow Members.BestSum (now (xs .entry)) start length n ⌝ }
+// What the member takes of the best stretch: its sum, exact until it is tested for its range; or the index within the window where it begins.
+// Reason 5 for a width below 1 or above the length.
+pub fn best_in(m: Member, xs: &[i32], start: u16, length: u16, n: i32) -> Value
+    requires { ⌜ Chooses m ⌝ }
+    ensures { λ r. ⌜ r ≡ onWindow m (now (xs .entry)) start length n ⌝ }
 {
     let readings = part(xs, start, length);
     let width = width_in(n, readings.len());
@@ -74,18 +76,8 @@ pub fn best_sum(xs: &[i32], start: u16, length: u16, n: i32) -> Value
         return Value::Missing(5);
     }
     let found = best_of(readings, width);
-    number(found.sum)
-}
-
-// The index within the window where the first stretch of the greatest sum begins; reason 5 as for its sum, and no other.
-pub fn best_at(xs: &[i32], start: u16, length: u16, n: i32) -> Value
-    ensures { λ r. ⌜ r ≡ onWindow Members.BestAt (now (xs .entry)) start length n ⌝ }
-{
-    let readings = part(xs, start, length);
-    let width = width_in(n, readings.len());
-    if width == 0 {
-        return Value::Missing(5);
+    match m {
+        Member::BestAt => Value::Number(found.at as i32),
+        _ => number(found.sum),
     }
-    let found = best_of(readings, width);
-    Value::Number(found.at as i32)
 }

@@ -1,8 +1,7 @@
 // The members on a window of a lent recording that run no function. A window may reach past the recording: its readings are those that
 // are there.
 use crate::numbers::number;
-use crate::stretches::best_at;
-use crate::stretches::best_sum;
+use crate::stretches::best_in;
 use members::Member;
 use rules::Value;
 ghost use mathlib.Core.Path.{_≡_};
@@ -185,8 +184,7 @@ pub fn on_window(m: Member, xs: &[i32], start: u16, length: u16, n: i32) -> Valu
         Member::Skip => skip(start, length, n),
         Member::Take => take(start, length, n),
         Member::At => at(xs, start, length, n),
-        Member::BestSum => best_sum(xs, start, length, n),
-        Member::BestAt => best_at(xs, start, length, n),
+        Member::BestSum | Member::BestAt => best_in(m, xs, start, length, n),
         _ => Value::Missing(2),
     }
 }

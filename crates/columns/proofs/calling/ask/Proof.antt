@@ -22,10 +22,10 @@ enum-told : tie.Need-enum-told
 enum-told c = search calls
 
 returns : tie.Need-returns
-returns c = search calls
+returns c = (search calls, search calls)
 
 returns-2 : tie.Need-returns-2
-returns-2 c = search calls
+returns-2 c = (search calls, search calls)
 
 pub ask-spec : {M : Type 1} → statement M
 ask-spec =

@@ -1,5 +1,5 @@
--- `values::windows::on_window` meets its contract. Each arm is its member's own function. The last one stands for the members that take no
--- number on a window. Assumes nothing.
+-- `values::windows::on_window` meets its contract. Each arm is the function of its member, or of two. The last one stands for the members that take
+-- no number on a window. Assumes nothing.
 use borrow.Author.Needs.{needs}
 use Rattle.values.proofs.WindowRules.{window-rules}
 use Rattle.values.proofs.windows.on_window.Statement.{statement}
@@ -23,17 +23,8 @@ enum-told-3 c = search needs
 at-requires : tie.Need-at-requires
 at-requires c κs = search needs
 
-enum-told-4 : tie.Need-enum-told-4
-enum-told-4 c = search needs
-
-best-sum-requires : tie.Need-best-sum-requires
-best-sum-requires c κs = search needs
-
-enum-told-5 : tie.Need-enum-told-5
-enum-told-5 c = search needs
-
-best-at-requires : tie.Need-best-at-requires
-best-at-requires c κs = search needs
+best-in-requires : tie.Need-best-in-requires
+best-in-requires c κs = search window-rules
 
 returns : tie.Need-returns
 returns c = search window-rules
@@ -50,9 +41,6 @@ returns-4 c = search window-rules
 returns-5 : tie.Need-returns-5
 returns-5 c = search window-rules
 
-returns-6 : tie.Need-returns-6
-returns-6 c = search window-rules
-
 pub on-window-spec : {M : Type 1} → statement M
 on-window-spec =
     tie.close
@@ -63,13 +51,9 @@ on-window-spec =
     take-requires
     enum-told-3
     at-requires
-    enum-told-4
-    best-sum-requires
-    enum-told-5
-    best-at-requires
+    best-in-requires
     returns
     returns-2
     returns-3
     returns-4
-    returns-5
-    returns-6)
+    returns-5)
