@@ -181,9 +181,9 @@ fn read_lambda(
         (now (records .entry)) (now (places .entry)) (now (scope .entry))
         r (now (records .exit)) (now (places .exit)) (now (scope .exit)) ⌝ }
 {
-    let h = cursor::lambda_head(text, x, w, marks, depth, scope, c);
+    let level = cursor::lambdas_in(scope, depth);
+    let h = cursor::lambda_head(text, x, w, marks, level, c);
     if h.number == 0 {
-        let level = cursor::lambdas_in(scope, depth);
         scratch::enter(depth, h.name, 0, scope);
         let r = expression(text, false, marks + 1, depth + 1, h, records, places, scope);
         if r.number == 0 {

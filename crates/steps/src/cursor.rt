@@ -9,7 +9,8 @@ use members;
 use members::Found;
 ghost use mathlib.Core.Path.{_≡_};
 ghost use mathlib.Core.Bool.{cond};
-ghost use Prim.Native.Nat.{suc, _≤_, _<_};
+ghost use mathlib.Core.List.{List};
+ghost use Prim.Native.Nat.{ℕ, suc, _≤_, _<_};
 ghost use lib.Dec.{eqb};
 ghost use lib.ListN.{length};
 ghost use Rattle.language.specs.Limits.{textParts, openMarks};
@@ -332,20 +333,13 @@ pub fn let_head(text: &[u8], x: Lexed, w: bool, marks: usize, c: Cursor) -> Curs
     }
 }
 
-// \ name ->
-pub fn lambda_head(
-    text: &[u8],
-    x: Lexed,
-    w: bool,
-    marks: usize,
-    depth: usize,
-    scope: &[u64; SCOPE_CELLS],
-    c: Cursor,
-) -> Cursor
-    requires { ⌜ PartAhead (now text) x c × (depth ≤ openMarks) ⌝ }
-    ensures { λ r. ⌜ cursorOf (now (text .entry)) r ≡ lambdaHead (length (now (text .entry))) w marks depth (now (scope .entry)) (cursorOf (now (text .entry)) c) ⌝ }
+// \ name -> for a lambda of a level: how many lambdas are open around it.
+pub fn lambda_head(text: &[u8], x: Lexed, w: bool, marks: usize, level: u16, c: Cursor) -> Cursor
+    requires { ⌜ PartAhead (now text) x c ⌝ }
+    ensures { λ r. ⌜ ((scope : List ℕ) (depth : ℕ) → level ≡ lambdasIn scope depth
+        → cursorOf (now (text .entry)) r ≡ lambdaHead (length (now (text .entry))) w marks depth scope (cursorOf (now (text .entry)) c)) ⌝ }
 {
-    let a = judged_part(x, at_lambda(w, lambdas_in(scope, depth), marks, c.parts), c);
+    let a = judged_part(x, at_lambda(w, level, marks, c.parts), c);
     if a.number == 0 {
         let b = binder_name(text, a);
         if b.number == 0 {

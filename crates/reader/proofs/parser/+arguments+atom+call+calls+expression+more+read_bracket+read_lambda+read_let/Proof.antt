@@ -582,41 +582,43 @@ read-bracket-returns-3 t c =
 
 abbrev read-lambda-claims : ℕ → read-lambda-lts.Claims
 read-lambda-claims t =
-    (lambda-head-reads.Asked, lambda-head-reads.Learnt, lambdas-in-reads.Asked, lambdas-in-reads.Learnt, enter-reads.Asked, enter-reads.Learnt, expression-below t, expression.Post, put-reads.Asked, put-reads.Learnt)
-
-read-lambda-lambda-head-requires : (t : ℕ) → read-lambda-lts.Need-lambda-head-requires (read-lambda-claims t) (read-lambda-at t) read-lambda.Post
-read-lambda-lambda-head-requires t c κs =
-    let at-pre = c .before .before in
-    (record { next = at-pre .pre .1 .next; parts = at-pre .pre .1 .fit .parts }, omega (arith, at-pre .pre .1 .fit .depth, at-pre .pre .1 .fit .marks))
+    (lambdas-in-reads.Asked, lambdas-in-reads.Learnt, lambda-head-reads.Asked, lambda-head-reads.Learnt, enter-reads.Asked, enter-reads.Learnt, expression-below t, expression.Post, put-reads.Asked, put-reads.Learnt)
 
 read-lambda-lambdas-in-requires : (t : ℕ) → read-lambda-lts.Need-lambdas-in-requires (read-lambda-claims t) (read-lambda-at t) read-lambda.Post
 read-lambda-lambdas-in-requires t c κs =
-    let at-pre = c .before .before .before .before .before .before in
+    let at-pre = c .before .before in
     omega (arith, at-pre .pre .1 .fit .depth, at-pre .pre .1 .fit .marks)
+
+read-lambda-lambda-head-requires : (t : ℕ) → read-lambda-lts.Need-lambda-head-requires (read-lambda-claims t) (read-lambda-at t) read-lambda.Post
+read-lambda-lambda-head-requires t c κs =
+    let at-pre = c .before .before .before in
+    record { next = at-pre .pre .1 .next; parts = at-pre .pre .1 .fit .parts }
 
 read-lambda-enter-requires : (t : ℕ) → read-lambda-lts.Need-enter-requires (read-lambda-claims t) (read-lambda-at t) read-lambda.Post
 read-lambda-enter-requires t c κs =
-    let at-if1 = c .before .before .before in
+    let at-if1 = c .before in
     let at-lambda-head = at-if1 .before .before in
-    let at-pre = at-lambda-head .before .before .before in
-    L.lambda-deep _ _ _ _ _ _ _ _ _ (at-pre .pre .1) (at-lambda-head .lambda-head .ensures) (at-if1 .if1 .taken)
+    let at-lambdas-in = at-lambda-head .before in
+    let at-pre = at-lambdas-in .before .before .before in
+    L.lambda-deep _ _ _ _ _ _ _ _ _ (at-pre .pre .1) (at-lambda-head .lambda-head .ensures _ _ (at-lambdas-in .lambdas-in .ensures)) (at-if1 .if1 .taken)
 
 read-lambda-add-expression : (t : ℕ) → read-lambda-lts.Need-add-expression (read-lambda-claims t) (read-lambda-at t) read-lambda.Post
-read-lambda-add-expression t c = omega (arith, c .before .before .before .before .before .before .before .before .before .pre .1 .fit .marks)
+read-lambda-add-expression t c = omega (arith, c .before .before .before .before .before .before .before .before .pre .1 .fit .marks)
 
 read-lambda-add-expression-2 : (t : ℕ) → read-lambda-lts.Need-add-expression-2 (read-lambda-claims t) (read-lambda-at t) read-lambda.Post
 read-lambda-add-expression-2 t c =
-    let at-pre = c .before .before .before .before .before .before .before .before .before in
+    let at-pre = c .before .before .before .before .before .before .before .before in
     omega (arith, at-pre .pre .1 .fit .depth, at-pre .pre .1 .fit .marks)
 
 read-lambda-expression-requires : (t : ℕ) → read-lambda-lts.Need-expression-requires (read-lambda-claims t) (read-lambda-at t) read-lambda.Post
 read-lambda-expression-requires t c κs =
     let at-enter = c .before .before .before in
-    let at-if1 = at-enter .before .before .before .before in
+    let at-if1 = at-enter .before .before in
     let at-lambda-head = at-if1 .before .before in
-    let at-pre = at-lambda-head .before .before .before in (
-      omega (arith, at-pre .pre .0, L.lambda-less _ _ _ _ _ _ _ _ _ (at-pre .pre .1) (at-lambda-head .lambda-head .ensures) (at-if1 .if1 .taken)),
-      L.lambda-fit _ _ _ _ _ _ _ _ _ (at-pre .pre .1) (at-lambda-head .lambda-head .ensures) (at-if1 .if1 .taken) _ (at-enter .enter .ensures),
+    let at-lambdas-in = at-lambda-head .before in
+    let at-pre = at-lambdas-in .before .before .before in (
+      omega (arith, at-pre .pre .0, L.lambda-less _ _ _ _ _ _ _ _ _ (at-pre .pre .1) (at-lambda-head .lambda-head .ensures _ _ (at-lambdas-in .lambdas-in .ensures)) (at-if1 .if1 .taken)),
+      L.lambda-fit _ _ _ _ _ _ _ _ _ (at-pre .pre .1) (at-lambda-head .lambda-head .ensures _ _ (at-lambdas-in .lambdas-in .ensures)) (at-if1 .if1 .taken) _ (at-enter .enter .ensures),
     )
 
 read-lambda-add-put : (t : ℕ) → read-lambda-lts.Need-add-put (read-lambda-claims t) (read-lambda-at t) read-lambda.Post
@@ -624,12 +626,13 @@ read-lambda-add-put t c =
     let at-if2 = c .before in
     let at-expression = at-if2 .before .before in
     let at-enter = at-expression .before .before .before .before in
-    let at-if1 = at-enter .before .before .before .before in
+    let at-if1 = at-enter .before .before in
     let at-lambda-head = at-if1 .before .before in
-    let at-pre = at-lambda-head .before .before .before in
+    let at-lambdas-in = at-lambda-head .before in
+    let at-pre = at-lambdas-in .before .before .before in
     omega (
       arith,
-      L.lambda-root _ _ _ _ _ _ _ _ _ (at-pre .pre .1) (at-lambda-head .lambda-head .ensures) (at-if1 .if1 .taken) _ (at-enter .enter .ensures) _ _ _ _
+      L.lambda-root _ _ _ _ _ _ _ _ _ (at-pre .pre .1) (at-lambda-head .lambda-head .ensures _ _ (at-lambdas-in .lambdas-in .ensures)) (at-if1 .if1 .taken) _ (at-enter .enter .ensures) _ _ _ _
           (at-expression .expression .ensures) (at-if2 .if2 .taken),
     )
 
@@ -638,10 +641,11 @@ read-lambda-put-requires t c κs =
     let at-if2 = c .before .before .before in
     let at-expression = at-if2 .before .before in
     let at-enter = at-expression .before .before .before .before in
-    let at-if1 = at-enter .before .before .before .before in
+    let at-if1 = at-enter .before .before in
     let at-lambda-head = at-if1 .before .before in
-    let at-pre = at-lambda-head .before .before .before in
-    L.lambda-room _ _ _ _ _ _ _ _ _ (at-pre .pre .1) (at-lambda-head .lambda-head .ensures) (at-if1 .if1 .taken) _ (at-enter .enter .ensures) _ _ _ _
+    let at-lambdas-in = at-lambda-head .before in
+    let at-pre = at-lambdas-in .before .before .before in
+    L.lambda-room _ _ _ _ _ _ _ _ _ (at-pre .pre .1) (at-lambda-head .lambda-head .ensures _ _ (at-lambdas-in .lambdas-in .ensures)) (at-if1 .if1 .taken) _ (at-enter .enter .ensures) _ _ _ _
     (at-expression .expression .ensures) (at-if2 .if2 .taken)
 
 read-lambda-returns : (t : ℕ) → read-lambda-lts.Need-returns (read-lambda-claims t) (read-lambda-at t) read-lambda.Post
@@ -649,25 +653,27 @@ read-lambda-returns t c =
     let at-if2 = c .before .before .before .before in
     let at-expression = at-if2 .before .before in
     let at-enter = at-expression .before .before .before .before in
-    let at-lambdas-in = at-enter .before .before in
-    let at-if1 = at-lambdas-in .before .before in
+    let at-if1 = at-enter .before .before in
     let at-lambda-head = at-if1 .before .before in
-    let at-pre = at-lambda-head .before .before .before in
-    L.lambda-read _ _ _ _ _ _ _ _ _ (at-pre .pre .1) (at-lambda-head .lambda-head .ensures) (at-if1 .if1 .taken) _ (at-enter .enter .ensures) _ _ _ _
+    let at-lambdas-in = at-lambda-head .before in
+    let at-pre = at-lambdas-in .before .before .before in
+    L.lambda-read _ _ _ _ _ _ _ _ _ (at-pre .pre .1) (at-lambda-head .lambda-head .ensures _ _ (at-lambdas-in .lambdas-in .ensures)) (at-if1 .if1 .taken) _ (at-enter .enter .ensures) _ _ _ _
     (at-expression .expression .ensures) (at-if2 .if2 .taken) _ (at-lambdas-in .lambdas-in .ensures) (c .put .ensures)
 
 read-lambda-returns-2 : (t : ℕ) → read-lambda-lts.Need-returns-2 (read-lambda-claims t) (read-lambda-at t) read-lambda.Post
 read-lambda-returns-2 t c =
     let at-expression = c .before .before in
     let at-enter = at-expression .before .before .before .before in
-    let at-if1 = at-enter .before .before .before .before in
+    let at-if1 = at-enter .before .before in
     let at-lambda-head = at-if1 .before .before in
-    let at-pre = at-lambda-head .before .before .before in
-    L.lambda-body-refused _ _ _ _ _ _ _ _ _ (at-pre .pre .1) (at-lambda-head .lambda-head .ensures) (at-if1 .if1 .taken) _ (at-enter .enter .ensures)
+    let at-lambdas-in = at-lambda-head .before in
+    let at-pre = at-lambdas-in .before .before .before in
+    L.lambda-body-refused _ _ _ _ _ _ _ _ _ (at-pre .pre .1) (at-lambda-head .lambda-head .ensures _ _ (at-lambdas-in .lambdas-in .ensures)) (at-if1 .if1 .taken) _ (at-enter .enter .ensures)
     _ _ _ _ (at-expression .expression .ensures) (c .if2 .left)
 
 read-lambda-returns-3 : (t : ℕ) → read-lambda-lts.Need-returns-3 (read-lambda-claims t) (read-lambda-at t) read-lambda.Post
-read-lambda-returns-3 t c = L.lambda-head-refused _ _ _ _ _ _ _ _ _ (c .before .before .before .before .before .pre .1) (c .before .before .lambda-head .ensures) (c .if1 .left)
+read-lambda-returns-3 t c = L.lambda-head-refused _ _ _ _ _ _ _ _ _ (c .before .before .before .before .before .before .pre .1)
+    (c .before .before .lambda-head .ensures _ _ (c .before .before .before .lambdas-in .ensures)) (c .if1 .left)
 
 abbrev read-let-claims : ℕ → read-let-lts.Claims
 read-let-claims t =
@@ -918,8 +924,8 @@ pub +arguments+atom+call+calls+expression+more+read-bracket+read-lambda+read-let
     (λ t. read-lambda-lts.spec (read-lambda-claims t)
     (read-lambda-at t)
     read-lambda.Post
-    (read-lambda-lambda-head-requires t)
     (read-lambda-lambdas-in-requires t)
+    (read-lambda-lambda-head-requires t)
     (read-lambda-enter-requires t)
     (read-lambda-add-expression t)
     (read-lambda-add-expression-2 t)

@@ -4,9 +4,6 @@ use Rattle.steps.proofs.CursorPaths.{lambda-goes, lambda-name-stops, la
 use Rattle.steps.proofs.cursor.lambda_head.Tie as tie
 use Rattle.steps.proofs.cursor.lambda_head.Statement.{statement}
 
-lambdas-in-requires : tie.Need-lambdas-in-requires
-lambdas-in-requires c κs = search needs
-
 at-lambda-requires : tie.Need-at-lambda-requires
 at-lambda-requires c κs = search needs
 
@@ -20,19 +17,18 @@ need-requires : tie.Need-need-requires
 need-requires c κs = search needs
 
 returns : tie.Need-returns
-returns c = search (lambda-goes, c .before .before .before .before .before .before .before .before .before .before .pre .0)
+returns c scope depth l = search (lambda-goes, c .before .before .before .before .before .before .before .before .before .pre)
 
 returns-2 : tie.Need-returns-2
-returns-2 c = search lambda-name-stops
+returns-2 c scope depth l = search lambda-name-stops
 
 returns-3 : tie.Need-returns-3
-returns-3 c = search lambda-stops
+returns-3 c scope depth l = search lambda-stops
 
 pub lambda-head-spec : {M : Type 1} → statement M
 lambda-head-spec =
     tie.close
     (tie.spec
-    lambdas-in-requires
     at-lambda-requires
     judged-part-requires
     binder-name-requires
