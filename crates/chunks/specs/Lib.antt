@@ -2,3 +2,4 @@ pub mod Rows
 pub mod Fitting
 pub mod Chunks
 pub mod FittingLaws
+pub mod Examples
