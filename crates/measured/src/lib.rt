@@ -6,6 +6,7 @@ use language::limits::Text;
 use layout::cells::TABLE_CELLS;
 use layout::cells::at16;
 use layout::nodes::TEXT_WORDS;
+use members::Member;
 use reader::answer::Read;
 use reader::parser;
 use scheduler::works;
@@ -58,7 +59,7 @@ pub extern "C" fn measured_greatest(readings: &[i32], start: u16, length: u16) -
 pub extern "C" fn measured_best_sum(readings: &[i32], start: u16, length: u16, width: i32) -> u64
     ensures { λ r. ⌜ r ≡ packOf (onWindow Members.BestSum (now (readings .entry)) start length width) ⌝ }
 {
-    pack(stretches::best_sum(readings, start, length, width))
+    pack(stretches::best_in(Member::BestSum, readings, start, length, width))
 }
 
 // What reading a text came to, as one number.
