@@ -268,29 +268,29 @@ module _ (text : List ℕ) where
             behind (omega (arith, call-less))
             (λ r R″ P″ S″ y. record { reads = PathsCalls.call-read end marks depth here (cursorOf text h) (ahead-of f) p (eq-eqb (h .number) 0 z) (y .reads) })
 
-    -- ---- a chain of calls, from c up to a, where the token x is next: what the calls from a on give, those from c on give
-    pub record Chain (x : Lexed) (a : Cursor) (R′ P′ S′ : List ℕ) : Type 0 where
-      pub next : x ≡ lexAt text (a .at)
+    -- ---- a chain of calls, from c up to a: what the calls from a on give, those from c on give
+    pub record Chain (a : Cursor) (R′ P′ S′ : List ℕ) : Type 0 where
       pub goes : (r : Cursor) (R″ P″ S″ : List ℕ) → Parses (inCalls marks depth) text a R′ P′ S′ r R″ P″ S″ → Parses (inCalls marks depth) text c R P S r R″ P″ S″
       pub fit : Ready (inCalls marks depth) text a R′ P′ S′
       pub less : tokens-left a ≤ tokens-left c
 
-    pub chain-none : {x : Lexed} → x ≡ lexAt text (c .at) → Ready (inCalls marks depth) text c R P S → Chain x c R P S
-    chain-none e f = record { next = e; goes = λ _ _ _ _ y. y; fit = f; less = omega arith }
+    pub chain-none : Ready (inCalls marks depth) text c R P S → Chain c R P S
+    chain-none f = record { goes = λ _ _ _ _ y. y; fit = f; less = omega arith }
 
-    pub chain-over : {x : Lexed} (a : Cursor) (R′ P′ S′ : List ℕ) → Chain x a R′ P′ S′ → (x .kind ≡ 6 → ⊥) → Parses (inCalls marks depth) text c R P S a R′ P′ S′
-    chain-over a R′ P′ S′ h q = h .goes a R′ P′ S′ (record { reads = PathsCalls.calls-over end marks depth (stateOf text a R′ P′ S′) (not-ahead a _ (h .next) 6 q) })
+    pub chain-over : {x : Lexed} (a : Cursor) (R′ P′ S′ : List ℕ) → Chain a R′ P′ S′ → x ≡ lexAt text (a .at) → (x .kind ≡ 6 → ⊥)
+        → Parses (inCalls marks depth) text c R P S a R′ P′ S′
+    chain-over a R′ P′ S′ h e q = h .goes a R′ P′ S′ (record { reads = PathsCalls.calls-over end marks depth (stateOf text a R′ P′ S′) (not-ahead a _ e 6 q) })
 
-    module _ {x : Lexed} (a : Cursor) (R′ P′ S′ : List ℕ) (h : Chain x a R′ P′ S′) (b : Cursor) (R″ P″ S″ : List ℕ)
+    module _ (a : Cursor) (R′ P′ S′ : List ℕ) (h : Chain a R′ P′ S′) (b : Cursor) (R″ P″ S″ : List ℕ)
         (k : Continues (inCalls marks depth) marks depth text a R′ P′ S′ b R″ P″ S″) where
       pub chain-refused : (b .number ≡ 0 → ⊥) → Parses (inCalls marks depth) text c R P S b R″ P″ S″
       chain-refused z = h .goes b R″ P″ S″ (k .stops z)
 
-      pub chain-on : {y : Lexed} → y ≡ lexAt text (b .at) → b .number ≡ 0 → Chain y b R″ P″ S″
-      chain-on e z =
+      pub chain-on : b .number ≡ 0 → Chain b R″ P″ S″
+      chain-on z =
           let l = h .less in
           let m = k .less z in
-          record { next = e; goes = λ r R₁ P₁ S₁ y. h .goes r R₁ P₁ S₁ (k .goes z r R₁ P₁ S₁ y); fit = k .fit z; less = omega arith }
+          record { goes = λ r R₁ P₁ S₁ y. h .goes r R₁ P₁ S₁ (k .goes z r R₁ P₁ S₁ y); fit = k .fit z; less = omega arith }
 
   -- ---- expression
   module _ (w : Bool) (marks depth : ℕ) (c : Cursor) (R P S : List ℕ) where

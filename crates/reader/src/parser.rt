@@ -252,15 +252,17 @@ fn calls(
         r (now (records .exit)) (now (places .exit)) (now (scope .exit)) ⌝ }
 {
     let mut a = c;
-    let mut x = tokens::token(text, a.at);
-    while x.kind == Lexed::DOT {
-        a = call(text, x, marks, depth, a, records, places, scope);
-        if a.number != 0 {
+    loop {
+        let x = tokens::token(text, a.at);
+        if x.kind == Lexed::DOT {
+            a = call(text, x, marks, depth, a, records, places, scope);
+            if a.number != 0 {
+                return a;
+            }
+        } else {
             return a;
         }
-        x = tokens::token(text, a.at);
     }
-    a
 }
 
 // One call, up to the bracket that ends it.

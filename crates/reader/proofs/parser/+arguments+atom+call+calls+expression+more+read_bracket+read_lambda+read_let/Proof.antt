@@ -310,43 +310,41 @@ calls-claims t =
     (token-reads.Asked, token-reads.Learnt, call-below t, call.Post)
 
 abbrev calls-Inv-loop : calls-lts.InvT-loop
-calls-Inv-loop text marks depth records₀ places₀ scope₀ a₀ x₀ records places scope a x =
-    L.Chain text marks depth a₀ records₀ places₀ scope₀ x a records places scope
+calls-Inv-loop text marks depth records₀ places₀ scope₀ a₀ records places scope a =
+    L.Chain text marks depth a₀ records₀ places₀ scope₀ a records places scope
 
 abbrev calls-μ-loop : calls-lts.MeasureT-loop
-calls-μ-loop text marks depth records₀ places₀ scope₀ a₀ x₀ records places scope a x = measure 0 text a
+calls-μ-loop text marks depth records₀ places₀ scope₀ a₀ records places scope a = measure 0 text a
+
+calls-loop-holds : (t : ℕ) → calls-lts.Need-loop-holds (calls-claims t) (calls-at t) calls.Post calls-Inv-loop calls-μ-loop
+calls-loop-holds t c = L.chain-none _ _ _ _ _ _ _ (c .before .pre .1)
 
 calls-token-requires : (t : ℕ) → calls-lts.Need-token-requires (calls-claims t) (calls-at t) calls.Post calls-Inv-loop calls-μ-loop
 calls-token-requires t c κs = search needs
 
-calls-loop-holds : (t : ℕ) → calls-lts.Need-loop-holds (calls-claims t) (calls-at t) calls.Post calls-Inv-loop calls-μ-loop
-calls-loop-holds t c = L.chain-none _ _ _ _ _ _ _ (c .token .ensures) (c .before .before .pre .1)
-
 calls-call-requires : (t : ℕ) → calls-lts.Need-call-requires (calls-claims t) (calls-at t) calls.Post calls-Inv-loop calls-μ-loop
 calls-call-requires t c κs =
     let at-if1 = c .before .before .before in
-    let at-loop = at-if1 .before .before in
-    let at-pre = at-loop .before .before .before in
+    let at-token = at-if1 .before .before in
+    let at-loop = at-token .before in
+    let at-pre = at-loop .before .before in
     let chain = at-loop .loop .inv in
-    (omega (arith, at-pre .pre .0, chain .less), record { next = chain .next; kind = at-if1 .if1 .taken; fit = chain .fit .fit })
+    (omega (arith, at-pre .pre .0, chain .less), record { next = at-token .token .ensures; kind = at-if1 .if1 .taken; fit = chain .fit .fit })
 
 calls-returns : (t : ℕ) → calls-lts.Need-returns (calls-claims t) (calls-at t) calls.Post calls-Inv-loop calls-μ-loop
-calls-returns t c = L.chain-refused _ _ _ _ _ _ _ _ _ _ _ (c .before .before .before .before .before .before .before .before .loop .inv) _ _ _ _ (c .before .before .call .ensures) (c .if2 .taken)
-
-calls-token-requires-2 : (t : ℕ) → calls-lts.Need-token-requires-2 (calls-claims t) (calls-at t) calls.Post calls-Inv-loop calls-μ-loop
-calls-token-requires-2 t c κs = search needs
+calls-returns t c = L.chain-refused _ _ _ _ _ _ _ _ _ _ _ (c .before .before .before .before .before .before .before .before .before .loop .inv) _ _ _ _ (c .before .before .call .ensures) (c .if2 .taken)
 
 calls-loop-less : (t : ℕ) → calls-lts.Need-loop-less (calls-claims t) (calls-at t) calls.Post calls-Inv-loop calls-μ-loop
-calls-loop-less t c = omega (arith, c .before .before .before .call .ensures .less (c .before .if2 .left))
+calls-loop-less t c = omega (arith, c .before .before .call .ensures .less (c .if2 .left))
 
 calls-loop-again : (t : ℕ) → calls-lts.Need-loop-again (calls-claims t) (calls-at t) calls.Post calls-Inv-loop calls-μ-loop
 calls-loop-again t c =
-    let at-call = c .before .before .before in
-    let at-loop = at-call .before .before .before .before .before .before in
-    L.chain-on _ _ _ _ _ _ _ _ _ _ _ (at-loop .loop .inv) _ _ _ _ (at-call .call .ensures) (c .token2 .ensures) (c .before .if2 .left)
+    let at-call = c .before .before in
+    let at-loop = at-call .before .before .before .before .before .before .before in
+    L.chain-on _ _ _ _ _ _ _ _ _ _ _ (at-loop .loop .inv) _ _ _ _ (at-call .call .ensures) (c .if2 .left)
 
 calls-returns-2 : (t : ℕ) → calls-lts.Need-returns-2 (calls-claims t) (calls-at t) calls.Post calls-Inv-loop calls-μ-loop
-calls-returns-2 t c = L.chain-over _ _ _ _ _ _ _ _ _ _ _ (c .before .before .loop .inv) (c .if1 .left)
+calls-returns-2 t c = L.chain-over _ _ _ _ _ _ _ _ _ _ _ (c .before .before .before .loop .inv) (c .before .before .token .ensures) (c .if1 .left)
 
 abbrev expression-claims : ℕ → expression-lts.Claims
 expression-claims t =
@@ -873,11 +871,10 @@ pub +arguments+atom+call+calls+expression+more+read-bracket+read-lambda+read-let
     calls.Post
     calls-Inv-loop
     calls-μ-loop
-    (calls-token-requires t)
     (calls-loop-holds t)
+    (calls-token-requires t)
     (calls-call-requires t)
     (calls-returns t)
-    (calls-token-requires-2 t)
     (calls-loop-less t)
     (calls-loop-again t)
     (calls-returns-2 t))
