@@ -1,7 +1,3 @@
-// Runs the sample previews of 01 and 02, and 01's small examples of calls that are declined. For each text it writes a line: what the edit
-// answers; what the whole text then shows, with the readings of a shown window; and how many entries that preview worked out. Some texts
-// are shown entry by entry, each also in full (02, T-04). At the end texts are evaluated without a cache (02, T-07), with a line for each place.
-// The file `stdout` is written by hand from these papers.
 mod say;
 
 use calls::edit::edit;
@@ -14,6 +10,7 @@ use language::limits::Table;
 use language::limits::Text;
 use layout::cells::TABLE_CELLS;
 use layout::cells::TABLE_LINKS;
+use libc::STDIN_FILENO;
 use printer::print::print;
 ghost use Prim.Native.Nat.{_≤_};
 ghost use lib.ListN.{length};
@@ -21,267 +18,225 @@ ghost use lib.ListN.{length};
 // As much work as there is.
 const ALLOWANCE: u32 = Table::ENTRIES as u32;
 
-fn show(
-    entry: u32,
-    readings: &[i32; Table::READINGS],
-    heads: &[u32; 2],
-    links: &[u16; TABLE_LINKS],
-    cells: &mut [u64; TABLE_CELLS],
-) {
-    let answer = preview(entry, ALLOWANCE, readings, heads, links, cells);
-    say::preview_answer(answer);
-    say::readings(fetch(entry, readings, heads, links, cells));
-    say::work(answer);
+// One more than there may be.
+const MANY_READINGS: usize = Table::READINGS + 1;
+
+const MANY_BYTES: usize = Text::BYTES + 1;
+
+// The memory of a cache, and the entry of the last text. It is passed and handed back by value, since a function that is lent four arrays
+// takes far longer to prove.
+struct Cache {
+    readings: [i32; Table::READINGS],
+    heads: [u32; 2],
+    links: [u16; TABLE_LINKS],
+    cells: [u64; TABLE_CELLS],
+    whole: u32,
 }
 
-// A text, and what its edit answers. Gives the entry of the whole text.
-fn begin(
-    text: &[u8],
-    places: &mut [u16; Text::PARTS],
-    readings: &[i32; Table::READINGS],
-    heads: &mut [u32; 2],
-    links: &mut [u16; TABLE_LINKS],
-    cells: &mut [u64; TABLE_CELLS],
-) -> u32 {
+fn new() -> Cache {
+    Cache {
+        readings: [0; Table::READINGS],
+        heads: [0; 2],
+        links: [0; TABLE_LINKS],
+        cells: [0; TABLE_CELLS],
+        whole: say::NO_ENTRY,
+    }
+}
+
+// A cache in which entry 0, a count, depends on 0.
+fn ill_formed() -> Cache {
+    let mut links = [0u16; TABLE_LINKS];
+    links[0] = 13;
+    links[1] = 1;
+    Cache {
+        readings: [0; Table::READINGS],
+        heads: [1, 0],
+        links,
+        cells: [0; TABLE_CELLS],
+        whole: say::NO_ENTRY,
+    }
+}
+
+fn open_with(recording: &[i32], c: Cache) -> Cache {
+    let mut readings = c.readings;
+    let mut heads = c.heads;
+    let links = c.links;
+    let cells = c.cells;
+    let answer = open(recording, &mut readings, &mut heads, &links, &cells);
+    say::open_answer(answer, recording.len());
+    Cache {
+        readings,
+        heads,
+        links,
+        cells,
+        whole: say::NO_ENTRY,
+    }
+}
+
+// The recording of a number.
+fn open_numbered(number: u32, c: Cache) -> Cache {
+    match number {
+        1 => open_with(&[140, 152, 160, 148, 155], c),
+        2 => open_with(&[2147483647, -1, 1, 2147483647], c),
+        3 => open_with(&[0, 2, 3], c),
+        _ => open_with(&[0; MANY_READINGS], c),
+    }
+}
+
+// A text, and what its edit answers, with so many places too few.
+fn begin(text: &[u8], missing: usize, c: Cache) -> Cache
+    requires { ⌜ missing ≤ 1 ⌝ }
+{
+    let readings = c.readings;
+    let mut heads = c.heads;
+    let mut links = c.links;
+    let mut cells = c.cells;
+    let mut places = [0u16; Text::PARTS];
     say::text(text);
     say::words(b" => ");
-    say::edit_answer(edit(text, places, readings, heads, links, cells), places)
-}
-
-// A text's line.
-fn line(
-    text: &[u8],
-    places: &mut [u16; Text::PARTS],
-    readings: &[i32; Table::READINGS],
-    heads: &mut [u32; 2],
-    links: &mut [u16; TABLE_LINKS],
-    cells: &mut [u64; TABLE_CELLS],
-) {
-    let whole = begin(text, places, readings, heads, links, cells);
-    if whole != say::NO_ENTRY {
-        say::words(b", ");
-        show(whole, readings, heads, links, cells);
-    }
-    say::words(b"\n");
-}
-
-// Where the text that begins at a place ends.
-fn text_end(texts: &[u8], at: usize) -> usize
-    requires { ⌜ at ≤ length (now texts) ⌝ }
-    ensures { λ r. ⌜ (at ≤ r) × (r ≤ length (now (texts .entry))) ⌝ }
-{
-    let mut i = at;
-    while i < texts.len() {
-        if texts[i] == b'\n' {
-            return i;
-        }
-        i += 1;
-    }
-    i
-}
-
-fn lines(
-    texts: &[u8],
-    places: &mut [u16; Text::PARTS],
-    readings: &[i32; Table::READINGS],
-    heads: &mut [u32; 2],
-    links: &mut [u16; TABLE_LINKS],
-    cells: &mut [u64; TABLE_CELLS],
-) {
-    let mut at: usize = 0;
-    while at < texts.len() {
-        let end = text_end(texts, at);
-        line(&texts[at..end], places, readings, heads, links, cells);
-        at = end + 1;
-    }
-}
-
-// The texts, one to a line, over a cache that is opened with the recording.
-fn session(recording: &[i32], texts: &[u8]) {
-    let mut readings = [0i32; Table::READINGS];
-    let mut heads = [0u32; 2];
-    let mut links = [0u16; TABLE_LINKS];
-    let mut cells = [0u64; TABLE_CELLS];
-    let mut places = [0u16; Text::PARTS];
-    say::open_answer(
-        open(recording, &mut readings, &mut heads, &links, &cells),
-        recording.len(),
-    );
-    lines(
-        texts,
-        &mut places,
+    let answer = edit(
+        text,
+        &mut places[missing..],
         &readings,
         &mut heads,
         &mut links,
         &mut cells,
     );
+    let whole = say::edit_answer(answer, &places);
+    Cache {
+        readings,
+        heads,
+        links,
+        cells,
+        whole,
+    }
 }
 
-// An entry in full, or the refusal, with these bytes lent.
-fn in_full(
-    entry: u32,
-    bytes: &mut [u8],
-    readings: &[i32],
-    heads: &[u32; 2],
-    links: &[u16; TABLE_LINKS],
-    cells: &[u64; TABLE_CELLS],
-) {
-    let answer = print(entry, bytes, readings, heads, links, cells);
-    say::print_answer(answer, bytes);
+// What an entry shows.
+fn show(entry: u32, c: Cache) -> Cache {
+    let readings = c.readings;
+    let heads = c.heads;
+    let links = c.links;
+    let mut cells = c.cells;
+    let answer = preview(entry, ALLOWANCE, &readings, &heads, &links, &mut cells);
+    say::preview_answer(answer);
+    say::readings(fetch(entry, &readings, &heads, &links, &cells));
+    say::work(answer);
+    let mut after = c;
+    after.cells = cells;
+    after
 }
 
-// The end of an entry's line.
-fn end_in_full(
-    n: u32,
-    readings: &[i32; Table::READINGS],
-    heads: &[u32; 2],
-    links: &[u16; TABLE_LINKS],
-    cells: &[u64; TABLE_CELLS],
-) {
+// The readings without the first ones.
+fn behind(readings: &[i32], count: usize) -> &[i32] {
+    if readings.len() < count {
+        return readings;
+    }
+    &readings[count..]
+}
+
+// A print of an entry to the lent bytes, with room for so many readings too few.
+fn print_to(bytes: &mut [u8], entry: u32, missing: usize, c: Cache) -> Printed {
+    let readings = c.readings;
+    let heads = c.heads;
+    let links = c.links;
+    let cells = c.cells;
+    let lent = behind(&readings, missing);
+    print(entry, bytes, lent, &heads, &links, &cells)
+}
+
+// The end of a line: an entry in full, or the refusal.
+fn in_full(entry: u32, missing: usize, c: Cache) {
     let mut bytes = [0u8; Text::BYTES];
-    say::words(b"; in full: ");
-    in_full(n, &mut bytes, readings, heads, links, cells);
+    let answer = print_to(&mut bytes, entry, missing, c);
+    say::print_answer(answer, &bytes);
     say::words(b"\n");
 }
 
-fn entry(
-    n: u32,
-    readings: &[i32; Table::READINGS],
-    heads: &[u32; 2],
-    links: &[u16; TABLE_LINKS],
-    cells: &mut [u64; TABLE_CELLS],
-) {
-    say::words(b"  ");
-    say::number(n as u64);
-    say::words(b": ");
-    show(n, readings, heads, links, cells);
-    end_in_full(n, readings, heads, links, cells);
+fn edit_line(text: &[u8], missing: usize, c: Cache) -> Cache
+    requires { ⌜ missing ≤ 1 ⌝ }
+{
+    let begun = begin(text, missing, c);
+    say::words(b"\n");
+    begun
+}
+
+// A text's line.
+fn text_line(text: &[u8], c: Cache) -> Cache {
+    let begun = begin(text, 0, c);
+    let whole = begun.whole;
+    if whole == say::NO_ENTRY {
+        say::words(b"\n");
+        return begun;
+    }
+    say::words(b", ");
+    let shown = show(whole, begun);
+    say::words(b"\n");
+    shown
+}
+
+fn entry_line(n: u32, c: Cache) -> Cache {
+    say::label(n);
+    let shown = show(n, c);
+    say::words(b"; in full: ");
+    in_full(n, 0, shown);
+    shown
 }
 
 // A preview and a print of each entry, lowest first; and of the next number, which no entry has.
-fn entries(
-    count: u32,
-    readings: &[i32; Table::READINGS],
-    heads: &[u32; 2],
-    links: &[u16; TABLE_LINKS],
-    cells: &mut [u64; TABLE_CELLS],
-) {
+fn entries(count: u32, c: Cache) -> Cache {
+    let mut shown = c;
     let mut n: u32 = 0;
     while n < count {
-        entry(n, readings, heads, links, cells);
+        shown = entry_line(n, shown);
         n += 1;
     }
-    entry(count, readings, heads, links, cells);
+    entry_line(count, shown)
 }
 
-// What an entry has in full is edited and printed in turn: it is that very entry, and the same text. Where a print is refused, there is no line.
-fn back(
-    entry: u32,
-    places: &mut [u16; Text::PARTS],
-    readings: &[i32; Table::READINGS],
-    heads: &mut [u32; 2],
-    links: &mut [u16; TABLE_LINKS],
-    cells: &mut [u64; TABLE_CELLS],
-) {
+// What the last text has in full is edited and printed in turn: it is that very entry, and the same text. Where a print is refused, there is
+// no line.
+fn back(c: Cache) -> Cache {
     let mut bytes = [0u8; Text::BYTES];
-    match print(entry, &mut bytes, readings, heads, links, cells) {
+    let answer = print_to(&mut bytes, c.whole, 0, c);
+    match answer {
         Printed::Done { length } => {
-            let again = begin(
-                say::front(&bytes, length),
-                places,
-                readings,
-                heads,
-                links,
-                cells,
-            );
-            end_in_full(again, readings, heads, links, cells);
+            let again = begin(say::front(&bytes, length), 0, c);
+            say::words(b"; in full: ");
+            in_full(again.whole, 0, again);
+            again
         }
-        Printed::Refused { number: _ } => {}
+        Printed::Refused { number: _ } => c,
     }
 }
 
 // A text, entry by entry; and its whole in full as a text.
-fn by_entry(recording: &[i32], text: &[u8]) {
-    let mut readings = [0i32; Table::READINGS];
-    let mut heads = [0u32; 2];
-    let mut links = [0u16; TABLE_LINKS];
-    let mut cells = [0u64; TABLE_CELLS];
-    let mut places = [0u16; Text::PARTS];
-    open(recording, &mut readings, &mut heads, &links, &cells);
-    let whole = begin(
-        text,
-        &mut places,
-        &readings,
-        &mut heads,
-        &mut links,
-        &mut cells,
-    );
-    say::words(b"\n");
-    let count = heads[0];
-    entries(count, &readings, &heads, &links, &mut cells);
-    back(
-        whole,
-        &mut places,
-        &readings,
-        &mut heads,
-        &mut links,
-        &mut cells,
-    );
+fn by_entry(text: &[u8], c: Cache) -> Cache {
+    let edited = edit_line(text, 0, c);
+    let heads = edited.heads;
+    back(entries(heads[0], edited))
 }
 
-// Some bytes more than the text below has.
+// Some bytes more than the script's texts for them have.
 const STARS: usize = 24;
 
-fn stars_left(stars: &[u8; STARS]) {
+// The end of a line: what is written to the stars, or the refusal, and what is left of all of them.
+fn stars_left(answer: Printed, stars: &[u8; STARS]) {
+    say::print_answer(answer, stars);
     say::words(b"; ");
     say::words(stars);
     say::words(b"\n");
 }
 
-// An entry in full, where so many of the stars are lent; and what is left of all of them.
-fn lent(
-    n: u32,
-    count: usize,
-    readings: &[i32; Table::READINGS],
-    heads: &[u32; 2],
-    links: &[u16; TABLE_LINKS],
-    cells: &[u64; TABLE_CELLS],
-)
-    requires { ⌜ count ≤ 24 ⌝ }
-{
+// An entry in full, where so many of the stars are lent.
+fn in_stars(entry: u32, count: usize, c: Cache) {
+    if STARS < count {
+        return;
+    }
     let mut stars = [b'*'; STARS];
-    say::words(b"  ");
-    say::number(n as u64);
-    say::words(b" in ");
-    say::number(count as u64);
-    say::words(b" bytes: ");
-    in_full(n, &mut stars[0..count], readings, heads, links, cells);
-    stars_left(&stars);
-}
-
-// The whole of a text, of 19 bytes, and a delayed part, of one, in too few lent bytes and in enough; and an entry that is not held.
-fn few_bytes(recording: &[i32]) {
-    let mut readings = [0i32; Table::READINGS];
-    let mut heads = [0u32; 2];
-    let mut links = [0u16; TABLE_LINKS];
-    let mut cells = [0u64; TABLE_CELLS];
-    let mut places = [0u16; Text::PARTS];
-    open(recording, &mut readings, &mut heads, &links, &cells);
-    let whole = begin(
-        b"data.sumBy(\\a -> a)",
-        &mut places,
-        &readings,
-        &mut heads,
-        &mut links,
-        &mut cells,
-    );
-    say::words(b"\n");
-    lent(whole, 18, &readings, &heads, &links, &cells);
-    lent(whole, 19, &readings, &heads, &links, &cells);
-    lent(whole, STARS, &readings, &heads, &links, &cells);
-    lent(1, 0, &readings, &heads, &links, &cells);
-    lent(1, 1, &readings, &heads, &links, &cells);
-    lent(4, 0, &readings, &heads, &links, &cells);
+    say::room(entry, count);
+    let answer = print_to(&mut stars[0..count], entry, 0, c);
+    stars_left(answer, &stars);
 }
 
 // The bytes of as many calls as a text can have behind a digit.
@@ -300,126 +255,9 @@ fn chain(digit: u8) -> [u8; Text::BYTES] {
     text
 }
 
-// Four such texts fill a table.
-fn chains(
-    places: &mut [u16; Text::PARTS],
-    readings: &[i32; Table::READINGS],
-    heads: &mut [u32; 2],
-    links: &mut [u16; TABLE_LINKS],
-    cells: &mut [u64; TABLE_CELLS],
-) {
-    let mut digit = b'0';
-    while digit < b'4' {
-        line(&chain(digit), places, readings, heads, links, cells);
-        digit += 1;
-    }
-}
-
-// A table that is full, and one new entry.
-fn full(recording: &[i32]) {
-    let mut readings = [0i32; Table::READINGS];
-    let mut heads = [0u32; 2];
-    let mut links = [0u16; TABLE_LINKS];
-    let mut cells = [0u64; TABLE_CELLS];
-    let mut places = [0u16; Text::PARTS];
-    open(recording, &mut readings, &mut heads, &links, &cells);
-    chains(&mut places, &readings, &mut heads, &mut links, &mut cells);
-    line(
-        b"4",
-        &mut places,
-        &readings,
-        &mut heads,
-        &mut links,
-        &mut cells,
-    );
-}
-
-// Memory that is declined: 127 places, by an edit; a cache in which entry 0, a count, depends on 0, by an edit, a preview and a print; and
-// such a cache with room for too few readings, by a print.
-fn memory() {
-    let readings = [0i32; Table::READINGS];
-    let mut heads = [1u32, 0];
-    let mut links = [0u16; TABLE_LINKS];
-    links[0] = 13;
-    links[1] = 1;
-    let mut cells = [0u64; TABLE_CELLS];
-    let mut few = [0u16; Text::PARTS - 1];
-    say::words(b"127 places: 1 => ");
-    say::edit_answer(
-        edit(
-            b"1",
-            &mut few,
-            &readings,
-            &mut heads,
-            &mut links,
-            &mut cells,
-        ),
-        &few,
-    );
-    let mut places = [0u16; Text::PARTS];
-    say::words(b"\nentry 0 depends on 0: ");
-    line(
-        b"1",
-        &mut places,
-        &readings,
-        &mut heads,
-        &mut links,
-        &mut cells,
-    );
-    entry(0, &readings, &heads, &links, &mut cells);
-    say::words(b"room for 1023 readings: entry 0 in full: ");
-    let mut bytes = [0u8; Text::BYTES];
-    in_full(0, &mut bytes, &readings[1..], &heads, &links, &cells);
-    say::words(b"\n");
-}
-
-// The texts, one to a line, each over a cache of its own.
-fn sessions(recording: &[i32], texts: &[u8]) {
-    let mut at: usize = 0;
-    while at < texts.len() {
-        let end = text_end(texts, at);
-        session(recording, &texts[at..end]);
-        at = end + 1;
-    }
-}
-
-// Texts of which every part is shown.
-fn every_part(recording: &[i32]) {
-    by_entry(recording, b"let x = 2 in data.skip(1).take(x)");
-    by_entry(
-        recording,
-        b"data.sumBy(\\p -> data.countWhere(\\q -> q.gt(p)))",
-    );
-    // Blanks, brackets and zeros that go; and those that stay or come, at `->` and around a function that is a receiver
-    by_entry(recording, b"( data ) . skip( 007 )");
-    by_entry(recording, b"-7.div(2)");
-    by_entry(recording, b"1.add(-1)");
-    by_entry(recording, b"-0.sub(-007)");
-    by_entry(recording, b"\\a->-1");
-    by_entry(recording, b"let f = \\a -> a in f.count()");
-    // An unbound name under a lambda of its name
-    by_entry(recording, b"let y = b in \\b -> y");
-    // A function that would be read with another level, and variables of one spelling
-    by_entry(recording, b"let f = \\a -> a in \\a -> data.sumBy(f)");
-    by_entry(recording, b"\\a -> let x = a in \\a -> x.add(a)");
-    // Wholes whose text the reader would decline: for a third open lambda, too many parts, and too many bytes
-    by_entry(recording, b"let f = \\b -> \\c -> 1 in \\a -> f");
-    by_entry(
-        recording,
-        b"let a = 1 in let b = a.add(a) in let c = b.add(b) in let d = c.add(c) in let e = d.add(d) in let f = e.add(e) in let g = f.add(f) in g.add(g)",
-    );
-    by_entry(
-        recording,
-        b"let a = -2147483648 in let b = a.add(a) in let c = b.add(b) in let d = c.add(c) in let e = d.add(d) in let f = e.add(e) in f.add(f)",
-    );
-    few_bytes(recording);
-}
-
 // A place's line. Gives whether the text has a part there.
 fn evaluated_at(recording: &[i32], text: &[u8], place: u32) -> bool {
-    say::words(b"  ");
-    say::number(place as u64);
-    say::words(b": ");
+    say::label(place);
     let taken = say::evaluate_answer(evaluate(text, recording, place));
     say::words(b"\n");
     taken
@@ -439,110 +277,110 @@ fn each_place(recording: &[i32], text: &[u8]) {
 // A text without a cache, over the recording.
 fn evaluation(recording: &[i32], text: &[u8]) {
     say::text(text);
-    say::words(b" => evaluated over ");
-    say::number(recording.len() as u64);
-    say::words(b" readings\n");
+    say::evaluated_over(recording.len());
     each_place(recording, text);
 }
 
-// The texts, one to a line.
-fn evaluations(recording: &[i32], texts: &[u8]) {
+// A text over the recording that the cache was opened with.
+fn evaluation_here(text: &[u8], c: Cache) {
+    let readings = c.readings;
+    let heads = c.heads;
+    let size = heads[1] as usize;
+    evaluation(front(&readings, size), text);
+}
+
+// The first readings, up to so many.
+fn front(readings: &[i32], count: usize) -> &[i32] {
+    if readings.len() < count {
+        return readings;
+    }
+    &readings[0..count]
+}
+
+// The first byte, or 0.
+fn first(line: &[u8]) -> u8 {
+    if line.len() == 0 {
+        return 0;
+    }
+    line[0]
+}
+
+// The number that a line's first byte is.
+fn digit(line: &[u8]) -> u32 {
+    let byte = first(line);
+    if byte < b'0' {
+        return 0;
+    }
+    (byte - b'0') as u32
+}
+
+// What stands behind a line's first byte and a blank.
+fn rest(line: &[u8]) -> &[u8] {
+    if line.len() < 2 {
+        return &line[line.len()..];
+    }
+    &line[2..]
+}
+
+// The commands that leave the cache as it is.
+fn look(command: u8, text: &[u8], c: Cache) {
+    match command {
+        b'w' => say::heading(text),
+        b'b' => in_stars(digit(text), rest(text).len(), c),
+        b'q' => in_full(digit(text), 1, c),
+        b'v' => evaluation_here(text, c),
+        b'x' => evaluation(&[0; MANY_READINGS], text),
+        b'y' => evaluation(&[0; MANY_READINGS], &[b' '; MANY_BYTES]),
+        _ => {}
+    }
+}
+
+fn carry_out(command: u8, text: &[u8], c: Cache) -> Cache {
+    match command {
+        b'o' => open_numbered(digit(text), c),
+        b't' => text_line(text, c),
+        b'e' => by_entry(text, c),
+        b'd' => edit_line(text, 0, c),
+        b'p' => edit_line(text, 1, c),
+        b'n' => entry_line(digit(text), c),
+        b'c' => text_line(&chain(first(text)), c),
+        b'l' => text_line(&[b' '; MANY_BYTES], c),
+        b's' => ill_formed(),
+        _ => {
+            look(command, text, c);
+            c
+        }
+    }
+}
+
+// Where the line that begins at a place ends.
+fn line_end(script: &[u8], at: usize) -> usize
+    requires { ⌜ at ≤ length (now script) ⌝ }
+    ensures { λ r. ⌜ (at ≤ r) × (r ≤ length (now (script .entry))) ⌝ }
+{
+    let mut i = at;
+    while i < script.len() {
+        if script[i] == b'\n' {
+            return i;
+        }
+        i += 1;
+    }
+    i
+}
+
+fn run(script: &[u8]) {
+    let mut c = new();
     let mut at: usize = 0;
-    while at < texts.len() {
-        let end = text_end(texts, at);
-        evaluation(recording, &texts[at..end]);
+    while at < script.len() {
+        let end = line_end(script, at);
+        let line = &script[at..end];
+        c = carry_out(first(line), rest(line), c);
         at = end + 1;
     }
 }
 
-// Sample previews; functions that a let hands out and that hide one another; what is missing, also where nothing needs it; and refusals: 1 comes
-// before 2, that before what the text is refused for, and 14 last.
-fn without_a_cache(recording: &[i32]) {
-    evaluations(
-        recording,
-        b"let x = 2 in data.skip(1).take(x)\nlet x = 3 in data.skip(1).take(x)",
-    );
-    evaluations(
-        recording,
-        b"data.countWhere(\\b -> b.gt(150))\ndata.sum()\ndata.longestRun(\\b -> b.gt(145))\ndata.sumBy(\\p -> data.countWhere(\\q -> q.gt(p)))",
-    );
-    evaluations(
-        recording,
-        b"-7.div(2)\n-2147483648.div(-1)\nlet u = 1.div(0) in 6\nlet y = b in \\b -> y",
-    );
-    evaluations(
-        recording,
-        b"data.take(0).countWhere(\\b -> b.div(0))\ndata.take(0).countWhere(\\b -> 1.div(0))\ndata.skip(9).min()",
-    );
-    evaluations(
-        recording,
-        b"data.sumBy(let a = 5 in \\x -> x.add(a))\n\\a -> let x = a in \\a -> x.add(a)\nlet x = y in 1\n\\a -> a.add(y)\ndata.",
-    );
-    let many = [0; Table::READINGS + 1];
-    evaluation(&many, b"data.");
-    evaluation(&many, &[b' '; Text::BYTES + 1]);
-}
-
 fn main() {
-    let run = [140, 152, 160, 148, 155];
-    // Sample previews
-    session(
-        &run,
-        b"let x = 2 in data.skip(1).take(x)\nlet x = 3 in data.skip(1).take(x)",
-    );
-    sessions(
-        &run,
-        b"data.countWhere(\\b -> b.gt(150))\ndata.sum()\ndata.longestRun(\\b -> b.gt(145))\ndata.sumBy(\\p -> data.countWhere(\\q -> q.gt(p)))",
-    );
-    sessions(
-        &run,
-        b"-7.div(2)\n-2147483648.div(-1)\n7.div(0)\n7.div(-2)\n-7.div(-2)\n-6.div(3)",
-    );
-    sessions(&run, b"let u = 1.div(0) in 6\nlet y = b in \\b -> y");
-    sessions(
-        &run,
-        b"data.take(0).countWhere(\\b -> b.div(0))\ndata.take(0).countWhere(\\b -> 1.div(0))",
-    );
-    session(&run, b"data.skip(9)\ndata.skip(9).min()");
-    session(&run, b"1.add(data)");
-    // The best stretch
-    session(
-        &run,
-        b"data.bestSum(2)\ndata.bestAt(2)\ndata.bestSum(5)\ndata.bestAt(5)\ndata.bestSum(0)\ndata.bestAt(-1)\ndata.bestSum(6)\ndata.skip(3).bestAt(1)",
-    );
-    session(
-        &[2147483647, -1, 1, 2147483647],
-        b"data.bestSum(3)\ndata.bestSum(2)\ndata.bestAt(2)\ndata.bestAt(1)",
-    );
-    // Counts from the end
-    session(
-        &run,
-        b"data.skip(-2)\ndata.take(-2)\ndata.at(-1)\ndata.skip(-6)\ndata.take(-6)\ndata.at(-6)\ndata.take(-2147483648)\ndata.at(-2147483648)\ndata.skip(-3).take(-1).at(-2)",
-    );
-    // A lambda that runs inside another of the same name
-    session(
-        &[0, 2, 3],
-        b"let h = \\y -> data.skip(1).sumBy(\\x -> y.div(x)) in data.sumBy(\\x -> data.skip(x).sumBy(h))",
-    );
-    // Lambdas by their level: a function's twin inside another lambda, and a lambda that hides another of its name
-    session(
-        &run,
-        b"data.sumBy(\\a -> a)\n\\b -> data.sumBy(\\a -> a)\n\\a -> \\a -> 1\ndata.sumBy(\\a -> let x = a in data.countWhere(\\a -> a.gt(x)))",
-    );
-    every_part(&run);
-    // Taken
-    sessions(
-        &run,
-        b"((((((((((((((((1))))))))))))))))\nlet distance = 5 in distance",
-    );
-    full(&run);
-    // When a call is declined
-    session(&run, &[b' '; Text::BYTES + 1]);
-    session(&[0; Table::READINGS + 1], b"");
-    memory();
-    session(
-        &run,
-        b"data.\n2147483648\nheartrate\nlet data = 1 in 2\ndata.skip()\n\\a -> \\b -> \\c -> 1\n(((((((((((((((((",
-    );
-    without_a_cache(&run);
+    let mut script = [0u8; 16384];
+    let count = io::read_full(STDIN_FILENO, &mut script);
+    run(&script[..count]);
 }

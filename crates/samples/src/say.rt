@@ -4,6 +4,7 @@ use interface::answers::Evaluated;
 use interface::answers::Opened;
 use interface::answers::Previewed;
 use interface::answers::Printed;
+use language::limits::Text;
 use language::names::BYTE_BASE;
 use libc::STDOUT_FILENO;
 use schedule::View;
@@ -128,7 +129,7 @@ pub fn open_answer(answer: Opened, size: usize) {
 }
 
 // What an edit answers, and the places that it wrote. Gives the entry of the whole text.
-pub fn edit_answer(answer: Edited, places: &[u16]) -> u32 {
+pub fn edit_answer(answer: Edited, places: &[u16; Text::PARTS]) -> u32 {
     match answer {
         Edited::Done {
             whole,
@@ -243,4 +244,33 @@ pub fn evaluate_answer(answer: Evaluated) -> bool {
             false
         }
     }
+}
+
+// The beginning of the line of an entry or a place.
+pub fn label(n: u32) {
+    words(b"  ");
+    number(n as u64);
+    words(b": ");
+}
+
+// The beginning of the line of an entry in so many lent bytes.
+pub fn room(n: u32, bytes: usize) {
+    words(b"  ");
+    number(n as u64);
+    words(b" in ");
+    number(bytes as u64);
+    words(b" bytes: ");
+}
+
+// Words before the next line.
+pub fn heading(bytes: &[u8]) {
+    words(bytes);
+    words(b": ");
+}
+
+// What stands behind a text that is evaluated.
+pub fn evaluated_over(size: usize) {
+    words(b" => evaluated over ");
+    number(size as u64);
+    words(b" readings\n");
 }

@@ -5,16 +5,16 @@ use Rattle.samples.proofs.entries.Statement.{statement}
 use Rattle.samples.proofs.entries.Tie as tie
 
 abbrev Inv-loop : tie.InvT-loop
-Inv-loop count readings heads links cells₀ n₀ cells n = Unit
+Inv-loop count shown₀ n₀ shown n = Unit
 
 abbrev μ-loop : tie.MeasureT-loop
-μ-loop count readings heads links cells₀ n₀ cells n = count - n
+μ-loop count shown₀ n₀ shown n = count - n
 
 loop-holds : tie.Need-loop-holds Inv-loop μ-loop
 loop-holds c = search needs
 
-entry-requires : tie.Need-entry-requires Inv-loop μ-loop
-entry-requires c κs = search needs
+entry-line-requires : tie.Need-entry-line-requires Inv-loop μ-loop
+entry-line-requires c κs = search needs
 
 add-n : tie.Need-add-n Inv-loop μ-loop
 add-n c = search needs
@@ -25,8 +25,8 @@ loop-less c = search needs
 loop-again : tie.Need-loop-again Inv-loop μ-loop
 loop-again c = search needs
 
-entry-requires-2 : tie.Need-entry-requires-2 Inv-loop μ-loop
-entry-requires-2 c κs = search needs
+entry-line-requires-2 : tie.Need-entry-line-requires-2 Inv-loop μ-loop
+entry-line-requires-2 c κs = search needs
 
 returns : tie.Need-returns Inv-loop μ-loop
 returns c = search needs
@@ -38,9 +38,9 @@ entries-spec =
     Inv-loop
     μ-loop
     loop-holds
-    entry-requires
+    entry-line-requires
     add-n
     loop-less
     loop-again
-    entry-requires-2
+    entry-line-requires-2
     returns)

@@ -2,14 +2,14 @@
 use borrow.Author.Needs.{needs}
 use Prim.Native.Nat.{_≤_, _-_}
 use lib.ListN.{length}
-use Rattle.samples.proofs.text_end.Statement.{statement}
-use Rattle.samples.proofs.text_end.Tie as tie
+use Rattle.samples.proofs.line_end.Statement.{statement}
+use Rattle.samples.proofs.line_end.Tie as tie
 
 abbrev Inv-loop : tie.InvT-loop
-Inv-loop texts at i₀ i = (at ≤ i) × (i ≤ length texts)
+Inv-loop script at i₀ i = (at ≤ i) × (i ≤ length script)
 
 abbrev μ-loop : tie.MeasureT-loop
-μ-loop texts at i₀ i = length texts - i
+μ-loop script at i₀ i = length script - i
 
 loop-holds : tie.Need-loop-holds Inv-loop μ-loop
 loop-holds c = search needs
@@ -32,8 +32,8 @@ loop-again c = search needs
 returns-2 : tie.Need-returns-2 Inv-loop μ-loop
 returns-2 c = search needs
 
-pub text-end-spec : {M : Type 1} → statement M
-text-end-spec =
+pub line-end-spec : {M : Type 1} → statement M
+line-end-spec =
     tie.close
     (tie.spec
     Inv-loop

@@ -1,21 +1,24 @@
--- What is left of the texts falls. Assumes nothing.
+-- What is left of the script falls. Assumes nothing.
 use borrow.Author.Needs.{needs}
 use Prim.Native.Nat.{_+_, _-_}
 use lib.ListN.{length}
-use Rattle.samples.proofs.lines.Statement.{statement}
-use Rattle.samples.proofs.lines.Tie as tie
+use Rattle.samples.proofs.run.Statement.{statement}
+use Rattle.samples.proofs.run.Tie as tie
 
 abbrev Inv-loop : tie.InvT-loop
-Inv-loop texts places₀ readings heads₀ links₀ cells₀ at₀ places heads links cells at = Unit
+Inv-loop script c₀ at₀ c at = Unit
 
 abbrev μ-loop : tie.MeasureT-loop
-μ-loop texts places₀ readings heads₀ links₀ cells₀ at₀ places heads links cells at = length texts + 1 - at
+μ-loop script c₀ at₀ c at = length script + 1 - at
+
+new-requires : tie.Need-new-requires Inv-loop μ-loop
+new-requires c κs = search needs
 
 loop-holds : tie.Need-loop-holds Inv-loop μ-loop
 loop-holds c = search needs
 
-text-end-requires : tie.Need-text-end-requires Inv-loop μ-loop
-text-end-requires c κs = search needs
+line-end-requires : tie.Need-line-end-requires Inv-loop μ-loop
+line-end-requires c κs = search needs
 
 sub-line : tie.Need-sub-line Inv-loop μ-loop
 sub-line c = search needs
@@ -26,8 +29,14 @@ part-line-start c = search needs
 part-line-end : tie.Need-part-line-end Inv-loop μ-loop
 part-line-end c = search needs
 
-line-requires : tie.Need-line-requires Inv-loop μ-loop
-line-requires c κs = search needs
+first-requires : tie.Need-first-requires Inv-loop μ-loop
+first-requires c κs = search needs
+
+rest-requires : tie.Need-rest-requires Inv-loop μ-loop
+rest-requires c κs = search needs
+
+carry-out-requires : tie.Need-carry-out-requires Inv-loop μ-loop
+carry-out-requires c κs = search needs
 
 add-at : tie.Need-add-at Inv-loop μ-loop
 add-at c = search needs
@@ -41,18 +50,21 @@ loop-again c = search needs
 returns : tie.Need-returns Inv-loop μ-loop
 returns c = search needs
 
-pub lines-spec : {M : Type 1} → statement M
-lines-spec =
+pub run-spec : {M : Type 1} → statement M
+run-spec =
     tie.close
     (tie.spec
     Inv-loop
     μ-loop
+    new-requires
     loop-holds
-    text-end-requires
+    line-end-requires
     sub-line
     part-line-start
     part-line-end
-    line-requires
+    first-requires
+    rest-requires
+    carry-out-requires
     add-at
     loop-less
     loop-again
