@@ -155,7 +155,7 @@ settled-run a s l e = rw e
 pub settled-call : (f : Found) (xs : List ℤ) (a b : ℕ) (u : Applied) (c : ℕ) → u ≡ callOf f xs a b → c ≡ settledOf u → c ≡ settledOf (callOf f xs a b)
 settled-call f xs a b u c e p = p ∙ ap settledOf e
 
-both-numbers : (a b : ℕ) → (ltb a windowCell && ltb b windowCell) ≡ true → (a < windowCell) × (b < windowCell)
+pub both-numbers : (a b : ℕ) → (ltb a windowCell && ltb b windowCell) ≡ true → (a < windowCell) × (b < windowCell)
 both-numbers a b e = (ltb-true a windowCell (and-eq-true-iff _ (ltb b windowCell) .0 e .0), ltb-true b windowCell (and-eq-true-iff (ltb a windowCell) _ .0 e .1))
 
 module _ (f : Found) (xs : List ℤ) (two : Bool) (a b : ℕ) where

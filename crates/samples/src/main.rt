@@ -1,3 +1,24 @@
+// Runs the sample previews of 01 and 02, and 01's small examples of calls that are declined. They stand in the file `stdin`, a command to a
+// line: one byte, a blank, and what it is about. For a text a line is written: what the edit answers; what the whole text then shows, with the
+// readings of a shown window; and how many entries that preview worked out. The file `stdout` is written by hand from these papers.
+//
+//     o N      a cache is opened with recording N; 4 is one that is too long
+//     t TEXT   the text's line
+//     e TEXT   the text entry by entry, each also in full (02, T-04), and the whole in full as a text
+//     d TEXT   what the edit answers, alone
+//     p TEXT   the same, with 127 places
+//     n N      a preview and a print of entry N
+//     c DIGIT  the line of a text of 128 parts that begins with the digit
+//     l        the line of a text that is too long
+//     s        a cache in which entry 0, a count, depends on 0
+//     w WORDS  a heading
+//     b N *    entry N in full, with as many bytes lent as there are stars
+//     q N      entry N in full, with room for 1,023 readings
+//     v TEXT   the text evaluated without a cache (02, T-07), with a line for each place
+//     x TEXT   the same over a recording that is too long
+//     y        a text and a recording that are too long
+//
+// All other lines are passed over, as those that begin with #.
 mod say;
 
 use calls::edit::edit;

@@ -13,7 +13,6 @@ use lib.ListN.{length, getD, set, replicate, length-set, length-append, length-r
 use lib.Seq.{getD-set-same, getD-set-other}
 use Rattle.language.specs.Cases.{impossible, split}
 use Rattle.language.specs.Limits.{textParts, tableEntries}
-use Rattle.layout.specs.Links.{kindAt}
 use Rattle.layout.specs.Memory.{Node, nodeAt}
 use Rattle.layout.specs.Nodes.{sameNode}
 use Rattle.table.specs.WellFormed.{hasNode, distinct}
@@ -365,15 +364,6 @@ pub held-front : (links cells : List ℕ) (count : ℕ) (fresh : List ℕ) (j : 
 unfolding heldAt
 held-front links cells count fresh j h = rw (lt-ltb j count h)
 
--- the test of an entry, which reads the kind first
-module _ (links cells : List ℕ) (i : ℕ) (x : Node) where
-  pub at-same : (m : Node) (r : Bool) → r ≡ sameNode m x → m ≡ nodeAt links cells i → r ≡ sameNode (nodeAt links cells i) x
-  at-same m r e q = rw (← q) e
-
-  pub at-other : (kind : ℕ) → kind ≡ kindAt links i → (kind ≡ x .kind → ⊥) → false ≡ sameNode (nodeAt links cells i) x
-  unfolding sameNode nodeAt
-  at-other kind q h = rw (← q, ne-eqb kind (x .kind) h)
-
 -- the loop over all
 pub distinct-new : (links cells : List ℕ) (n : ℕ) (r : Bool) → r ≡ allFrom (newAt (nodeAt links cells)) n 0 → r ≡ distinct (numbered (nodeAt links cells) 0 n)
 distinct-new links cells n r e = e ∙ sym (distinct-all (nodeAt links cells) n)
@@ -392,8 +382,6 @@ pub ruleset chains = (
   entered-chain,
   entered-is,
   chained-start,
-  at-same,
-  at-other,
   distinct-new,
   distinct-stop,
   distinct-end,

@@ -2,7 +2,6 @@
 // for each entry holds the same of the entries before it.
 use language::limits::Table;
 use language::limits::Text;
-use layout::cells::kind_of;
 use layout::nodes::Shape;
 use layout::nodes::TEXT_WORDS;
 use layout::nodes::held_at;
@@ -73,16 +72,6 @@ pub fn enter(chain: &mut [u16; CHAIN_CELLS], h: u16, i: u16)
     chain[h as usize] = i + 1;
 }
 
-// Whether entry i is x. The kind is read first: in most entries it is another.
-fn is_at(links: &[u16], cells: &[u64], i: u16, x: Shape) -> bool
-    ensures { λ r. ⌜ r ≡ sameNode (nodeAt (now (links .entry)) (now (cells .entry)) i) (shaped x) ⌝ }
-{
-    if kind_of(links, i as usize) == x.kind {
-        return same(node_at(links, cells, i), x);
-    }
-    false
-}
-
 // As `seek`, where no entry waits.
 fn seek_held(
     links: &[u16],
@@ -99,7 +88,7 @@ fn seek_held(
 {
     let mut c = chain[h as usize];
     while 0 < c {
-        if is_at(links, cells, c - 1, x) {
+        if same(node_at(links, cells, c - 1), x) {
             return c;
         }
         c = chain[HASHES - 1 + c as usize];

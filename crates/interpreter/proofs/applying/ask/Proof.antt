@@ -1,3 +1,4 @@
+-- `interpreter::applying::ask` meets its contract: it is a law of OnCells. Assumes nothing.
 use Rattle.interpreter.proofs.OnCells.{applying}
 use Rattle.interpreter.proofs.applying.ask.Statement.{statement}
 use Rattle.interpreter.proofs.applying.ask.Tie as tie

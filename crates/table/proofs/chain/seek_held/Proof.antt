@@ -27,11 +27,14 @@ element-copy-out-c c = search needs
 loop-holds : tie.Need-loop-holds Inv-loop μ-loop
 loop-holds c = (search (needs, chains), search (needs, chains), search (needs, chains))
 
-sub-is-at : tie.Need-sub-is-at Inv-loop μ-loop
-sub-is-at c = search needs
+sub-node-at : tie.Need-sub-node-at Inv-loop μ-loop
+sub-node-at c = search needs
 
-is-at-requires : tie.Need-is-at-requires Inv-loop μ-loop
-is-at-requires c κs = search needs
+node-at-requires : tie.Need-node-at-requires Inv-loop μ-loop
+node-at-requires c κs = search needs
+
+same-requires : tie.Need-same-requires Inv-loop μ-loop
+same-requires c κs = search needs
 
 returns : tie.Need-returns Inv-loop μ-loop
 returns c = search (needs, chains)
@@ -69,8 +72,9 @@ seek-held-spec =
     mul-c
     element-copy-out-c
     loop-holds
-    sub-is-at
-    is-at-requires
+    sub-node-at
+    node-at-requires
+    same-requires
     returns
     sub-c
     cast-c
