@@ -1,6 +1,6 @@
 -- 01, "The text": the tokens of a text, longest first, each with its byte place. Assumes nothing: these are definitions.
 use Rattle.std.specs.Prelude.{Bool, true, false, cond, List, [], ◌∷◌, ℕ, zero, suc, ◌+◌, ◌*◌, ◌-◌, eqb, ℤ, pos, neg_ℤ, take}
-use Rattle.language.specs.Names.{is_letter, is_digit, in_word, is_blank, let_word, word_in }
+use Rattle.language.specs.Names.{is_letter, is_digit, in_word, is_blank, let_word, word_in}
 use Rattle.members.specs.Members.{same_bytes}
 
 -- let in = \ -> . ( ) , and words and numbers

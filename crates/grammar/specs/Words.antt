@@ -3,7 +3,7 @@
 use Rattle.std.specs.Prelude.{◌≡◌, refl, true, false, List, [], ◌∷◌, map, ℕ, zero, suc, ◌-◌, eqb, take}
 use Rattle.std.proofs.Common.{sym, subst}
 use Rattle.language.specs.Cases.{split, by_cond}
-use Rattle.language.specs.Names.{is_letter, is_digit, in_word, is_blank, let_word, word_in }
+use Rattle.language.specs.Names.{is_letter, is_digit, in_word, is_blank, let_word, word_in}
 use Rattle.language.specs.NamesLaws.{Each, NameByte, each_map, word_byte}
 use Rattle.members.specs.Members.{same_bytes}
 use Rattle.grammar.specs.Tokens.{Token, k_let, k_in, k_equals, k_lambda, k_arrow, k_dot, k_open, k_shut, k_comma, word, number, other, when, leading}

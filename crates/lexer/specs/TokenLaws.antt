@@ -5,7 +5,7 @@ use Rattle.std.proofs.Math.Path.{ap}
 use Rattle.std.proofs.Math.Bool.{cond, and-eq-true_iff}
 use Prim.Native.Nat.{ℕ, zero, suc, ◌≤◌}
 use Rattle.std.proofs.Common.{arith, leb-true, eqb-true, ne_eqb}
-use Rattle.language.specs.Names.{is_letter, is_digit, in_word, let_word, word_in }
+use Rattle.language.specs.Names.{is_letter, is_digit, in_word, let_word, word_in}
 use Rattle.members.specs.Members.{same_bytes}
 use Rattle.grammar.specs.Tokens.{Token, k_let, k_in, k_equals, k_lambda, k_arrow, k_dot, k_open, k_shut, k_comma, word, number, other}
 use Rattle.grammar.specs.Tokens.{when, leading, decimal, Lexeme, word_token, word_at, digits_at, minus_at, mark_token, token_at}

@@ -1,6 +1,6 @@
 -- The test `same` is equality of forms, and what lies within a form is the form itself or lies within a dependency. Assumes nothing.
 use Rattle.std.specs.Prelude.{◌≡◌, refl, ◌↔◌, ◌⊎◌, true, ◌||◌, ℕ, zero, suc, ◌<◌, ℤ, pos, negsuc}
-use Rattle.std.proofs.Common.{ap, inl, inr, arith, eqb-true, eq-eqb}
+use Rattle.std.proofs.Common.{sym, ap, subst, inl, inr, arith, eqb-true, eq-eqb}
 use Rattle.std.proofs.Math.Bool.{and-eq-true_iff}
 use Rattle.language.specs.Cases.{impossible, either, or_right}
 use Rattle.members.specs.Members.{member_number}
@@ -117,13 +117,13 @@ dependency-within d (number z) h = impossible h
 dependency-within d (variable x) h = impossible h
 dependency-within d (unbound x) h = impossible h
 dependency-within d readings h = impossible h
-dependency-within d (ask m f) h = or_right (same d (ask m f)) _ (rw (same-eq d f h) (within-self f))
+dependency-within d (ask m f) h = or_right (same d (ask m f)) _ (subst (λ x. within x f ≡ true) (sym (same-eq d f h)) (within-self f))
 dependency-within d (call m f a) h =
     or_right (same d (call m f a)) _
     (either (same d f) (same d a) h
-    (λ e. rw (same-eq d f e, within-self f))
-    (λ e. or_right (within d f) _ (rw (same-eq d a e) (within-self a))))
-dependency-within d (function x b) h = or_right (same d (function x b)) _ (rw (same-eq d b h) (within-self b))
+    (λ e. let q : within d f ≡ true = subst (λ x. within x f ≡ true) (sym (same-eq d f e)) (within-self f) in rw q)
+    (λ e. or_right (within d f) _ (subst (λ x. within x a ≡ true) (sym (same-eq d a e)) (within-self a))))
+dependency-within d (function x b) h = or_right (same d (function x b)) _ (subst (λ x. within x b ≡ true) (sym (same-eq d b h)) (within-self b))
 
 -- what lies within something within g lies within g
 pub within-trans : (d f g : Form) → within d f ≡ true → within f g ≡ true → within d g ≡ true

@@ -82,9 +82,9 @@ module _ {A : Type 0} (P : A → Type 0) where
   all-nth (y ∷ ys) zero x p e = let q : y ≡ x = cc in subst P q p.0
   all-nth (y ∷ ys) (suc n) x p e = all-nth ys n x p.1 e
 
-  pub all_in : (xs : List A) (x : A) → Memᴰ x xs → All P xs → P x
-  all_in xs x (Memᴰ.head e) p = subst P (sym e) p.0
-  all_in xs x (Memᴰ.tail i) p = all_in _ x i p.1
+  pub all_in : (x : A) (xs : List A) → Memᴰ x xs → All P xs → P x
+  all_in x xs (Memᴰ.head e) p = subst P (sym e) p.0
+  all_in x xs (Memᴰ.tail i) p = all_in x _ i p.1
 
 -- Counting.
 module _ {A : Type 0} (p : A → Bool) where

@@ -1,0 +1,20 @@
+-- The place behind the blanks is the place of lexAt, and the first byte there picks the case of tokenAt. Assumes nothing.
+use Rattle.lexer.proofs.TokenPaths.{token_end, token-word, token-digits, token-minus, token-mark}
+use Rattle.lexer.proofs.tokens.token.Goals as goal
+
+pub returns-then-text-start : goal.returns-then-text-start
+returns-then-text-start c = search token_end
+
+pub returns-then-is_letter : goal.returns-then-is_letter
+returns-then-is_letter c = search token-word
+
+pub returns-then-is_digit : goal.returns-then-is_digit
+returns-then-is_digit c = search token-digits
+
+pub returns-then-b-eq45 : goal.returns-then-b-eq45
+returns-then-b-eq45 c = search token-minus
+
+pub returns : goal.returns
+returns c =
+    token-mark _ _ _ c.run_end-start.ensures c.if-text-start.false _ c.is_letter.ensures
+    c.if-is_letter.false _ c.is_digit.ensures _ c.if-is_digit.false c.if-b-eq45.false c.mark_kind.ensures

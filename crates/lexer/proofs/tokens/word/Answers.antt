@@ -1,0 +1,6 @@
+-- The bytes of the run are the word of wordAt. Assumes nothing.
+use Rattle.lexer.proofs.TokenPaths.{word-is}
+use Rattle.lexer.proofs.tokens.word.Goals as goal
+
+pub returns : goal.returns
+returns c = search word-is

@@ -1,0 +1,29 @@
+-- The search among the rows that are left finds what the search among all finds. Assumes nothing.
+use mathlib.Core.Path.{refl, sym, ◌∙◌}
+use Prim.Native.Nat.{◌-◌}
+use native.Mathlib.Omega.{arith}
+use Rattle.members.specs.Members.{member_of}
+use Rattle.members.specs.MembersLaws.{none-longer, row_is, row-not, row-over}
+use Rattle.members.proofs.named.Goals as goal
+
+pub returns-then-word-gt-LONGEST_NAME : goal.returns-then-word-gt-LONGEST_NAME
+returns-then-word-gt-LONGEST_NAME c = sym (none-longer _ c.if-word-gt-LONGEST_NAME.true)
+
+pub loop-n-init : goal.loop-n-init
+unfolding member_of
+loop-n-init c = (omega arith, refl)
+
+pub returns-then-is_named : goal.returns-then-is_named
+returns-then-is_named c =
+    c.member_at.ensures
+    ∙ row_is _ _ _ c.packed_name-name.ensures _ c.is_named.ensures c.loop-n-test.true c.if-is_named.true
+    ∙ c.loop-n.invariant.1
+
+pub loop-n-preserved : goal.loop-n-preserved
+loop-n-preserved c = (
+  omega arith,
+  row-not _ _ _ c.packed_name-name.ensures _ c.is_named.ensures c.loop-n-test.true c.if-is_named.false ∙ c.loop-n.invariant.1,
+)
+
+pub returns : goal.returns
+returns c = row-over _ _ _ c.loop-n-test.false c.loop-n.invariant.1

@@ -1,0 +1,15 @@
+-- What the entries below the cursor hold decides: those that a step passes have another hash. Assumes nothing.
+use mathlib.Core.Path.{◌≡◌}
+use Prim.Native.Nat.{◌≤◌}
+use Rattle.table.specs.Chain.{hash_of, latest, last_same}
+use Rattle.layout.specs.Held.{shaped, held_at}
+use Rattle.table.proofs.chain.seek.Given as goal
+
+abbrev pub invariant-loop-c : goal.invariant-loop-c
+invariant-loop-c l =
+    (last_same (held_at l.links l.cells l.count l.fresh) (shaped l.x) l.total ≡ last_same (held_at l.links l.cells l.count l.fresh) (shaped l.x) l.c)
+    × (l.c ≡ latest (held_at l.links l.cells l.count l.fresh) (hash_of (shaped l.x)) l.c)
+    × (l.c ≤ l.total)
+
+abbrev pub decreases-loop-c : goal.decreases-loop-c
+decreases-loop-c l = l.c

@@ -1,0 +1,16 @@
+-- What the entries below the cursor hold decides: those that a step passes have another hash. Assumes nothing.
+use mathlib.Core.Path.{◌≡◌}
+use Prim.Native.Nat.{◌≤◌}
+use Rattle.table.specs.Chain.{hash_of, latest, last_same}
+use Rattle.layout.specs.Memory.{node_at}
+use Rattle.layout.specs.Held.{shaped}
+use Rattle.table.proofs.chain.seek_held.Given as goal
+
+abbrev pub invariant-loop-c : goal.invariant-loop-c
+invariant-loop-c l =
+    (last_same (node_at l.links l.cells) (shaped l.x) l.total ≡ last_same (node_at l.links l.cells) (shaped l.x) l.c)
+    × (l.c ≡ latest (node_at l.links l.cells) (hash_of (shaped l.x)) l.c)
+    × (l.c ≤ l.total)
+
+abbrev pub decreases-loop-c : goal.decreases-loop-c
+decreases-loop-c l = l.c

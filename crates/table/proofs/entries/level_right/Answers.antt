@@ -1,0 +1,10 @@
+-- A level by its kind. Assumes nothing.
+use borrow.Author.Rules.{rules}
+use Rattle.table.specs.RightLaws.{entries}
+use Rattle.table.proofs.entries.level_right.Goals as goal
+
+pub returns-then-kind : goal.returns-then-kind
+returns-then-kind c = search (rules, entries)
+
+pub returns : goal.returns
+returns c = search (rules, entries)

@@ -1,0 +1,45 @@
+-- By the entry's kind: each answer is a law of WritingLaws. Assumes nothing.
+use mathlib.Core.Path.{refl, sym, ap, ◌∙◌}
+use Prim.Native.Nat.{◌-◌}
+use native.Mathlib.Omega.{arith}
+use Rattle.layout.specs.Memory.{Node}
+use Rattle.table.specs.WellFormed.{key_right}
+use Rattle.table.specs.RightLaws.{right_key}
+use Rattle.writer.specs.WritingLaws.{enter-function, enter-leaf, enter-ask, enter-call}
+use Rattle.writer.proofs.write.enter.Goals as goal
+
+pub returns-then-n-eq-FUNCTION : goal.returns-then-n-eq-FUNCTION
+returns-then-n-eq-FUNCTION c =
+    let is = c.node_at-n.ensures in
+    enter-function c.requires.0 c.requires.1 (ap (λ (q : Node). q.kind) (sym is) ∙ c.if-n-eq-FUNCTION.true) _ refl _ _ _ _ refl
+    (c.entry_of.ensures ∙ ap (λ (q : Node). q.first - 1) is) c.put_if.ensures
+
+pub put_leaf-requires : goal.put_leaf-requires
+put_leaf-requires c =
+    let r = c.requires.0 in
+    let is = c.node_at-n.ensures in
+    (r.whole, omega (arith, r.top), ap key_right is ∙ right_key _ _ (r.table.right _ r.entry))
+
+pub returns-then-n-lt-FUNCTION : goal.returns-then-n-lt-FUNCTION
+returns-then-n-lt-FUNCTION c =
+    let is = c.node_at-n.ensures in
+    let k = ap (λ (q : Node). q.kind) is in
+    enter-leaf c.requires.0 c.requires.1 (rw k at c.if-n-lt-FUNCTION.true) _ is _ _ c.put_leaf.ensures
+
+pub returns-then-n-eq0 : goal.returns-then-n-eq0
+returns-then-n-eq0 c =
+    let is = c.node_at-n.ensures in
+    let k = ap (λ (q : Node). q.kind) is in
+    let u = c.if-n-lt-FUNCTION.false in
+    let v = c.if-n-eq-FUNCTION.false in
+    enter-ask c.requires.0 c.requires.1 (omega arith) (ap (λ (q : Node). q.second) (sym is) ∙ c.if-n-eq0.true) _ _ _ _ _
+    (c.entry_of-then-n-eq0.ensures ∙ ap (λ (q : Node). q.first - 1) is) c.put-shut.ensures (rw k at c.put_member.ensures)
+
+pub returns : goal.returns
+returns c =
+    let is = c.node_at-n.ensures in
+    let k = ap (λ (q : Node). q.kind) is in
+    let j = ap (λ (q : Node). q.second) is in
+    let u = c.if-n-eq0.false in
+    enter-call c.requires.0 c.requires.1 (λ e. c.if-n-eq-FUNCTION.false (k ∙ e)) (omega arith) _ _ _ _ refl
+    (c.entry_of-2.ensures ∙ ap (λ (q : Node). q.second - 1) is) c.put_byte.ensures
