@@ -4,7 +4,6 @@
 # make test: the gate. make check-shell: the stored example, and recorded keys with the screens that they lead to. make sanitize: the screen under
 # sanitizers. make fuzz: random bytes as recordings and as keys, SECONDS=60 for each of the two ways. make wait: how long a key can wait.
 # make bench: benchmarks; writes docs/benchmarks/figures.csv, and from it the tables and plots of docs/BENCHMARKS.md.
-RT = rt
 RECORDING = shell/interval.txt
 SECONDS = 60
 
@@ -21,13 +20,13 @@ test:
 	.ci/run
 
 bench:
-	$(RT) staticlib engine
-	$(RT) staticlib measured
+	.ci/library engine
+	.ci/library measured
 	cargo run --quiet --release --offline --manifest-path host/bench/Cargo.toml
 
 # Proves the engine's crate each time, and those below it that have changed. Nothing is written to the output, so that make run can be piped.
 library:
-	@$(RT) staticlib engine >&2
+	@.ci/library engine >&2
 
 check-shell: library
 	shell/check example

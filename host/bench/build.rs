@@ -1,4 +1,4 @@
-// Links the static library that `rt staticlib measured` writes.
+// Links the static library that `.ci/library measured` writes.
 fn main() {
     let root = std::path::Path::new(env!("CARGO_MANIFEST_DIR")).join("../../target/staticlib");
     println!("cargo:rustc-link-search=native={}", root.display());

@@ -1,4 +1,4 @@
-//! Links the static library that `rt staticlib engine` writes.
+//! Links the static library that `.ci/library engine` writes.
 
 use std::path::Path;
 
@@ -7,7 +7,7 @@ fn main() {
     let library = root.join("libengine.a");
     println!("cargo:rerun-if-changed={}", library.display());
     if !library.exists() {
-        panic!("{} is missing: write it with `rt staticlib engine`", library.display());
+        panic!("{} is missing: write it with `.ci/library engine`", library.display());
     }
     println!("cargo:rustc-link-search=native={}", root.display());
     println!("cargo:rustc-link-lib=static=engine");
