@@ -11,7 +11,6 @@ ghost use Rattle.layout.specs.Memory.{memory};
 ghost use Rattle.measured.specs.Measures.{flag, read_number, ReadInto, can_bind, bound_number, bind_number, packed_work, can_work, Worked, can_print, PrintedInto};
 
 use binder::bind;
-use bytes::copy;
 use language::limits::{Table, Text};
 use layout::cells::{TABLE_CELLS, at16};
 use layout::nodes::TEXT_WORDS;
@@ -227,7 +226,8 @@ fn print_right(entry: u16, bytes: &mut [u8], links: &[u16], cells: &[u64]) -> u6
     if at == STOPPED {
         return 0;
     }
-    copy(&out[at..], bytes) as u64
+    bytes[..Text::BYTES - at].copy_from_slice(&out[at..]);
+    (Text::BYTES - at) as u64
 }
 
 // Writes the text of an entry to the lent bytes: how many bytes it has.

@@ -8,7 +8,6 @@ ghost use Rattle.interface.specs.Effects.{Prints};
 ghost use Rattle.printer.specs.Printing.{PrintsHeld};
 
 use crate::judge::judge;
-use bytes::copy;
 use calls::lent::refusal;
 use interface::answers::Printed;
 use language::limits::Text;
@@ -42,7 +41,7 @@ fn print_held(entry: u16, bytes: &mut [u8], heads: &[u32], links: &[u16], cells:
     }
     let refused = judge(links, cells, count, entry);
     if refused == 0 {
-        copy(&out[at..], bytes);
+        bytes[..Text::BYTES - at].copy_from_slice(&out[at..]);
         return Printed::Done {
             length: (Text::BYTES - at) as u16,
         };

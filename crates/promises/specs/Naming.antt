@@ -6,7 +6,7 @@ use Prim.Native.Nat.{ℕ, zero, suc, ◌+◌, ◌-◌, ◌^◌, ◌≤◌, ◌<�
 use Rattle.std.proofs.Math.Dec.{lit<}
 use Rattle.language.specs.Cases.{by_cond}
 use Rattle.language.specs.Limits.{name_bytes}
-use Rattle.language.specs.Names.{is_letter, is_digit, in_word, is_blank, bytes, packed, same_name, is_data, data_word, let_word, word_in }
+use Rattle.language.specs.Names.{is_letter, is_digit, in_word, is_blank, bytes, packed, same_name, is_data, data_word, let_word, word_in}
 use Rattle.language.specs.NamesLaws.{Each, NameByte, each_map, word_byte, packed-word, packed-injective, same-name}
 use Rattle.members.specs.declared.Member.{Member}
 use Rattle.members.specs.declared.Found.TheVariants.{Is}

@@ -33,8 +33,9 @@ use direct::evaluate::evaluate;
 use interface::answers::Printed;
 use language::limits::{Table, Text};
 use layout::cells::{TABLE_CELLS, TABLE_LINKS};
-use libc::STDIN_FILENO;
 use printer::print::print;
+use std::io;
+use std::io::Read;
 
 // As much work as there is.
 const ALLOWANCE: u32 = Table::ENTRIES as u32;
@@ -79,34 +80,34 @@ fn ill_formed() -> Cache {
     }
 }
 
-fn open_with(recording: &[i32], c: Cache) -> Cache {
+fn open_with(rt: &impl Print, recording: &[i32], c: Cache) -> io::Result<Cache> {
     let mut readings = c.readings;
     let mut heads = c.heads;
     let links = c.links;
     let cells = c.cells;
     let answer = open(recording, &mut readings, &mut heads, &links, &cells);
-    say::open_answer(answer, recording.len());
-    Cache {
+    say::open_answer(rt, answer, recording.len())?;
+    Ok(Cache {
         readings,
         heads,
         links,
         cells,
         whole: say::NO_ENTRY,
-    }
+    })
 }
 
 // The recording of a number.
-fn open_numbered(number: u32, c: Cache) -> Cache {
-    match number {
-        1 => open_with(&[140, 152, 160, 148, 155], c),
-        2 => open_with(&[2147483647, -1, 1, 2147483647], c),
-        3 => open_with(&[0, 2, 3], c),
-        _ => open_with(&[0; MANY_READINGS], c),
-    }
+fn open_numbered(rt: &impl Print, number: u32, c: Cache) -> io::Result<Cache> {
+    Ok(match number {
+        1 => open_with(rt, &[140, 152, 160, 148, 155], c)?,
+        2 => open_with(rt, &[2147483647, -1, 1, 2147483647], c)?,
+        3 => open_with(rt, &[0, 2, 3], c)?,
+        _ => open_with(rt, &[0; MANY_READINGS], c)?,
+    })
 }
 
 // A text, and what its edit answers, with so many places too few.
-fn begin(text: &[u8], missing: usize, c: Cache) -> Cache
+fn begin(rt: &impl Print, text: &[u8], missing: usize, c: Cache) -> io::Result<Cache>
     requires { missing ≤ 1 }
 {
     let readings = c.readings;
@@ -114,8 +115,8 @@ fn begin(text: &[u8], missing: usize, c: Cache) -> Cache
     let mut links = c.links;
     let mut cells = c.cells;
     let mut places = [0u16; Text::PARTS];
-    say::text(text);
-    say::words(b" => ");
+    say::text(rt, text)?;
+    say::words(rt, b" => ")?;
     let answer = edit(
         text,
         &mut places[missing..],
@@ -124,29 +125,29 @@ fn begin(text: &[u8], missing: usize, c: Cache) -> Cache
         &mut links,
         &mut cells,
     );
-    let whole = say::edit_answer(answer, &places);
-    Cache {
+    let whole = say::edit_answer(rt, answer, &places)?;
+    Ok(Cache {
         readings,
         heads,
         links,
         cells,
         whole,
-    }
+    })
 }
 
 // What an entry shows.
-fn show(entry: u32, c: Cache) -> Cache {
+fn show(rt: &impl Print, entry: u32, c: Cache) -> io::Result<Cache> {
     let readings = c.readings;
     let heads = c.heads;
     let links = c.links;
     let mut cells = c.cells;
     let answer = preview(entry, ALLOWANCE, &readings, &heads, &links, &mut cells);
-    say::preview_answer(answer);
-    say::readings(fetch(entry, &readings, &heads, &links, &cells));
-    say::work(answer);
+    say::preview_answer(rt, answer)?;
+    say::readings(rt, fetch(entry, &readings, &heads, &links, &cells))?;
+    say::work(rt, answer)?;
     let mut after = c;
     after.cells = cells;
-    after
+    Ok(after)
 }
 
 // The readings without the first ones.
@@ -168,97 +169,100 @@ fn print_to(bytes: &mut [u8], entry: u32, missing: usize, c: Cache) -> Printed {
 }
 
 // The end of a line: an entry in full, or the refusal.
-fn in_full(entry: u32, missing: usize, c: Cache) {
+fn in_full(rt: &impl Print, entry: u32, missing: usize, c: Cache) -> io::Result<()> {
     let mut bytes = [0u8; Text::BYTES];
     let answer = print_to(&mut bytes, entry, missing, c);
-    say::print_answer(answer, &bytes);
-    say::words(b"\n");
+    say::print_answer(rt, answer, &bytes)?;
+    say::words(rt, b"\n")?;
+    Ok(())
 }
 
-fn edit_line(text: &[u8], missing: usize, c: Cache) -> Cache
+fn edit_line(rt: &impl Print, text: &[u8], missing: usize, c: Cache) -> io::Result<Cache>
     requires { missing ≤ 1 }
 {
-    let begun = begin(text, missing, c);
-    say::words(b"\n");
-    begun
+    let begun = begin(rt, text, missing, c)?;
+    say::words(rt, b"\n")?;
+    Ok(begun)
 }
 
 // A text's line.
-fn text_line(text: &[u8], c: Cache) -> Cache {
-    let begun = begin(text, 0, c);
+fn text_line(rt: &impl Print, text: &[u8], c: Cache) -> io::Result<Cache> {
+    let begun = begin(rt, text, 0, c)?;
     let whole = begun.whole;
     if whole == say::NO_ENTRY {
-        say::words(b"\n");
-        return begun;
+        say::words(rt, b"\n")?;
+        return Ok(begun);
     }
-    say::words(b", ");
-    let shown = show(whole, begun);
-    say::words(b"\n");
-    shown
+    say::words(rt, b", ")?;
+    let shown = show(rt, whole, begun)?;
+    say::words(rt, b"\n")?;
+    Ok(shown)
 }
 
-fn entry_line(n: u32, c: Cache) -> Cache {
-    say::label(n);
-    let shown = show(n, c);
-    say::words(b"; in full: ");
-    in_full(n, 0, shown);
-    shown
+fn entry_line(rt: &impl Print, n: u32, c: Cache) -> io::Result<Cache> {
+    say::label(rt, n)?;
+    let shown = show(rt, n, c)?;
+    say::words(rt, b"; in full: ")?;
+    in_full(rt, n, 0, shown)?;
+    Ok(shown)
 }
 
 // A preview and a print of each entry, lowest first; and of the next number, which no entry has.
-fn entries(count: u32, c: Cache) -> Cache {
+fn entries(rt: &impl Print, count: u32, c: Cache) -> io::Result<Cache> {
     let mut shown = c;
     let mut n: u32 = 0;
     while n < count {
-        shown = entry_line(n, shown);
+        shown = entry_line(rt, n, shown)?;
         n += 1;
     }
-    entry_line(count, shown)
+    entry_line(rt, count, shown)
 }
 
 // What the last text has in full is edited and printed in turn: it is that very entry, and the same text. Where a print is refused, there is
 // no line.
-fn back(c: Cache) -> Cache {
+fn back(rt: &impl Print, c: Cache) -> io::Result<Cache> {
     let mut bytes = [0u8; Text::BYTES];
     let answer = print_to(&mut bytes, c.whole, 0, c);
-    match answer {
+    Ok(match answer {
         Printed::Done { length } => {
-            let again = begin(say::front(&bytes, length), 0, c);
-            say::words(b"; in full: ");
-            in_full(again.whole, 0, again);
+            let again = begin(rt, say::front(&bytes, length), 0, c)?;
+            say::words(rt, b"; in full: ")?;
+            in_full(rt, again.whole, 0, again)?;
             again
         }
         Printed::Refused { number: _ } => c,
-    }
+    })
 }
 
 // A text, entry by entry; and its whole in full as a text.
-fn by_entry(text: &[u8], c: Cache) -> Cache {
-    let edited = edit_line(text, 0, c);
+fn by_entry(rt: &impl Print, text: &[u8], c: Cache) -> io::Result<Cache> {
+    let edited = edit_line(rt, text, 0, c)?;
     let heads = edited.heads;
-    back(entries(heads[0], edited))
+    back(rt, entries(rt, heads[0], edited)?)
 }
 
 // Some bytes more than the script's texts for them have.
 const STARS: usize = 24;
 
 // The end of a line: what is written to the stars, or the refusal, and what is left of all of them.
-fn stars_left(answer: Printed, stars: &[u8; STARS]) {
-    say::print_answer(answer, stars);
-    say::words(b"; ");
-    say::words(stars);
-    say::words(b"\n");
+fn stars_left(rt: &impl Print, answer: Printed, stars: &[u8; STARS]) -> io::Result<()> {
+    say::print_answer(rt, answer, stars)?;
+    say::words(rt, b"; ")?;
+    say::words(rt, stars)?;
+    say::words(rt, b"\n")?;
+    Ok(())
 }
 
 // An entry in full, where so many of the stars are lent.
-fn in_stars(entry: u32, count: usize, c: Cache) {
+fn in_stars(rt: &impl Print, entry: u32, count: usize, c: Cache) -> io::Result<()> {
     if STARS < count {
-        return;
+        return Ok(());
     }
     let mut stars = [b'*'; STARS];
-    say::room(entry, count);
+    say::room(rt, entry, count)?;
     let answer = print_to(&mut stars[0..count], entry, 0, c);
-    stars_left(answer, &stars);
+    stars_left(rt, answer, &stars)?;
+    Ok(())
 }
 
 // The bytes of as many calls as a text can have behind a digit.
@@ -278,37 +282,40 @@ fn chain(digit: u8) -> [u8; Text::BYTES] {
 }
 
 // A place's line. Gives whether the text has a part there.
-fn evaluated_at(recording: &[i32], text: &[u8], place: u32) -> bool {
-    say::label(place);
-    let taken = say::evaluate_answer(evaluate(text, recording, place));
-    say::words(b"\n");
-    taken
+fn evaluated_at(rt: &impl Print, recording: &[i32], text: &[u8], place: u32) -> io::Result<bool> {
+    say::label(rt, place)?;
+    let taken = say::evaluate_answer(rt, evaluate(text, recording, place))?;
+    say::words(rt, b"\n")?;
+    Ok(taken)
 }
 
 // The places of a text, up to the first that is refused.
-fn each_place(recording: &[i32], text: &[u8]) {
+fn each_place(rt: &impl Print, recording: &[i32], text: &[u8]) -> io::Result<()> {
     let mut place: u32 = 0;
     while place <= Text::PARTS as u32 {
-        if !evaluated_at(recording, text, place) {
-            return;
+        if !evaluated_at(rt, recording, text, place)? {
+            return Ok(());
         }
         place += 1;
     }
+    Ok(())
 }
 
 // A text without a cache, over the recording.
-fn evaluation(recording: &[i32], text: &[u8]) {
-    say::text(text);
-    say::evaluated_over(recording.len());
-    each_place(recording, text);
+fn evaluation(rt: &impl Print, recording: &[i32], text: &[u8]) -> io::Result<()> {
+    say::text(rt, text)?;
+    say::evaluated_over(rt, recording.len())?;
+    each_place(rt, recording, text)?;
+    Ok(())
 }
 
 // A text over the recording that the cache was opened with.
-fn evaluation_here(text: &[u8], c: Cache) {
+fn evaluation_here(rt: &impl Print, text: &[u8], c: Cache) -> io::Result<()> {
     let readings = c.readings;
     let heads = c.heads;
     let size = heads[1] as usize;
-    evaluation(front(&readings, size), text);
+    evaluation(rt, front(&readings, size), text)?;
+    Ok(())
 }
 
 // The first readings, up to so many.
@@ -345,34 +352,35 @@ fn rest(line: &[u8]) -> &[u8] {
 }
 
 // The commands that leave the cache as it is.
-fn look(command: u8, text: &[u8], c: Cache) {
+fn look(rt: &impl Print, command: u8, text: &[u8], c: Cache) -> io::Result<()> {
     match command {
-        b'w' => say::heading(text),
-        b'b' => in_stars(digit(text), rest(text).len(), c),
-        b'q' => in_full(digit(text), 1, c),
-        b'v' => evaluation_here(text, c),
-        b'x' => evaluation(&[0; MANY_READINGS], text),
-        b'y' => evaluation(&[0; MANY_READINGS], &[b' '; MANY_BYTES]),
+        b'w' => say::heading(rt, text)?,
+        b'b' => in_stars(rt, digit(text), rest(text).len(), c)?,
+        b'q' => in_full(rt, digit(text), 1, c)?,
+        b'v' => evaluation_here(rt, text, c)?,
+        b'x' => evaluation(rt, &[0; MANY_READINGS], text)?,
+        b'y' => evaluation(rt, &[0; MANY_READINGS], &[b' '; MANY_BYTES])?,
         _ => {}
     }
+    Ok(())
 }
 
-fn carry_out(command: u8, text: &[u8], c: Cache) -> Cache {
-    match command {
-        b'o' => open_numbered(digit(text), c),
-        b't' => text_line(text, c),
-        b'e' => by_entry(text, c),
-        b'd' => edit_line(text, 0, c),
-        b'p' => edit_line(text, 1, c),
-        b'n' => entry_line(digit(text), c),
-        b'c' => text_line(&chain(first(text)), c),
-        b'l' => text_line(&[b' '; MANY_BYTES], c),
+fn carry_out(rt: &impl Print, command: u8, text: &[u8], c: Cache) -> io::Result<Cache> {
+    Ok(match command {
+        b'o' => open_numbered(rt, digit(text), c)?,
+        b't' => text_line(rt, text, c)?,
+        b'e' => by_entry(rt, text, c)?,
+        b'd' => edit_line(rt, text, 0, c)?,
+        b'p' => edit_line(rt, text, 1, c)?,
+        b'n' => entry_line(rt, digit(text), c)?,
+        b'c' => text_line(rt, &chain(first(text)), c)?,
+        b'l' => text_line(rt, &[b' '; MANY_BYTES], c)?,
         b's' => ill_formed(),
         _ => {
-            look(command, text, c);
+            look(rt, command, text, c)?;
             c
         }
-    }
+    })
 }
 
 // Where the line that begins at a place ends.
@@ -390,19 +398,20 @@ fn line_end(script: &[u8], at: usize) -> usize
     i
 }
 
-fn run(script: &[u8]) {
+fn run(rt: &impl Print, script: &[u8]) -> io::Result<()> {
     let mut c = new();
     let mut at: usize = 0;
     while at < script.len() {
         let end = line_end(script, at);
         let line = &script[at..end];
-        c = carry_out(first(line), rest(line), c);
+        c = carry_out(rt, first(line), rest(line), c)?;
         at = end + 1;
     }
+    Ok(())
 }
 
-fn main() {
-    let mut script = [0u8; 16384];
-    let count = io::read_full(STDIN_FILENO, &mut script);
-    run(&script[..count]);
+fn main(rt: HostRuntime) -> io::Result<()> {
+    let mut script = Vec::new(rt.alloc());
+    rt.reader().read_to_end(&mut script)?;
+    run(&rt, &script)
 }
