@@ -23,7 +23,7 @@
 
 mod say;
 
-ghost use Rattle.std.specs.Prelude.{◌≤◌, length};
+ghost use Rattle.std.specs.Prelude.{IfOk, ◌≤◌, length};
 
 use calls::edit::edit;
 use calls::fetch::fetch;
@@ -410,8 +410,24 @@ fn run(rt: &impl Print, script: &[u8]) -> io::Result<()> {
     Ok(())
 }
 
+// What stands on standard input, as much as the script has room for: how many bytes there were.
+fn read_script(rt: &impl Input, script: &mut [u8]) -> io::Result<usize>
+    ensures { IfOk result (λ n. n ≤ length script.new) }
+{
+    let mut input = rt.reader();
+    let mut done: usize = 0;
+    for _ in 0..script.len() {
+        let n = input.read(&mut script[done..])?;
+        if n == 0 {
+            break;
+        }
+        done += n;
+    }
+    Ok(done)
+}
+
 fn main(rt: HostRuntime) -> io::Result<()> {
-    let mut script = Vec::new(rt.alloc());
-    rt.reader().read_to_end(&mut script)?;
-    run(&rt, &script)
+    let mut script = [0u8; 16384];
+    let count = read_script(&rt, &mut script)?;
+    run(&rt, &script[..count])
 }
