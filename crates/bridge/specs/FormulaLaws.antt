@@ -4,13 +4,13 @@ use Rattle.std.proofs.Common.{sym, arith}
 use Rattle.grammar.specs.Grammar.{Expression, Calls, Arguments, More, let_in, lambda, name, literal, bracket, done, call, none, first, last, next}
 use Rattle.grammar.specs.KeptLimits.{parts_e, parts_c, parts_a, parts_m}
 use Rattle.grammar.specs.Reading.{Reading, tree, refused, tokens_of}
-use Rattle.grammar.specs.Places.{place_inside}
-use Rattle.grammar.specs.ReadingLaws.{refusal-number}
+use Rattle.grammar.proofs.Places.{place_inside}
+use Rattle.grammar.proofs.ReadingLaws.{refusal-number}
 use Rattle.grammar.specs.Machine.{read_text}
-use Rattle.grammar.specs.Theorems.{text-read-plainly, text-refused}
-use Rattle.grammar.specs.Words.{text-worded}
+use Rattle.grammar.proofs.Theorems.{text-read-plainly, text-refused}
+use Rattle.grammar.proofs.Words.{text-worded}
 use Rattle.meaning.specs.Forms.{Form, number}
-use Rattle.meaning.specs.FormsLaws.{same-eq, same_self, within-self, within-only, within-trans, dependency-within}
+use Rattle.meaning.proofs.FormsLaws.{same-eq, same_self, within-self, within-only, within-trans, dependency-within}
 use Rattle.meaning.specs.Binding.{Meaning, as_let, as_lambda, named, form_e, called, places_e, places_c, places_a, places_m, order_e, order_c, order_a, order_m, form_of, forms_by_place, forms_in_order}
 use Rattle.model.specs.Language.{rejected, parts}
 use Rattle.model.specs.Laws.{Tests, Readable, Rejected, Laws}

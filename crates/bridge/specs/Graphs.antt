@@ -9,7 +9,7 @@ use Rattle.members.specs.declared.Found.{Found}
 use Rattle.members.specs.declared.Found.TheVariants.{Is, Unknown}
 use Rattle.language.specs.Cases.{impossible, split, either, or_right}
 use Rattle.meaning.specs.Forms.{Form, name_in, level_in, number, variable, unbound, readings, ask, call, function, same, dependency, first_of, second_of}
-use Rattle.meaning.specs.FormsLaws.{name_back, level-back, same-eq, same_self}
+use Rattle.meaning.proofs.FormsLaws.{name_back, level-back, same-eq, same_self}
 use Rattle.model.specs.Lists.{member}
 use Rattle.model.specs.ListLaws.{Equality}
 use Rattle.model.specs.Graph.{among, Graph, GraphLaws}

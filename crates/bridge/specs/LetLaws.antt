@@ -4,15 +4,15 @@ use Rattle.language.specs.Names.{packed}
 use Rattle.grammar.specs.Grammar.{Expression}
 use Rattle.grammar.specs.Faults.{Around, outermost}
 use Rattle.grammar.specs.KeptLimits.{Site, a_let, a_lambda, a_bracket, a_name, a_number, a_call, EverywhereE}
-use Rattle.grammar.specs.KeptLimitsLaws.{onward}
+use Rattle.grammar.proofs.KeptLimitsLaws.{onward}
 use Rattle.grammar.specs.Reading.{tree}
 use Rattle.grammar.specs.Machine.{read_text}
-use Rattle.grammar.specs.Theorems.{text-read-plainly}
-use Rattle.grammar.specs.Words.{IsWord, word_bytes, Worded, text-worded}
+use Rattle.grammar.proofs.Theorems.{text-read-plainly}
+use Rattle.grammar.proofs.Words.{IsWord, word_bytes, Worded, text-worded}
 use Rattle.meaning.specs.Substitution.{Substituted, AtLetsE, NonzeroNames}
-use Rattle.meaning.specs.SubstitutionLaws.{word-nonzero, lets-substituted}
+use Rattle.meaning.proofs.SubstitutionLaws.{word-nonzero, lets-substituted}
 use Rattle.meaning.specs.PartSubstitution.{PartsSubstituted}
-use Rattle.meaning.specs.PartSubstitutionLaws.{parts-substituted}
+use Rattle.meaning.proofs.PartSubstitutionLaws.{parts-substituted}
 
 -- a name in use is a word, so that it packs to no 0
 nonzero : (w : List ℕ) → IsWord w → ¬ (packed w ≡ 0)

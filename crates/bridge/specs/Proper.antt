@@ -7,7 +7,7 @@ use Rattle.language.specs.Cases.{impossible, split, or_right}
 use Rattle.grammar.specs.KeptLimits.{InRange}
 use Rattle.meaning.specs.Forms.{Form, name_in, number, variable, unbound, readings, ask, call, function}
 use Rattle.meaning.specs.Evaluation.{has_name, joined, without, awaited}
-use Rattle.meaning.specs.HasLaws.{Has, has-without, has_kept}
+use Rattle.meaning.proofs.HasLaws.{Has, has-without, has_kept}
 use Rattle.layout.specs.Nodes.{is_name}
 
 abbrev pub Shape : Form → Type 0

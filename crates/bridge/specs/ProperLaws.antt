@@ -10,9 +10,9 @@ use Rattle.grammar.specs.Grammar.{Expression, Calls, Arguments, More, let_in, la
 use Rattle.grammar.specs.Faults.{Around, outermost, opened, in_lambda}
 use Rattle.grammar.specs.KeptLimits.{Site, a_let, a_lambda, a_bracket, a_name, a_number, a_call, given_a, given_m, EverywhereE, EverywhereC, EverywhereA}
 use Rattle.grammar.specs.KeptLimits.{EverywhereM, KeepsLimits, InRange, NotData}
-use Rattle.grammar.specs.SingleLimits.{FewLambdas, ShortNames, DataUnbound, SmallNumbers, RightCalls}
-use Rattle.grammar.specs.KeptLimitsLaws.{keeps-each, weave-E, Both, both}
-use Rattle.grammar.specs.Words.{Worded}
+use Rattle.grammar.proofs.SingleLimits.{FewLambdas, ShortNames, DataUnbound, SmallNumbers, RightCalls}
+use Rattle.grammar.proofs.KeptLimitsLaws.{keeps-each, weave-E, Both, both}
+use Rattle.grammar.proofs.Words.{Worded}
 use Rattle.meaning.specs.Forms.{Form, name_in, number, variable, unbound, readings, ask, function}
 use Rattle.meaning.specs.Binding.{Meaning, lambdas, look_up, named, as_let, variable_of, as_lambda, member, form_e, form_c, form_a, form_m, called, order_e, order_c, order_a, order_m, forms_in_order}
 use Rattle.meaning.specs.Evaluation.{has_name, awaited}
@@ -20,7 +20,7 @@ use Rattle.model.specs.Lists.{All}
 use Rattle.layout.specs.Nodes.{is_name}
 use Rattle.bridge.specs.Recorded.{given-right}
 use Rattle.bridge.specs.Words.{word-name}
-use Rattle.meaning.specs.HasLaws.{Has, has-joined, has-without}
+use Rattle.meaning.proofs.HasLaws.{Has, has-joined, has-without}
 use Rattle.bridge.specs.Proper.{Shape, Proper, nodup-awaited, no_more}
 
 -- what is known at each site of a tree that a text is read to

@@ -18,10 +18,10 @@ use Rattle.language.specs.Cases.{impossible, split}
 use Rattle.grammar.specs.Grammar.{Expression, Calls, Arguments, More, let_in, lambda, name, literal, bracket, done, call, none, first, last, next}
 use Rattle.grammar.specs.Faults.{Around, outermost, opened, in_lambda}
 use Rattle.grammar.specs.KeptLimits.{given_a, given_m, EverywhereE, EverywhereC, EverywhereA, EverywhereM, InRange, KeepsLimits}
-use Rattle.grammar.specs.SingleLimits.{FewLambdas, RightCalls, SmallNumbers}
-use Rattle.grammar.specs.KeptLimitsLaws.{keeps-each}
+use Rattle.grammar.proofs.SingleLimits.{FewLambdas, RightCalls, SmallNumbers}
+use Rattle.grammar.proofs.KeptLimitsLaws.{keeps-each}
 use Rattle.meaning.specs.Forms.{Form, with_level, number, variable, unbound, readings, ask, same}
-use Rattle.meaning.specs.FormsLaws.{same-eq, same_self}
+use Rattle.meaning.proofs.FormsLaws.{same-eq, same_self}
 use Rattle.meaning.specs.Binding.{Meaning, lambdas, look_up, named, as_let, as_lambda, member, form_e, form_c, form_a, form_m, called, places_e}
 use Rattle.meaning.specs.Binding.{places_c, places_a, places_m, order_e, order_c, order_a, order_m, form_of, forms_by_place, forms_in_order}
 use Rattle.model.specs.Lists.{All, member as is_in, insert, insert_all}

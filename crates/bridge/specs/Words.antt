@@ -8,7 +8,7 @@ use Rattle.language.specs.NamesLaws.{Each, NameByte, word_byte, packed-injective
 use Rattle.members.specs.Members.{same_bytes}
 use Rattle.members.specs.MembersLaws.{same_bytes_lem}
 use Rattle.language.specs.Cases.{impossible, split, either}
-use Rattle.grammar.specs.Words.{IsWord, word_bytes}
+use Rattle.grammar.proofs.Words.{IsWord, word_bytes}
 use Rattle.layout.specs.Nodes.{word_number, is_name}
 
 letter-range : (b : ℕ) → is_letter b ≡ true → (65 ≤ b) × (b < 256)

@@ -23,7 +23,7 @@ use Rattle.schedule.specs.declared.View.{View}
 use Rattle.schedule.specs.Works.{Lent, Works, show_of}
 use Rattle.interface.specs.declared.answers.Previewed.TheVariants.{NotYet, Finished, Refused}
 use Rattle.interface.specs.Calls.{previewed, preview_memory, Part, window_in, part_of, fetched}
-use Rattle.interface.specs.CallsLaws.{part_held, kept-right}
+use Rattle.interface.proofs.CallsLaws.{part_held, kept-right}
 use Rattle.interface.specs.Effects.{Previews}
 
 -- the refusal of a call on entry n, 0 for none

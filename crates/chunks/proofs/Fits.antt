@@ -17,7 +17,7 @@ use Rattle.members.specs.declared.Member.{Member}
 use Rattle.members.specs.declared.Found.{Found}
 use Rattle.members.specs.declared.Found.TheVariants.{Is, Unknown}
 use Rattle.rules.specs.Rules.{Rule, two_numbers, window, window_number, window_runs, rule, if_runs}
-use Rattle.rules.specs.RulesLaws.{argument_of, argument-kind}
+use Rattle.rules.proofs.RulesLaws.{argument_of, argument-kind}
 use Rattle.layout.specs.Nodes.{member_of_kind}
 use Rattle.layout.specs.Links.{kind_at, first_at, second_at, is_below}
 use Rattle.chunks.specs.Rows.{settles}

@@ -6,7 +6,7 @@ use Rattle.std.proofs.Math.Decide.{dec_lt}
 use Rattle.std.proofs.lemmas.Bool.{eqb-false}
 use Rattle.language.specs.Limits.{text_parts, open_marks}
 use Rattle.members.specs.MembersLaws.{number-below}
-use Rattle.grammar.specs.TokensLaws.{by-test}
+use Rattle.grammar.proofs.TokensLaws.{by-test}
 use Rattle.meaning.specs.Binding.{member}
 use Rattle.layout.specs.Nodes.{member_kind}
 use Rattle.descent.specs.Cursor.{Cursor, binder_link, lambdas_in, is_at, head_word, let_kind, in_kind, lambda_kind, dot_kind, open_kind, shut_kind, comma_kind}

@@ -6,7 +6,7 @@ use Rattle.std.proofs.lemmas.Bool.{eqb-false}
 use Rattle.language.specs.Limits.{text_parts}
 use Rattle.language.specs.Names.{data_word}
 use Rattle.grammar.specs.Tokens.{when}
-use Rattle.grammar.specs.TokensLaws.{by-test}
+use Rattle.grammar.proofs.TokensLaws.{by-test}
 use Rattle.layout.specs.Memory.{Node}
 use Rattle.descent.specs.Cursor.{Cursor, binder_name, binder_link, binder_of, is_at, let_kind, lambda_kind, open_kind, shut_kind, comma_kind, word_kind, digits_kind}
 use Rattle.descent.specs.Cursor.{head_word, at_comma, at_name, pass, pass_part, refuse, judge, lambda_head, call_head}

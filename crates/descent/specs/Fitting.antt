@@ -5,7 +5,7 @@ use Rattle.std.proofs.Common.{arith, eqb-true}
 use Rattle.std.proofs.lemmas.List.Edits.{sets}
 use Rattle.std.proofs.lemmas.Bool.{eqb-false}
 use Rattle.grammar.specs.Tokens.{when}
-use Rattle.grammar.specs.TokensLaws.{by-test}
+use Rattle.grammar.proofs.TokensLaws.{by-test}
 use Rattle.grammar.specs.Grammar.{Expression, Calls, Arguments, More}
 use Rattle.grammar.specs.Reading.{Reading, refused}
 use Rattle.grammar.specs.Machine.{Frame, argument, at, Outer, expression, calls, arguments, over}

@@ -8,7 +8,7 @@ use Rattle.language.specs.Limits.{open_marks}
 use Rattle.language.specs.Names.{packed}
 use Rattle.members.specs.Members.{member_of, is_unknown, takes}
 use Rattle.grammar.specs.Tokens.{when, Located}
-use Rattle.grammar.specs.TokensLaws.{by-test}
+use Rattle.grammar.proofs.TokensLaws.{by-test}
 use Rattle.grammar.specs.Grammar.{Expression}
 use Rattle.grammar.specs.Faults.{opened, in_lambda, mark_fault, lambda_fault, fine, note}
 use Rattle.grammar.specs.Reading.{Reading, refused}

@@ -8,12 +8,12 @@ use Rattle.language.specs.Cases.{by_cond}
 use Rattle.grammar.specs.Grammar.{Expression, Calls, Arguments, More, let_in, lambda, name, literal, bracket, done, call, none, first, last, next}
 use Rattle.grammar.specs.Faults.{Around, outermost, opened, in_lambda}
 use Rattle.grammar.specs.KeptLimits.{InRange, EverywhereE, EverywhereC, EverywhereA, EverywhereM}
-use Rattle.grammar.specs.SingleLimits.{ShortNames, SmallNumbers}
-use Rattle.grammar.specs.KeptLimitsLaws.{keeps-each}
+use Rattle.grammar.proofs.SingleLimits.{ShortNames, SmallNumbers}
+use Rattle.grammar.proofs.KeptLimitsLaws.{keeps-each}
 use Rattle.grammar.specs.Reading.{tree}
 use Rattle.grammar.specs.Machine.{read_text}
-use Rattle.grammar.specs.Theorems.{text-read-plainly}
-use Rattle.grammar.specs.Words.{IsWord, word_bytes, Worded, text-worded}
+use Rattle.grammar.proofs.Theorems.{text-read-plainly}
+use Rattle.grammar.proofs.Words.{IsWord, word_bytes, Worded, text-worded}
 use Rattle.meaning.specs.Binding.{member}
 use Rattle.layout.specs.Memory.{Node, node_with, node}
 use Rattle.layout.specs.Nodes.{number_kind, readings_kind, function_kind, member_kind}

@@ -7,7 +7,7 @@ use Rattle.std.proofs.lemmas.Bool.{eqb-false}
 use Rattle.language.specs.Limits.{text_parts}
 use Rattle.language.specs.Names.{is_long}
 use Rattle.grammar.specs.Tokens.{Located}
-use Rattle.grammar.specs.TokensLaws.{by-test}
+use Rattle.grammar.proofs.TokensLaws.{by-test}
 use Rattle.descent.specs.Cursor.{Cursor, word_kind, open_kind, equals_kind, arrow_kind, head_kind, behind_head, is_at, is_outside}
 use Rattle.descent.specs.Cursor.{lambdas_in, at_part, at_let, at_lambda, at_name, at_number, at_mark, at_binder, at_member, at_call_open}
 use Rattle.descent.specs.Cursor.{pass, pass_part, pass_name, pass_member, refuse, judge, next, need, let_head, lambda_head, call_head}

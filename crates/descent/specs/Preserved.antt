@@ -7,7 +7,7 @@ use Rattle.std.proofs.lemmas.Bool.{eqb-false}
 use Rattle.language.specs.Limits.{text_parts}
 use Rattle.language.specs.Names.{data_word}
 use Rattle.grammar.specs.Tokens.{Located}
-use Rattle.grammar.specs.TokensLaws.{by-test}
+use Rattle.grammar.proofs.TokensLaws.{by-test}
 use Rattle.layout.specs.Memory.{Node}
 use Rattle.descent.specs.Cursor.{Cursor, in_kind, dot_kind, shut_kind, word_kind, open_kind, let_kind, lambda_kind, comma_kind, digits_kind}
 use Rattle.descent.specs.Cursor.{head_word, head_value, behind_head, is_at}

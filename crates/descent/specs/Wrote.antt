@@ -11,7 +11,7 @@ use Rattle.std.proofs.lemmas.List.Edits.{sets}
 use Rattle.language.specs.Limits.{open_marks}
 use Rattle.language.specs.Names.{packed, is_data, data_word}
 use Rattle.grammar.specs.Tokens.{when}
-use Rattle.grammar.specs.TokensLaws.{by-test}
+use Rattle.grammar.proofs.TokensLaws.{by-test}
 use Rattle.layout.specs.Memory.{Node, node_with, node}
 use Rattle.layout.specs.Nodes.{readings_kind}
 use Rattle.records.specs.Records.{Named, Recorded, new_record, linked, record_name, record_scoped, behind}

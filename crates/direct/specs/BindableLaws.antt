@@ -11,15 +11,15 @@ use Rattle.members.specs.declared.Member.{Member}
 use Rattle.grammar.specs.Grammar.{Expression, Calls, Arguments, More, let_in, lambda, name, literal, bracket, done, call, none, first, last, next}
 use Rattle.grammar.specs.Faults.{Around, outermost, opened, in_lambda}
 use Rattle.grammar.specs.KeptLimits.{Site, EverywhereE, EverywhereC, EverywhereA, EverywhereM, KeepsLimits, InRange}
-use Rattle.grammar.specs.SingleLimits.{FewLambdas, SmallNumbers}
-use Rattle.grammar.specs.KeptLimitsLaws.{keeps-each, Both, both}
+use Rattle.grammar.proofs.SingleLimits.{FewLambdas, SmallNumbers}
+use Rattle.grammar.proofs.KeptLimitsLaws.{keeps-each, Both, both}
 use Rattle.meaning.specs.Forms.{Form, level_in, number, variable, ask, function}
 use Rattle.meaning.specs.Binding.{Meaning, lambdas, named, as_let, variable_of, as_lambda, member, form_e, form_c, form_a, form_m, called}
 use Rattle.meaning.specs.Binding.{places_e, places_c, places_a, places_m, forms_by_place}
 use Rattle.meaning.specs.Evaluation.{has_name, awaited}
-use Rattle.meaning.specs.SubstitutionLaws.{Forms, of-name, level-is}
+use Rattle.meaning.proofs.SubstitutionLaws.{Forms, of-name, level-is}
 use Rattle.model.specs.Lists.{All}
-use Rattle.meaning.specs.HasLaws.{Has, has-joined, has-without}
+use Rattle.meaning.proofs.HasLaws.{Has, has-joined, has-without}
 use Rattle.direct.specs.Bindable.{OneEach, Bindable}
 
 -- a variable of a list is its first or one of the others

@@ -6,7 +6,7 @@ use borrow.Author.Tests.{lt-ltb, le-ltb}
 use Rattle.language.specs.Limits.{text_bytes, text_parts, table_readings}
 use Rattle.grammar.specs.Reading.{tree, refused as refused_at}
 use Rattle.grammar.specs.Machine.{read_text}
-use Rattle.grammar.specs.Theorems.{text-read-plainly}
+use Rattle.grammar.proofs.Theorems.{text-read-plainly}
 use Rattle.model.specs.Lists.{All}
 use Rattle.model.specs.ListLaws.{all-nth, nth-has, getD-nth}
 use Rattle.meaning.specs.Forms.{Form, readings}

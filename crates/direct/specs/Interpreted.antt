@@ -17,7 +17,7 @@ use Rattle.rules.specs.Runs.{Summary, results}
 use Rattle.rules.specs.Apply.{concluded_by, is_missing, is_delayed, by_rule1, apply0, apply1}
 use Rattle.meaning.specs.Forms.{Form, number, variable, unbound, readings, ask, call, function, name_in, level_in}
 use Rattle.meaning.specs.Evaluation.{value_of, run_of, Environment, nowhere, bind, lookup, settled, evaluate, has_name, joined, without, awaited, shows}
-use Rattle.meaning.specs.HasLaws.{joined-cases, joined-left, joined-right, has-without, has_kept}
+use Rattle.meaning.proofs.HasLaws.{joined-cases, joined-left, joined-right, has-without, has_kept}
 use Rattle.refine.specs.Free.{free, free-variable, free-call, settled-no, settled-find}
 use Rattle.levels.specs.Interpreting.{Scope, nothing, stands_for, with, levels, is_open, judged, interpret, ran, variable_at, shown_by}
 use Rattle.direct.specs.Bindable.{OneEach, Bindable}

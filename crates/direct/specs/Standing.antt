@@ -6,7 +6,7 @@ use Rattle.std.proofs.Math.ListN.{get_elem?}
 use Rattle.std.proofs.lemmas.List.{length-map}
 use Rattle.language.specs.Cases.{split}
 use Rattle.grammar.specs.KeptLimits.{InRange}
-use Rattle.grammar.specs.Theorems.{text-read-plainly}
+use Rattle.grammar.proofs.Theorems.{text-read-plainly}
 use Rattle.model.specs.Lists.{All}
 use Rattle.model.specs.ListLaws.{nth-has, getD-nth, nth-map, all-nth}
 use Rattle.model.specs.Graph.{among, AllPlaced, decodes}

@@ -36,8 +36,8 @@ use Rattle.interface.specs.declared.answers.PrintAnswer.{PrintAnswer}
 use Rattle.interface.specs.declared.answers.EvaluateAnswer.{EvaluateAnswer}
 use Rattle.interface.specs.Answers.{Reply, open_number, edit_numbers, preview_numbers, print_numbers, evaluate_numbers}
 use Rattle.interface.specs.Calls.{too_many, bound_to, read_answer, edit_answer, evaluated}
-use Rattle.interface.specs.Outcomes.{EvaluateOutcome, evaluate-outcome}
-use Rattle.interface.specs.AcceptanceLaws.{unread-range}
+use Rattle.interface.proofs.Outcomes.{EvaluateOutcome, evaluate-outcome}
+use Rattle.interface.proofs.AcceptanceLaws.{unread-range}
 use Rattle.interface.specs.Effects.{Opens, Edits, Previews, Prints, OpensForC, EditsForC, PreviewsForC, PrintsForC, EvaluatesForC, PlaceFits, EvaluatedFits}
 
 module _ (x : Edited) where

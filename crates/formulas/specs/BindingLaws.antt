@@ -5,7 +5,7 @@ use Rattle.language.specs.Names.{packed, same_name, is_data}
 use Rattle.language.specs.Cases.{impossible, split, either, by_cond}
 use Rattle.grammar.specs.Grammar.{Expression, Calls, Arguments, More, let_in, lambda, name, literal, bracket, done, call, none, first, last, next}
 use Rattle.meaning.specs.Forms.{Form, number, variable, unbound, readings, ask, function, same, dependency}
-use Rattle.meaning.specs.FormsLaws.{same-eq, same_self}
+use Rattle.meaning.proofs.FormsLaws.{same-eq, same_self}
 use Rattle.meaning.specs.Binding.{Meaning, look_up, named, as_let, variable_of, as_lambda, member, form_e, form_c, form_a, form_m, called, places_e}
 use Rattle.meaning.specs.Binding.{places_c, places_a, places_m, order_e, order_c, order_a, order_m, form_of, forms_by_place, forms_in_order}
 use Rattle.model.specs.Lists.{All, member as is_in}

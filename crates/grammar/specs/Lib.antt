@@ -1,17 +1,6 @@
 pub mod Tokens
-pub mod TokensLaws
 pub mod Grammar
 pub mod Faults
 pub mod Reading
 pub mod Machine
-pub mod MachineLaws
-pub mod ReadLaws
 pub mod KeptLimits
-pub mod SingleLimits
-pub mod FaultLaws
-pub mod KeptLimitsLaws
-pub mod Places
-pub mod ReadingLaws
-pub mod Theorems
-pub mod Words
-pub mod Refusals

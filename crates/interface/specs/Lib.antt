@@ -1,12 +1,5 @@
 pub mod Views
 pub mod Answers
 pub mod Calls
-pub mod CallsLaws
 pub mod Effects
-pub mod Examples
-pub mod CallExamples
-pub mod EvaluateExamples
 pub mod Acceptance
-pub mod Outcomes
-pub mod AcceptanceLaws
-pub mod EvaluateLaws

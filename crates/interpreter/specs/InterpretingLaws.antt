@@ -10,7 +10,7 @@ use Rattle.values.specs.KeepableLaws.{Closed, Readings, given}
 use Rattle.values.specs.KeepableApply.{closed-apply0, closed-apply1}
 use Rattle.meaning.specs.Forms.{Form, number, variable, unbound, readings, ask, call, function, level_in}
 use Rattle.meaning.specs.Evaluation.{has_name, without}
-use Rattle.meaning.specs.HasLaws.{joined-left, joined-right, has_kept}
+use Rattle.meaning.proofs.HasLaws.{joined-left, joined-right, has_kept}
 use Rattle.levels.specs.Interpreting.{Scope, scope, stands_for, with, levels, is_open, judged, interpret, ran}
 
 -- ---- scopes that agree at some levels

@@ -11,7 +11,7 @@ use Rattle.language.specs.Limits.{text_parts}
 use Rattle.members.specs.declared.Member.{Member}
 use Rattle.meaning.specs.Forms.{Form, with_level, level_in, name_in}
 use Rattle.meaning.specs.Evaluation.{has_name}
-use Rattle.meaning.specs.HasLaws.{joined-cases, has-without}
+use Rattle.meaning.proofs.HasLaws.{joined-cases, has-without}
 use Rattle.layout.specs.Memory.{Node}
 use Rattle.layout.specs.Nodes.{variable_kind, function_kind, member_kind}
 use Rattle.layout.specs.Held.{shaped, record_at}

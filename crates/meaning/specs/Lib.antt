@@ -1,13 +1,7 @@
 pub mod Forms
-pub mod FormsLaws
 pub mod Binding
 pub mod Evaluation
 pub mod Examples
-pub mod EvaluationLaws
 pub mod Substitution
-pub mod SubstitutionLaws
 pub mod PartSubstitution
-pub mod PartSubstitutionLaws
 pub mod Levels
-pub mod LevelsLaws
-pub mod HasLaws

@@ -10,7 +10,7 @@ use Rattle.language.specs.Limits.{text_bytes, table_entries}
 use Rattle.grammar.specs.Reading.{Reading, tree}
 use Rattle.grammar.specs.Machine.{read_text}
 use Rattle.meaning.specs.Forms.{Form, same}
-use Rattle.meaning.specs.FormsLaws.{same-exactly}
+use Rattle.meaning.proofs.FormsLaws.{same-exactly}
 use Rattle.meaning.specs.Binding.{form_of}
 use Rattle.model.specs.Model.{refused, rejects, reads_as, printing, filled}
 use Rattle.formulas.specs.Formulas.{parsed, formulas}
@@ -24,15 +24,15 @@ use Rattle.interface.specs.declared.answers.Printed.TheVariants.{Done, Refused}
 use Rattle.interface.specs.Calls.{form_at, print_answer}
 use Rattle.interface.specs.Effects.{Prints}
 use Rattle.planner.specs.Ready.{any-readings}
-use Rattle.demand.specs.PrintedEntries.{entry-printable, entry-saturated}
+use Rattle.demand.proofs.PrintedEntries.{entry-printable, entry-saturated}
 use Rattle.calls.specs.Previewing.{refusal, accepted}
 use Rattle.printing.specs.Printed.{text_of}
 use Rattle.printing.specs.Trees.{tree_of}
-use Rattle.printing.specs.Printable.{Printable}
-use Rattle.printing.specs.ReadBack.{reads-exactly}
-use Rattle.printing.specs.FormBack.{form-back}
+use Rattle.printing.proofs.Printable.{Printable}
+use Rattle.printing.proofs.ReadBack.{reads-exactly}
+use Rattle.printing.proofs.FormBack.{form-back}
 use Rattle.printing.specs.Judging.{declined, walked, refusal_of, verdict, Saturated}
-use Rattle.printing.specs.JudgingLaws.{Finds, walk-finds}
+use Rattle.printing.proofs.JudgingLaws.{Finds, walk-finds}
 use Rattle.writer.specs.Putting.{stopped_at}
 use Rattle.writer.specs.Writing.{form_in, Tabled, Writes}
 use Rattle.printer.specs.TabledLaws.{tabled-right}

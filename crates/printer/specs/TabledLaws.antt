@@ -16,7 +16,7 @@ use Rattle.table.specs.EntryForms.{forms_of}
 use Rattle.table.specs.NodeKinds.{right-fine}
 use Rattle.formulas.specs.Formulas.{formulas}
 use Rattle.bridge.specs.Graphs.{nodes, graph-laws}
-use Rattle.demand.specs.Decoded.{lower}
+use Rattle.demand.proofs.Decoded.{lower}
 use Rattle.writer.specs.Writing.{form_in, Tabled}
 
 numbered-nth : {A : Type 0} (ν : ℕ → A) (i n j : ℕ) → j < n → get_elem? (numbered ν i n) j ≡ some (ν (i + j))

@@ -11,7 +11,7 @@ use Rattle.language.specs.Cases.{split}
 use Rattle.language.specs.Limits.{open_marks, open_lambdas}
 use Rattle.members.specs.declared.Member.{Member}
 use Rattle.meaning.specs.Forms.{Form, with_level, name_in, level_in, ask, call, function}
-use Rattle.meaning.specs.FormsLaws.{name_back}
+use Rattle.meaning.proofs.FormsLaws.{name_back}
 use Rattle.meaning.specs.Evaluation.{has_name}
 use Rattle.layout.specs.Memory.{Node, node_at}
 use Rattle.layout.specs.Nodes.{number_kind, variable_kind, unbound_kind, function_kind, variable_in, build, is_name}
@@ -22,8 +22,8 @@ use Rattle.table.specs.RightLaws.{right_key, level-low, first-low, second-low}
 use Rattle.printing.specs.Printed.{is_function}
 use Rattle.printing.specs.Bound.{is_innermost}
 use Rattle.printing.specs.Judging.{declined, counted, looked, opening, admits, admits_function, at_receiver, walked, refusal_of, verdict}
-use Rattle.printing.specs.JudgingLaws.{looked-few, opening-few, walked-few, walked-declined}
-use Rattle.demand.specs.Cells.{name-some}
+use Rattle.printing.proofs.JudgingLaws.{looked-few, opening-few, walked-few, walked-declined}
+use Rattle.demand.proofs.Cells.{name-some}
 use Rattle.writer.specs.NodeTexts.{function-node, ask-node, call-node}
 use Rattle.writer.specs.Writing.{form_in, Tabled}
 use Rattle.printer.specs.declared.judge.Scope.{Scope}

@@ -9,7 +9,7 @@ use Rattle.grammar.specs.Tokens.{when}
 use Rattle.grammar.specs.Grammar.{Expression}
 use Rattle.grammar.specs.Reading.{tree, refused as refused_at}
 use Rattle.grammar.specs.Machine.{read_text}
-use Rattle.grammar.specs.Theorems.{text-read-plainly}
+use Rattle.grammar.proofs.Theorems.{text-read-plainly}
 use Rattle.model.specs.Lists.{All}
 use Rattle.layout.specs.Memory.{Node}
 use Rattle.layout.specs.Numbered.{numbered}

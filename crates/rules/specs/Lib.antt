@@ -4,8 +4,5 @@ pub mod Windows
 pub mod Stretches
 pub mod Runs
 pub mod Rules
-pub mod RulesLaws
 pub mod Apply
-pub mod NumbersLaws
-pub mod WindowsLaws
 pub mod Examples

@@ -18,7 +18,7 @@ use Rattle.rules.specs.declared.Value.TheVariants.{Number}
 use Rattle.values.proofs.PackingRules.{pack-number}
 use Rattle.values.proofs.Signed.{wide}
 use Rattle.grammar.specs.Tokens.{when}
-use Rattle.grammar.specs.TokensLaws.{by-test}
+use Rattle.grammar.proofs.TokensLaws.{by-test}
 use Rattle.records.specs.Records.{number_key}
 use Rattle.layout.specs.Memory.{node_with, node}
 use Rattle.layout.specs.Nodes.{number_kind, variable_kind, unbound_kind, readings_kind}

@@ -24,7 +24,7 @@ use Rattle.rules.specs.declared.Value.TheVariants.{Number, Window, Missing}
 use Rattle.rules.specs.Values.{ranged, wrong_kind, outside_window}
 use Rattle.rules.specs.Windows.{readings_in, from_start, nearest, clipped, skipped, taken, reading, reading_from, unless_negative, total, lesser, greater, extreme}
 use Rattle.rules.specs.Rules.{rule, of_window, on_window}
-use Rattle.rules.specs.WindowsLaws.{clips}
+use Rattle.rules.proofs.WindowsLaws.{clips}
 use Rattle.values.specs.Ranges.{mag-abs}
 use Rattle.values.specs.WindowLaws.{end-counted, start-counted, nearest-none, nearest-itself, nearest-all, readings-none, readings-rest, readings-short, Summed, summed-none, summed-more, summed-all, Folded, folded-one, folded_more, folded-all, no-readings}
 use Rattle.values.specs.Sliding.{Totals, Chooses}

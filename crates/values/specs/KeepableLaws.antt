@@ -20,7 +20,7 @@ use Rattle.rules.specs.Stretches.{sums, of_greatest, first_at, of_width, best_su
 use Rattle.rules.specs.Runs.{Results, numbers, because, with, results, is_nonzero, count_of, stretch, longest, summary, Summary}
 use Rattle.rules.specs.Rules.{Rule, two_numbers, window, window_number, window_runs, rule, by_runs, concluded, of_runs}
 use Rattle.rules.specs.Apply.{concluded_by}
-use Rattle.rules.specs.WindowsLaws.{clips}
+use Rattle.rules.proofs.WindowsLaws.{clips}
 use Rattle.values.specs.Ranges.{in-range}
 use Rattle.values.specs.WindowLaws.{readings-short}
 use Rattle.values.specs.SlidingLaws.{first_short, sums-length}

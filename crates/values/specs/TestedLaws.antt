@@ -10,7 +10,7 @@ use Rattle.values.specs.declared.apply.Applied.{Applied}
 use Rattle.values.specs.declared.apply.Applied.TheVariants.{Done, Run}
 use Rattle.rules.specs.Values.{wrong_kind}
 use Rattle.rules.specs.Rules.{Rule, two_numbers, window, window_number, window_runs, rule, if_runs, by_numbers, by_window, by_window_number, on_numbers, of_window, on_window}
-use Rattle.rules.specs.RulesLaws.{receiver_of, argument_of, receiver-kind, argument-kind}
+use Rattle.rules.proofs.RulesLaws.{receiver_of, argument_of, receiver-kind, argument-kind}
 use Rattle.rules.specs.Apply.{by_rule0, by_rule1, apply0, apply1}
 use Rattle.values.specs.Applied.{applied1}
 use Rattle.values.specs.Tested.{rule0, ruled_window, ruled1, tested0, tested1}

@@ -4,7 +4,7 @@ use Rattle.std.proofs.Common.{arith}
 use Rattle.members.specs.declared.Member.{Member}
 use Rattle.members.specs.declared.Found.TheVariants.{Is}
 use Rattle.meaning.specs.Forms.{Form, with_level, name_in, ask, call, function}
-use Rattle.meaning.specs.FormsLaws.{name_back}
+use Rattle.meaning.proofs.FormsLaws.{name_back}
 use Rattle.layout.specs.Memory.{Node}
 use Rattle.layout.specs.Nodes.{function_kind, member_of_kind, variable_in, build}
 use Rattle.layout.specs.KindsLaws.{member-found}

@@ -21,7 +21,7 @@ use Rattle.layout.specs.Memory.{Node}
 use Rattle.layout.specs.Nodes.{number_kind, readings_kind, number_of_key}
 use Rattle.table.specs.WellFormed.{key_right}
 use Rattle.printing.specs.Printed.{digits_onto, digits, decimals, unpack_onto, unpacked}
-use Rattle.printing.specs.Unpacking.{none-packed}
+use Rattle.printing.proofs.Unpacking.{none-packed}
 use Rattle.writer.specs.Putting.{stopped_at, Puts, has_room, whole_onto, leaf_bytes, member_bytes, Unpacks, Counts}
 
 -- nothing is written

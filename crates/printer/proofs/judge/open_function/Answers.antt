@@ -1,5 +1,5 @@
 -- By how many marks are open, and which functions. Assumes nothing.
-use Rattle.printing.specs.JudgingLaws.{counted-few}
+use Rattle.printing.proofs.JudgingLaws.{counted-few}
 use Rattle.printer.specs.WalkingLaws.{function-opens, function-not}
 use Rattle.printer.proofs.judge.open_function.Goals as goal
 

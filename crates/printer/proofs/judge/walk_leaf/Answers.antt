@@ -1,7 +1,7 @@
 -- By the node's kind. Assumes nothing.
 use mathlib.Core.Path.{refl}
 use Rattle.layout.specs.Nodes.{variable_kind, unbound_kind}
-use Rattle.printing.specs.JudgingLaws.{counted-few}
+use Rattle.printing.proofs.JudgingLaws.{counted-few}
 use Rattle.printer.specs.WalkingLaws.{key-name, leaf-variable, leaf-unbound, leaf-other}
 use Rattle.printer.proofs.judge.walk_leaf.Goals as goal
 

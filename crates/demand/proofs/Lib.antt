@@ -1,0 +1,22 @@
+-- Laws of demand: what follows from its definitions.
+pub mod Accepted
+pub mod AnyCache
+pub mod Appended
+pub mod Bound
+pub mod Cells
+pub mod Decoded
+pub mod Delays
+pub mod EditedForms
+pub mod Editing
+pub mod Fitting
+pub mod Grown
+pub mod Needs
+pub mod Opening
+pub mod PreviewLoop
+pub mod Previewing
+pub mod PrintedEntries
+pub mod Printing
+pub mod ReadBack
+pub mod Standing
+pub mod Starts
+pub mod WorkedCount

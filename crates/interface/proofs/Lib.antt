@@ -1,0 +1,8 @@
+-- Laws of interface: what follows from its definitions.
+pub mod AcceptanceLaws
+pub mod CallExamples
+pub mod CallsLaws
+pub mod EvaluateExamples
+pub mod EvaluateLaws
+pub mod Examples
+pub mod Outcomes

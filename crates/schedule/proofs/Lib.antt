@@ -1,0 +1,2 @@
+-- Laws of schedule: what follows from its definitions.
+pub mod Examples
