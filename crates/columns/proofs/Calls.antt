@@ -1,4 +1,4 @@
--- A member on cells. On two numbers, whatever the member, it comes to onNumbers, which gives the wrong kind for a member that is used on
+-- A member on cells. On two numbers, whatever the member, it comes to on_numbers, which gives the wrong kind for a member that is used on
 -- windows, so no kinds are tested. Assumes nothing.
 use mathlib.Core.Path.{◌≡◌, refl, sym, ap, ◌∙◌}
 use mathlib.Core.Bool.{Bool, true, false, ◌&&◌, and-eq-true_iff}

@@ -1,5 +1,5 @@
 -- grammar's machine over the tokens with their places, with what is made of its trees: a continuation, so that a reader by descent can be
--- held against it part by part. It reads what readText reads. Assumes nothing.
+-- held against it part by part. It reads what read_text reads. Assumes nothing.
 use Rattle.std.specs.Prelude.{◌≡◌, List, [], ◌∷◌, map, ℕ, zero, suc, ◌-◌, eqb, length}
 use Rattle.std.proofs.Math.Path.{refl, sym, ap}
 use Rattle.std.proofs.Common.{◌∙◌}

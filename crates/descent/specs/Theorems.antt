@@ -1,4 +1,4 @@
--- The reader's definition reads what grammar's readText reads: a tree's records and places stand in the arrays, with everything behind them
+-- The reader's definition reads what grammar's read_text reads: a tree's records and places stand in the arrays, with everything behind them
 -- as it was, or the refusal's number and place are those of the text. For every text, and arrays of any contents. Assumes nothing.
 use Rattle.std.specs.Prelude.{◌≡◌, Bool, true, ℕ, suc, ◌*◌, ◌≤◌, ◌<◌, eqb, length, drop}
 use Rattle.std.proofs.Math.Path.{refl, subst}

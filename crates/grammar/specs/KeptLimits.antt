@@ -1,5 +1,5 @@
 -- 01, "The text" and refusals 6 to 12: the limits of a tree in plain words, with no order of refusals and no tokens.
--- A tree keeps them exactly where faultsOf finds no fault: that is in KeptLimitsLaws.
+-- A tree keeps them exactly where faults_of finds no fault: that is in KeptLimitsLaws.
 -- Assumes nothing: these are definitions.
 use Rattle.std.specs.Prelude.{◌≡◌, false, List, ℕ, suc, ◌+◌, ◌<◌, ◌≤◌, ℤ, length, ◌≤ℤ◌}
 use Rattle.language.specs.Limits.{text_parts, open_marks, open_lambdas, name_bytes, least_number, most_number}

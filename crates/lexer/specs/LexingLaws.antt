@@ -1,4 +1,4 @@
--- The tokens that lexAt finds, one behind the other, are the tokens of the text. Assumes nothing.
+-- The tokens that lex_at finds, one behind the other, are the tokens of the text. Assumes nothing.
 use Rattle.std.specs.Prelude.{◌≡◌, Bool, true, false, cond, ◌||◌, ℕ, zero, suc, ◌+◌, ◌-◌, ◌≤◌, ◌<◌, ℤ, length}
 use Rattle.std.proofs.Math.Path.{refl, ap}
 use Rattle.std.proofs.Common.{sym, ◌∙◌, true≢false, add-zero, length-drop, drop-drop, take_all, ltb-false}
@@ -61,7 +61,7 @@ front at b bs e =
     (ap (λ (l : List Located). record { token = (token_at b bs).0; place = at } ∷ l)
     (behind (token_at b bs).1 at b bs (token-spans b bs).some))
 
--- ---- the token that lexAt finds
+-- ---- the token that lex_at finds
 -- a token stands at x, not before at: it is the next token of the text, and the others follow behind it
 pub record Stands (text : List ℕ) (at : ℕ) (x : Lexed) : Type 0 where
   pub ahead : at ≤ x.start
@@ -161,7 +161,7 @@ module _ (text : List ℕ) (at : ℕ) (x : Lexed) (e : x ≡ lex_at text at) whe
   pub lex-some : (x.kind ≡ 0 → ⊥) → Stands text at x
   lex-some n = lexed.some n
 
-  -- the next token by its kind; tokenFor computes at a numeral
+  -- the next token by its kind; token_for computes at a numeral
   pub lex-kind : (k : ℕ) → x.kind ≡ suc k
       → tokens_from text at ≡ record { token = token_for (suc k) (bytes_at text x.start x.end); place = x.start } ∷ tokens_from text x.end
   lex-kind k q = rw q at (lex-some (λ z. omega arith)).next

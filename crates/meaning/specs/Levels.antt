@@ -8,7 +8,7 @@ use Rattle.grammar.specs.Faults.{Around, opened, in_lambda}
 use Rattle.meaning.specs.Forms.{name_in, level_in}
 use Rattle.meaning.specs.Binding.{Meaning, as_let, variable_of, as_lambda, form_e}
 
--- a function's variable in the form of a lambda x is `variableOf x Γ`, in the environment Γ that let elimination has at the lambda
+-- a function's variable in the form of a lambda x is `variable_of x Γ`, in the environment Γ that let elimination has at the lambda
 abbrev mutual
   pub LevelledE : Expression → List Meaning → Around → Type 0
   LevelledE (let_in x a b) Γ d = LevelledE a Γ (opened d) × LevelledE b (as_let x (form_e a Γ) Γ) (opened d)

@@ -1,4 +1,4 @@
--- The token at the front of descent's cursor is the token that lexAt finds at the code's, and is refused or passed as that is. Assumes nothing.
+-- The token at the front of descent's cursor is the token that lex_at finds at the code's, and is refused or passed as that is. Assumes nothing.
 use Rattle.std.specs.Prelude.{◌≡◌, refl, true, false, List, [], ◌∷◌, ℕ, zero, suc, eqb, length}
 use Rattle.std.proofs.Common.{ap, ◌∙◌, arith, drop_of_length-le, eq-eqb, ne_eqb}
 use Rattle.std.proofs.Math.Path.{sym}

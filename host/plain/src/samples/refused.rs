@@ -362,7 +362,7 @@ fn parts() -> Vec<RefusedText> {
     ]
 }
 
-/// What `crates/grammar/specs/Refusals.antt` and `crates/formulas/specs/Refusals.antt` proves of the definitions and no list above has.
+/// What `crates/grammar/proofs/Refusals.antt` and `crates/formulas/specs/Refusals.antt` proves of the definitions and no list above has.
 fn proved() -> Vec<RefusedText> {
     let mut texts = list(&[
         ("data.count(=", 5, 11),

@@ -1,4 +1,4 @@
--- The run of digits is the number of digitsAt. Assumes nothing.
+-- The run of digits is the number of digits_at. Assumes nothing.
 use Rattle.lexer.proofs.TokenPaths.{digits-is}
 use Rattle.lexer.proofs.tokens.digits.Goals as goal
 

@@ -1,4 +1,4 @@
--- Each class's test is the one that inClass picks. Assumes nothing.
+-- Each class's test is the one that in_class picks. Assumes nothing.
 use Rattle.lexer.proofs.TokenPaths.{class-blanks, class-word, class-digits}
 use Rattle.lexer.proofs.tokens.is_in_class.Goals as goal
 

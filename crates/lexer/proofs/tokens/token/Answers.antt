@@ -1,4 +1,4 @@
--- The place behind the blanks is the place of lexAt, and the first byte there picks the case of tokenAt. Assumes nothing.
+-- The place behind the blanks is the place of lex_at, and the first byte there picks the case of token_at. Assumes nothing.
 use Rattle.lexer.proofs.TokenPaths.{token_end, token-word, token-digits, token-minus, token-mark}
 use Rattle.lexer.proofs.tokens.token.Goals as goal
 

@@ -1,4 +1,4 @@
--- The bytes of the run are the word of wordAt. Assumes nothing.
+-- The bytes of the run are the word of word_at. Assumes nothing.
 use Rattle.lexer.proofs.TokenPaths.{word-is}
 use Rattle.lexer.proofs.tokens.word.Goals as goal
 

@@ -1,4 +1,4 @@
--- `values::packing::is_packed` meets its contract. In the range of cells of a kind, only that kind's part of isPacked can hold. Assumes
+-- `values::packing::is_packed` meets its contract. In the range of cells of a kind, only that kind's part of is_packed can hold. Assumes
 -- nothing.
 use Rattle.values.proofs.PackingRules.{packing-rules}
 use Rattle.values.proofs.packing.is_packed.Goals as goal

@@ -1,4 +1,4 @@
--- `values::packing::unpack` meets its contract. Each return stands behind the comparisons that unpackOf makes. Assumes nothing.
+-- `values::packing::unpack` meets its contract. Each return stands behind the comparisons that unpack_of makes. Assumes nothing.
 use Rattle.values.proofs.PackingRules.{packing-rules}
 use Rattle.values.proofs.packing.unpack.Goals as goal
 
