@@ -82,9 +82,13 @@ module _ {A : Type 0} (P : A → Type 0) where
   all-nth (y ∷ ys) zero x p e = let q : y ≡ x = cc in subst P q p.0
   all-nth (y ∷ ys) (suc n) x p e = all-nth ys n x p.1 e
 
-  pub all_in : (x : A) (xs : List A) → Memᴰ x xs → All P xs → P x
-  all_in x xs (Memᴰ.head e) p = subst P (sym e) p.0
-  all_in x xs (Memᴰ.tail i) p = all_in x _ i p.1
+  -- x stands before the list here, as the recursion over its place asks
+  in-all : (x : A) (xs : List A) → Memᴰ x xs → All P xs → P x
+  in-all x xs (Memᴰ.head e) p = subst P (sym e) p.0
+  in-all x xs (Memᴰ.tail i) p = in-all x _ i p.1
+
+  pub all_in : (xs : List A) (x : A) → Memᴰ x xs → All P xs → P x
+  all_in xs x = in-all x xs
 
 -- Counting.
 module _ {A : Type 0} (p : A → Bool) where

@@ -124,7 +124,7 @@ module _ (L : Language) where
       given = parts_given L [] cs (answers (model L) (start L r) cs)
 
       pub known : (x : Part L) → Memᴰ x given → Known final x
-      known x i = all_in (Known final) x given i (known-run (start L r) [] cs tt)
+      known x i = all_in (Known final) given x i (known-run (start L r) [] cs tt)
 
       -- parts carry one number exactly when their forms are equal
       pub one_number : (x y : Part L) → Memᴰ x given → Memᴰ y given → (x.number ≡ y.number) ↔ (x.form ≡ y.form)
