@@ -23,7 +23,8 @@
 
 mod say;
 
-ghost use Rattle.std.specs.Prelude.{IfOk, ◌≤◌, length};
+ghost use Rattle.std.specs.Prelude.{ℕ, IfOk, OnErr, ◌≤◌, ◌<◌, length, take};
+ghost use Rattle.std.specs.Io.KnownBytes.{Consumes, IsAtEnd};
 
 use calls::edit::edit;
 use calls::fetch::fetch;
@@ -410,16 +411,19 @@ fn run(rt: &impl Print, script: &[u8]) -> io::Result<()> {
     Ok(())
 }
 
-// What stands on standard input, as much as the script has room for: how many bytes there were.
-fn read_script(rt: &impl Input, script: &mut [u8]) -> io::Result<usize>
-    ensures { IfOk result (λ n. n ≤ length script.new) }
+// Fills the script from a reader, as much as there is or as there is room for: how many bytes. An error is the reader's; what was read before it stands
+// at the front.
+fn read_script<R: Read>(input: &mut R, script: &mut [u8]) -> io::Result<usize>
+    ensures bound { IfOk result (λ n. n ≤ length script.new) }
+    ensures bytes { IfOk result (λ n. Consumes (R.remaining input.old) (R.remaining input.new) (take n script.new)) }
+    ensures end { IfOk result (λ n. n < length script.new → IsAtEnd (R.remaining input.new)) }
+    ensures err { OnErr result ((n : ℕ) × (n ≤ length script.new) × Consumes (R.remaining input.old) (R.remaining input.new) (take n script.new)) }
 {
-    let mut input = rt.reader();
     let mut done: usize = 0;
-    for _ in 0..script.len() {
+    while done < script.len() {
         let n = input.read(&mut script[done..])?;
         if n == 0 {
-            break;
+            return Ok(done);
         }
         done += n;
     }
@@ -428,6 +432,6 @@ fn read_script(rt: &impl Input, script: &mut [u8]) -> io::Result<usize>
 
 fn main(rt: HostRuntime) -> io::Result<()> {
     let mut script = [0u8; 16384];
-    let count = read_script(&rt, &mut script)?;
+    let count = read_script(&mut rt.reader(), &mut script)?;
     run(&rt, &script[..count])
 }
