@@ -1,6 +1,7 @@
 -- A cache after entries are appended: those held stay as they are, the new ones have nothing kept, and the cache stays well-formed where
 -- each new entry is right, new, and awaits two names at most. Assumes nothing.
 use Rattle.std.specs.Prelude.{◌≡◌, Bool, true, false, ◌&&◌, eqb, leb, length}
+use Rattle.std.proofs.lemmas.Bool.{false≢true}
 use Rattle.std.proofs.Math.Path.{refl, subst}
 use Rattle.std.proofs.Common.{sym, ap, ◌∙◌, leb-true, le-leb, length-set}
 use Rattle.std.proofs.Math.Bool.{and-eq-true_iff}
@@ -9,7 +10,7 @@ use Prim.Native.Nat.{ℕ, zero, suc, ◌+◌, ◌≤◌, ◌<◌}
 use Rattle.std.proofs.Math.Decide.{dec_lt}
 use native.Mathlib.Omega.{arith}
 use Rattle.std.proofs.Math.Seq.{get_or-set_same, get_or-set_other}
-use Rattle.language.specs.Cases.{impossible, split}
+use Rattle.language.specs.Cases.{split}
 use Rattle.language.specs.Limits.{table_entries, table_readings}
 use Rattle.model.specs.Decoding.{decode_from}
 use Rattle.layout.specs.Links.{level_index, other_index, links_with, cells_with}
@@ -163,7 +164,7 @@ every-snoc p i (y ∷ ys) x h e = and-true (p y) _ ((and-eq-true_iff _ _).0 h).0
 -- what is worked out stays so
 done_more : (es : List Entry) (x : Entry) (i : ℕ) → done_at es i ≡ true → done_at (es ++ (x ∷ [])) i ≡ true
 unfolding done_at
-done_more [] x i h = impossible h
+done_more [] x i h = absurd (false≢true h)
 done_more (e ∷ es) x zero h = h
 done_more (e ∷ es) x (suc i) h = done_more es x i h
 

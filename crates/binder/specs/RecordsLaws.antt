@@ -1,7 +1,11 @@
 -- Binding in the call's frame is binding by the definition. Assumes nothing.
-use Rattle.std.specs.Prelude.{◌≡◌, refl, true, cond, List, [], ◌∷◌, ◌++◌, ℕ, zero, suc, ◌+◌, ◌-◌, ◌*◌, ◌/◌, ◌%◌, ◌≤◌, ◌<◌, eqb, ltb, length, get_or, set, take, drop}
-use Rattle.std.proofs.Common.{sym, ap, ◌∙◌, arith, eq-eqb, ne_eqb, lt-ltb, le-ltb, get_or-take, take-suc-set, length-take-le, drop_at}
+use Rattle.std.specs.Prelude.{◌≡◌, refl, true, cond, Option, None, Some, List, [], ◌∷◌, ◌++◌, ℕ, zero, suc, ◌+◌, ◌-◌, ◌*◌, ◌/◌, ◌%◌, ◌≤◌, ◌<◌, eqb, ltb, length, get_or, set, take, drop}
+use Rattle.std.proofs.lemmas.Bool.{false≢true}
+use Rattle.std.proofs.Common.{sym, ap, ◌∙◌, arith, ne_eqb, lt-ltb, le-ltb, get_or-take, take-suc-set, length-take-le, drop_at}
+use Rattle.std.specs.Option.{is_some, unwrap_or}
 use Rattle.std.proofs.Math.Decide.{dec_lt}
+use borrow.Author.Tests.{eqb-false}
+use Rattle.language.specs.Cases.{split}
 use Rattle.std.proofs.Math.Nat.{sub-zero}
 use Rattle.std.proofs.Math.Numerals.{add-one}
 use Rattle.std.proofs.Math.ListN.{length-set, get_or-eq_default}
@@ -14,25 +18,25 @@ use Rattle.model.specs.Lists.{index}
 use Rattle.table.specs.Bind.{relinked, relink, Bound, bind_one, bind_all}
 use Rattle.layout.specs.Numbered.{numbered}
 use Rattle.table.specs.RightLaws.{left-suc}
-use Rattle.layout.specs.Held.{shaped, word_of, fresh_at, record_at, held_at, with_fresh, kind_base, entry_base, text_words}
-use Rattle.table.specs.Chain.{hash_of, last_same, Chained, linked}
+use Rattle.layout.specs.Held.{shaped, word_in, fresh_at, record_at, held_at, with_fresh, kind_base, entry_base, text_words}
+use Rattle.table.specs.Chain.{hash_of, last_same, number_before, Chained, linked}
 use Rattle.table.specs.ChainLaws.{numbered-zero, numbered-last, numbered-agree, length-numbered, distinct_snoc, has_last, last-le, find-last, hash-low, chained_more, chained-agree, held-front}
 use Rattle.binder.specs.Records.{bound, bound_now, Ready, BoundOne, BoundAll}
 use Rattle.layout.specs.declared.nodes.Shape.{Shape}
 
--- the words of a node that waits, taken apart again
-word-kind : (k f s l : ℕ) → k < kind_base → f < entry_base → s < entry_base → word_of k f s l % kind_base ≡ k
-word-kind k f s l hk hf hs = omega arith
+-- the word of a node that waits, taken apart again
+module _ (n : Node) (k : n.kind < kind_base) (f : n.first < entry_base) (s : n.second < entry_base) where
+  word-kind : word_in entry_base n % kind_base ≡ n.kind
+  word-kind = omega arith
 
-word_first : (k f s l : ℕ) → k < kind_base → f < entry_base → s < entry_base → word_of k f s l / kind_base % entry_base ≡ f
-word_first k f s l hk hf hs = omega arith
+  word_first : word_in entry_base n / kind_base % entry_base ≡ n.first
+  word_first = omega arith
 
-word-second : (k f s l : ℕ) → k < kind_base → f < entry_base → s < entry_base → word_of k f s l / (kind_base * entry_base) % entry_base ≡ s
-word-second k f s l hk hf hs = omega arith
+  word-second : word_in entry_base n / (kind_base * entry_base) % entry_base ≡ n.second
+  word-second = omega arith
 
-word-level : (k f s l : ℕ) → k < kind_base → f < entry_base → s < entry_base → l < entry_base
-    → word_of k f s l / (kind_base * entry_base * entry_base) % entry_base ≡ l
-word-level k f s l hk hf hs hl = omega arith
+  word-level : n.level < entry_base → word_in entry_base n / (kind_base * entry_base * entry_base) % entry_base ≡ n.level
+  word-level l = omega arith
 
 -- nodes that wait
 module _ (fresh : List ℕ) (i : ℕ) (n : Node) where
@@ -40,21 +44,21 @@ module _ (fresh : List ℕ) (i : ℕ) (n : Node) where
       → fresh_at (with_fresh fresh i n) i ≡ n
   unfolding fresh_at with_fresh
   fresh-same hk hf hs hl l =
-      let y = length-set fresh (2 * i) (word_of n.kind n.first n.second n.level) in
+      let y = length-set fresh (2 * i) (word_in entry_base n) in
       rw (
-        get_or-set_other (set fresh (2 * i) (word_of n.kind n.first n.second n.level)) (2 * i + 1) (2 * i) n.key 0 (λ e. omega arith),
-        get_or-set_same (set fresh (2 * i) (word_of n.kind n.first n.second n.level)) (2 * i + 1) n.key 0 (omega arith),
-        get_or-set_same fresh (2 * i) (word_of n.kind n.first n.second n.level) 0 (omega arith),
-        word-kind n.kind n.first n.second n.level hk hf hs,
-        word_first n.kind n.first n.second n.level hk hf hs,
-        word-second n.kind n.first n.second n.level hk hf hs,
-        word-level n.kind n.first n.second n.level hk hf hs hl,
+        get_or-set_other (set fresh (2 * i) (word_in entry_base n)) (2 * i + 1) (2 * i) n.key 0 (λ e. omega arith),
+        get_or-set_same (set fresh (2 * i) (word_in entry_base n)) (2 * i + 1) n.key 0 (omega arith),
+        get_or-set_same fresh (2 * i) (word_in entry_base n) 0 (omega arith),
+        word-kind n hk hf hs,
+        word_first n hk hf hs,
+        word-second n hk hf hs,
+        word-level n hk hf hs hl,
       )
 
   word-other : (k : ℕ) → (k ≡ 2 * i → ⊥) → (k ≡ 2 * i + 1 → ⊥) → get_or (with_fresh fresh i n) k 0 ≡ get_or fresh k 0
   unfolding with_fresh
   word-other k u v =
-      let word = word_of n.kind n.first n.second n.level in
+      let word = word_in entry_base n in
       get_or-set_other (set fresh (2 * i) word) (2 * i + 1) k n.key 0 (λ e. v (omega arith)) ∙ get_or-set_other fresh (2 * i) k word 0 (λ e. u (omega arith))
 
   -- another place keeps its two words, as a node that waits and as a record
@@ -133,19 +137,32 @@ known_more numbers r v h l e k j m =
       | no most ↦ let q : j ≡ r = omega arith in let g = get_or-set_same numbers r v 0 (omega arith) in rw q (omega arith)
     ]
 
+before-some : (k i : ℕ) → number_before k ≡ Some i → k ≡ suc i
+before-some k i e =
+    split (eqb k 0)
+    (λ p. absurd (false≢true (ap is_some (rw p at e))))
+    (λ p. let u : k - 1 ≡ i = ap (λ (o : Option ℕ). unwrap_or o 0) (rw p at e) in omega (arith, eqb-false k 0 p))
+
+before-none : (k : ℕ) → number_before k ≡ None → eqb k 0 ≡ true
+before-none k e = split (eqb k 0) (λ p. p) (λ p. absurd (false≢true (sym (ap is_some (rw p at e)))))
+
 module _ (links cells : List ℕ) (count total r : ℕ) (numbers records chain : List ℕ)
     (ready : Ready links cells count total r numbers records chain) (few : r < text_parts)
     (m : Node) (qm : m ≡ relink (take r numbers) (record_at records r))
-    (c : ℕ) (qc : c ≡ last_same (held_at links cells count records) m total) where
+    (o : Option ℕ) (qo : o ≡ number_before (last_same (held_at links cells count records) m total)) where
   abbrev ν : ℕ → Node
   ν = held_at links cells count records
 
   abbrev ns : List Node
   ns = numbered ν 0 total
 
+  -- one more than the last that is equal
+  abbrev c : ℕ
+  c = last_same ν m total
+
   -- the number that the definition finds
   found : index same_node m ns ≡ cond (eqb c 0) total (c - 1)
-  found = find-last ν m total ready.apart ∙ rw (← qc)
+  found = find-last ν m total ready.apart
 
   bind-as : bind_one (bound_now links cells count total r numbers records) (record_at records r)
       ≡ bound (cond (ltb (cond (eqb c 0) total (c - 1)) total) ns (ns ++ (m ∷ []))) (take r numbers ++ (cond (eqb c 0) total (c - 1) ∷ []))
@@ -155,9 +172,12 @@ module _ (links cells : List ℕ) (count total r : ℕ) (numbers records chain :
   numbers_more : (v : ℕ) → take (r + 1) (set numbers r v) ≡ take r numbers ++ (v ∷ [])
   numbers_more v = let z = ready.places in rw (add-one r) (take-suc-set numbers r v (omega arith))
 
-  pub bound-old : 0 < c → BoundOne links cells count total r numbers records total (set numbers r (c - 1)) records chain
-  bound-old h =
-      let l : c ≤ total = (let b = last-le ν m total in omega arith) in
+  pub bound-old : (i : ℕ) → o ≡ Some i → BoundOne links cells count total r numbers records total (set numbers r i) records chain
+  bound-old i e =
+      let h : c ≡ suc i = before-some c i (sym qo ∙ e) in
+      let z : c - 1 ≡ i = omega arith in
+      rw (← z)
+      (let l : c ≤ total = (let b = last-le ν m total in omega arith) in
       let a = ready.low in
       let b = ready.high in
       let d = ready.few in
@@ -173,7 +193,7 @@ module _ (links cells : List ℕ) (count total r : ℕ) (numbers records chain :
           apart = ready.apart;
           known = known_more numbers r (c - 1) ready.known (omega arith) ready.places few;
         };
-      }
+      })
 
   kind-low : m.kind < kind_base
   unfolding relink record_at
@@ -191,7 +211,7 @@ module _ (links cells : List ℕ) (count total r : ℕ) (numbers records chain :
   unfolding relink record_at
   level-low = rw qm (omega arith)
 
-  pub bound-new : (h : ℕ) (records' chain' : List ℕ) → length records ≡ text_words → c ≤ 0 → h ≡ hash_of m → records' ≡ with_fresh records (total - count) m
+  pub bound-new : (h : ℕ) (records' chain' : List ℕ) → length records ≡ text_words → o ≡ None → h ≡ hash_of m → records' ≡ with_fresh records (total - count) m
       → chain' ≡ linked chain h total → BoundOne links cells count total r numbers records (total + 1) (set numbers r total) records' chain'
   bound-new h records' chain' y z qh qf qg =
       let a = ready.low in
@@ -205,7 +225,7 @@ module _ (links cells : List ℕ) (count total r : ℕ) (numbers records chain :
       ap (numbered (held_at links cells count records') 0) (add-one total) ∙ numbered-last (held_at links cells count records') total
       ∙ ap (λ (l : List Node). l ++ (held_at links cells count records' total ∷ [])) (sym (numbered-agree ν (held_at links cells count records') 0 total (λ j l. old j (omega arith))))
       ∙ ap (λ (x : Node). ns ++ (x ∷ [])) last in
-      let none : eqb c 0 ≡ true = eq-eqb c 0 (omega arith) in
+      let none : eqb c 0 ≡ true = before-none c (sym qo ∙ z) in
       record {
         is = rw (more, numbers_more total) (sym (bind-as ∙ rw none (rw (le-ltb total total (omega arith)))));
         later = λ j l. ap (λ (w : List ℕ). record_at w j) qf ∙ record-other records (total - count) m j (λ e. omega arith);
@@ -218,7 +238,7 @@ module _ (links cells : List ℕ) (count total r : ℕ) (numbers records chain :
               chained_more (held_at links cells count records') chain chain' total h
               (chained-agree ν (held_at links cells count records') chain total ready.chained old)
               qg (qh ∙ ap hash_of (sym last)) (hash-low h m qh) (omega arith);
-          apart = ap distinct more ∙ distinct_snoc m ns ∙ rw (ready.apart, has_last ν m total, ← qc) (rw none);
+          apart = ap distinct more ∙ distinct_snoc m ns ∙ rw (ready.apart, has_last ν m total) (rw none);
           known = known_more numbers r total ready.known (omega arith) ready.places few;
         };
       }

@@ -1,4 +1,6 @@
 // 01, "Binding": a text's records are bound to entries one by one, found or appended, in the call's own frame. No lent cell is written.
+#![tactic(auto, using(crate::specs::RecordsLaws::binding))]
+
 ghost use Rattle.std.specs.Prelude.{◌≡◌, true, ℕ, ◌≤◌, ◌<◌, length, get_or, take};
 ghost use Rattle.language.specs.Limits.{text_parts, table_entries};
 ghost use Rattle.layout.specs.Memory.{node_at};
@@ -10,13 +12,13 @@ ghost use Rattle.table.specs.Chain.{chain_entries};
 ghost use Rattle.binder.specs.Records.{Ready, BoundOne, BoundAll, is_full};
 
 use language::limits::{Table, Text};
-use layout::nodes::{Shape, TEXT_WORDS, add_fresh, record_at};
+use layout::nodes::{Entries, Shape, TEXT_WORDS, add_fresh, record_at};
 use table::chain::{CHAIN_CELLS, enter, enter_all, hash, seek};
 
 // A link to a record, as a link to the record's entry. The first r records have their numbers.
 fn relinked(numbers: &[u16; Text::PARTS], r: u16, link: u16) -> u16
-    requires r_le_text_parts { (r ≤ text_parts) × (length numbers.now ≡ text_parts) }
-    requires by_index { (j : ℕ) → j < r → get_or numbers.now j 0 < chain_entries }
+    requires few { (r ≤ text_parts) × (length numbers.now ≡ text_parts) }
+    requires known { (j : ℕ) → j < r → get_or numbers.now j 0 < chain_entries }
     ensures { result ≡ relinked (take r numbers.now) link }
 {
     if link == 0 {
@@ -30,8 +32,8 @@ fn relinked(numbers: &[u16; Text::PARTS], r: u16, link: u16) -> u16
 
 // Record r, its links those of entries. The array has all its words, which reading it tells.
 fn relink(records: &[u64; TEXT_WORDS], numbers: &[u16; Text::PARTS], r: u16) -> Shape
-    requires r_le_text_parts { (r ≤ text_parts) × (length numbers.now ≡ text_parts) }
-    requires by_index { (j : ℕ) → j < r → get_or numbers.now j 0 < chain_entries }
+    requires few { (r ≤ text_parts) × (length numbers.now ≡ text_parts) }
+    requires known { (j : ℕ) → j < r → get_or numbers.now j 0 < chain_entries }
     ensures { (shaped result ≡ relink (take r numbers.now) (record_at records.now r)) × (length records.now ≡ text_words) }
 {
     let x = record_at(records, r);
@@ -57,15 +59,20 @@ fn bind_one(
     chain: &mut [u16; CHAIN_CELLS],
 ) -> u16
     requires ready { Ready links.now cells.now count total r numbers.old records.old chain.old }
-    requires r_lt_text_parts { r < text_parts }
+    requires few { r < text_parts }
     ensures { BoundOne links.now cells.now count total r numbers.old records.old
         result numbers.new records.new chain.new }
 {
     let x = relink(records, numbers, r);
     let h = hash(x);
-    let c = seek(links, cells, count, records, chain, total, h, x);
-    if 0 < c {
-        numbers[r as usize] = c - 1;
+    let entries = Entries {
+        links,
+        cells,
+        count,
+        fresh: records,
+    };
+    if let Some(i) = seek(&entries, chain, total, h, x) {
+        numbers[r as usize] = i;
         return total;
     }
     add_fresh(records, total - count, x);
@@ -84,17 +91,21 @@ pub fn bind(
     n: u16,
     numbers: &mut [u16; Text::PARTS],
 ) -> u16
-    requires count_le_table_entries { (count ≤ table_entries) × (n ≤ text_parts) × (length numbers.old ≡ text_parts) }
-    requires count_value { distinct (numbered (node_at links.now cells.now) 0 count) ≡ true }
+    requires fits_table { (count ≤ table_entries) × (n ≤ text_parts) × (length numbers.old ≡ text_parts) }
+    requires no_two_equal { distinct (numbered (node_at links.now cells.now) 0 count) ≡ true }
     ensures { BoundAll links.now cells.now count records.old n result numbers.new records.new }
 {
     let mut chain = [0u16; CHAIN_CELLS];
-    enter_all(links, cells, count, records, &mut chain);
+    let entries = Entries {
+        links,
+        cells,
+        count,
+        fresh: records,
+    };
+    enter_all(&entries, &mut chain);
     let mut total = count;
-    let mut r: u16 = 0;
-    while r < n {
+    for r in 0..n {
         total = bind_one(links, cells, count, total, records, r, numbers, &mut chain);
-        r += 1;
     }
     total
 }

@@ -8,18 +8,18 @@ ghost use Rattle.layout.specs.Memory.{memory};
 ghost use Rattle.binder.specs.Written.{Whole, placed};
 
 use language::limits::Text;
-use layout::cells::{at16, at32, put_cells, put_links};
+use layout::cells::{get_or, put_cells, put_links};
 use layout::nodes::{Shape, TEXT_WORDS, fresh_at};
 
 // One entry more, with nothing kept.
 pub fn append(heads: &mut [u32], links: &mut [u16], cells: &mut [u64], x: Shape)
     requires whole { Whole heads.old links.old cells.old }
-    requires heads_bound { get_or heads.old 0 0 < table_entries }
+    requires room { get_or heads.old 0 0 < table_entries }
     ensures { (readings : List ℤ)
         → memory readings heads.new links.new cells.new
         ≡ append (memory readings heads.old links.old cells.old) (shaped x) }
 {
-    let count = at32(heads, 0);
+    let count = get_or(heads, 0, 0);
     put_links(links, count as usize, x.kind, x.first, x.second, x.level);
     put_cells(cells, count as usize, x.key);
     heads[0] = count + 1;
@@ -35,19 +35,15 @@ pub fn commit(
     total: u16,
 )
     requires whole { Whole heads.old links.old cells.old }
-    requires heads_value { get_or heads.old 0 0 ≡ count }
-    requires count_le_total { (count ≤ total) × (total ≤ table_entries) }
+    requires held { get_or heads.old 0 0 ≡ count }
+    requires total_in_range { (count ≤ total) × (total ≤ table_entries) }
     ensures { (readings : List ℤ)
         → memory readings heads.new links.new cells.new
         ≡ append_all (memory readings heads.old links.old cells.old)
         (numbered (fresh_at fresh.now) 0 (total - count)) }
 {
-    let n = total - count;
-    let mut i: u16 = 0;
-    while i < n {
-        let x = fresh_at(fresh, i);
-        append(heads, links, cells, x);
-        i += 1;
+    for i in 0..total - count {
+        append(heads, links, cells, fresh_at(fresh, i));
     }
 }
 
@@ -61,10 +57,7 @@ pub fn write_places(
     requires { (n ≤ text_parts) × (length parts.now ≡ text_parts) × (text_parts ≤ length places.old) }
     ensures { places.new ≡ placed numbers.now (take n parts.now) places.old }
 {
-    let mut p: u16 = 0;
-    while p < n {
-        let at = p as usize;
-        places[at] = at16(numbers, at16(parts, at) as usize);
-        p += 1;
+    for p in 0..n as usize {
+        places[p] = get_or(numbers, parts[p] as usize, 0);
     }
 }

@@ -1,13 +1,13 @@
 -- The table's nodes as the model's graph: a node with its dependencies' forms builds its form, and equal forms have equal nodes.
 -- Assumes nothing.
+use Rattle.std.specs.Prelude.{Option, Some, None}
+use Rattle.std.proofs.lemmas.Bool.{false≢true, or_right}
 use Rattle.std.specs.Prelude.{◌≡◌, refl, Bool, true, false, cond, List, [], ◌∷◌, ℕ, zero, suc, ◌-◌, eqb, pos, nat_abs}
 use Rattle.std.proofs.Common.{sym, ap, ◌∙◌, subst, arith, eqb-true, eq-eqb}
 use Rattle.std.proofs.Math.IntN.{ℤ, -ℤ-+ℤ_cancel}
 use Rattle.members.specs.Members.{arguments}
 use Rattle.members.specs.declared.Member.{Member}
-use Rattle.members.specs.declared.Found.{Found}
-use Rattle.members.specs.declared.Found.TheVariants.{Is, Unknown}
-use Rattle.language.specs.Cases.{impossible, split, either, or_right}
+use Rattle.language.specs.Cases.{split, either}
 use Rattle.meaning.specs.Forms.{Form, name_in, level_in, number, variable, unbound, readings, ask, call, function, same, dependency, first_of, second_of}
 use Rattle.meaning.proofs.FormsLaws.{name_back, level-back, same-eq, same_self}
 use Rattle.model.specs.Lists.{member}
@@ -138,10 +138,10 @@ one-node n m φ fn fm e h =
 -- the dependencies of the form are those of the node
 each_of : (n : Node) (φ : ℕ → Form) (f d : Form) → Known n φ f → dependency d f ≡ true → (j : ℕ) × (among j (kids n) ≡ true) × (φ j ≡ d)
 unfolding dependency first_of second_of
-each_of n φ (number z) d k h = impossible h
-each_of n φ (variable x) d k h = impossible h
-each_of n φ (unbound x) d k h = impossible h
-each_of n φ readings d k h = impossible h
+each_of n φ (number z) d k h = absurd (false≢true h)
+each_of n φ (variable x) d k h = absurd (false≢true h)
+each_of n φ (unbound x) d k h = absurd (false≢true h)
+each_of n φ readings d k h = absurd (false≢true h)
 each_of n φ (ask m f) d k h = let a = k.first tt in (k.left, a.0, a.1 ∙ sym (same-eq d f h))
 each_of n φ (call m f a) d k h =
     either (same d f) (same d a) h
@@ -151,7 +151,7 @@ each_of n φ (function x b) d k h = let a = k.first tt in (k.left, a.0, a.1 ∙ 
 
 pub among_one : (j k : ℕ) → among j (k ∷ []) ≡ true → k ≡ j
 unfolding member
-among_one j k h = split (eqb k j) (λ e. eqb-true k j e) (λ e. impossible (rw e at h))
+among_one j k h = split (eqb k j) (λ e. eqb-true k j e) (λ e. absurd (false≢true (rw e at h)))
 
 pub among_two : {A : Type 0} (j k l : ℕ) → among j (k ∷ l ∷ []) ≡ true → (k ≡ j → A) → (l ≡ j → A) → A
 unfolding member
@@ -159,10 +159,10 @@ among_two j k l h p q = split (eqb k j) (λ e. p (eqb-true k j e)) (λ e. q (amo
 
 only_of : {n : Node} (φ : ℕ → Form) (j : ℕ) (k : Fine n) → among j (kids n) ≡ true → dependency (φ j) (node_form k φ) ≡ true
 unfolding dependency member kids arity member_of_kind
-only_of φ j (a_number key) h = impossible h
-only_of φ j (a_variable x k _) h = impossible h
-only_of φ j (an_unbound x) h = impossible h
-only_of φ j the_readings h = impossible h
+only_of φ j (a_number key) h = absurd (false≢true h)
+only_of φ j (a_variable x k _) h = absurd (false≢true h)
+only_of φ j (an_unbound x) h = absurd (false≢true h)
+only_of φ j the_readings h = absurd (false≢true h)
 only_of φ j (a_function x b k _) h = rw (among_one j b (subst (λ (l : List ℕ). among j l ≡ true) (kids-function x b k) h)) (same_self (φ j))
 only_of φ j (an_ask m f e) h = rw (among_one j f (subst (λ (l : List ℕ). among j l ≡ true) (kids-ask m f e) h)) (same_self (φ j))
 only_of φ j (a_call m f a e) h =
@@ -171,12 +171,12 @@ only_of φ j (a_call m f a e) h =
     (λ q. rw q (or_right (same (φ j) (φ f)) _ (same_self (φ j))))
 
 -- a form hangs on the forms of its dependencies alone
-agree-member : (f : Found) (n : Node) (φ ψ : ℕ → Form) → ((j : ℕ) → among j (listed (member_arity f) n) ≡ true → φ j ≡ ψ j)
+agree-member : (f : Option Member) (n : Node) (φ ψ : ℕ → Form) → ((j : ℕ) → among j (listed (member_arity f) n) ≡ true → φ j ≡ ψ j)
     → member_form f (φ (n.first - 1)) (φ (n.second - 1)) ≡ member_form f (ψ (n.first - 1)) (ψ (n.second - 1))
-agree-member Unknown n φ ψ h = refl
-agree-member (Is m) n φ ψ h = by (arguments m) refl
+agree-member None n φ ψ h = refl
+agree-member (Some m) n φ ψ h = by (arguments m) refl
   where
-    by : (k : ℕ) → arguments m ≡ k → member_form (Is m) (φ (n.first - 1)) (φ (n.second - 1)) ≡ member_form (Is m) (ψ (n.first - 1)) (ψ (n.second - 1))
+    by : (k : ℕ) → arguments m ≡ k → member_form (Some m) (φ (n.first - 1)) (φ (n.second - 1)) ≡ member_form (Some m) (ψ (n.first - 1)) (ψ (n.second - 1))
     by zero e = let a = h (n.first - 1) (rw e (among_first (n.first - 1) [])) in rw (e, a)
     by (suc k) e =
         let a = h (n.first - 1) (rw e (among_first (n.first - 1) _)) in

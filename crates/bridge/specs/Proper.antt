@@ -1,9 +1,10 @@
 -- What holds of every form of a text that is read: its names are names, its number is within signed 32 bits, its member has the arguments that
 -- it takes, and it awaits at most two variables. Assumes nothing.
 use Rattle.std.specs.Prelude.{◌≡◌, refl, true, false, List, [], ◌∷◌, ◌++◌, ℕ, ◌<◌, ◌≤◌, eqb, length}
+use Rattle.std.proofs.lemmas.Bool.{false≢true, or_right}
 use Rattle.std.proofs.Common.{sym, ◌∙◌, arith, eqb-true, eq-eqb}
 use Rattle.members.specs.Members.{arguments}
-use Rattle.language.specs.Cases.{impossible, split, or_right}
+use Rattle.language.specs.Cases.{split}
 use Rattle.grammar.specs.KeptLimits.{InRange}
 use Rattle.meaning.specs.Forms.{Form, name_in, number, variable, unbound, readings, ask, call, function}
 use Rattle.meaning.specs.Evaluation.{has_name, joined, without, awaited}
@@ -31,15 +32,15 @@ NoDup (x ∷ xs) = (has_name x xs ≡ false) × NoDup xs
 snoc-not : (y x : ℕ) (xs : List ℕ) → has_name y xs ≡ false → eqb y x ≡ false → has_name y (xs ++ (x ∷ [])) ≡ false
 unfolding has_name
 snoc-not y x [] h e = rw e
-snoc-not y x (z ∷ xs) h e = split (eqb y z) (λ q. impossible (sym h ∙ rw q)) (λ q. rw q (snoc-not y x xs (rw q at h) e))
+snoc-not y x (z ∷ xs) h e = split (eqb y z) (λ q. absurd (false≢true (sym h ∙ rw q))) (λ q. rw q (snoc-not y x xs (rw q at h) e))
 
 nodup-snoc : (x : ℕ) (xs : List ℕ) → NoDup xs → has_name x xs ≡ false → NoDup (xs ++ (x ∷ []))
 unfolding has_name
 nodup-snoc x [] n h = (refl, tt)
 nodup-snoc x (y ∷ xs) n h =
     split (eqb x y)
-    (λ e. impossible (sym h ∙ rw e))
-    (λ e. (snoc-not y x xs n.0 (split (eqb y x) (λ q. impossible (rw e at (eq-eqb x y (sym (eqb-true y x q))))) (λ q. q)), nodup-snoc x xs n.1 (rw e at h)))
+    (λ e. absurd (false≢true (sym h ∙ rw e)))
+    (λ e. (snoc-not y x xs n.0 (split (eqb y x) (λ q. absurd (false≢true (rw e at (eq-eqb x y (sym (eqb-true y x q)))))) (λ q. q)), nodup-snoc x xs n.1 (rw e at h)))
 
 nodup-joined : (xs ys : List ℕ) → NoDup xs → NoDup (joined xs ys)
 unfolding joined
@@ -47,7 +48,7 @@ nodup-joined xs [] n = n
 nodup-joined xs (y ∷ ys) n = split (has_name y xs) (λ e. rw e (nodup-joined xs ys n)) (λ e. rw e (nodup-joined (xs ++ (y ∷ [])) ys (nodup-snoc y xs n e)))
 
 not-without : (z x : ℕ) (ys : List ℕ) → has_name z ys ≡ false → has_name z (without x ys) ≡ false
-not-without z x ys h = split (has_name z (without x ys)) (λ e. impossible (sym h ∙ (has-without z x ys e).0)) (λ e. e)
+not-without z x ys h = split (has_name z (without x ys)) (λ e. absurd (false≢true (sym h ∙ (has-without z x ys e).0))) (λ e. e)
 
 nodup-without : (x : ℕ) (ys : List ℕ) → NoDup ys → NoDup (without x ys)
 unfolding without
@@ -72,7 +73,7 @@ without-short x (y ∷ ys) = let r = without-short x ys in split (eqb x y) (λ e
 
 without-less : (x : ℕ) (ys : List ℕ) → Has x ys → length (without x ys) < length ys
 unfolding without has_name
-without-less x [] h = impossible h
+without-less x [] h = absurd (false≢true h)
 without-less x (y ∷ ys) h = split (eqb x y) (λ e. let r = without-short x ys in rw e (omega arith)) (λ e. let r = without-less x ys (rw e at h) in rw e (omega arith))
 
 pub no_more : (xs ns : List ℕ) → NoDup xs → ((y : ℕ) → Has y xs → Has y ns) → length xs ≤ length ns
@@ -82,5 +83,5 @@ no_more (x ∷ xs) ns n h =
     let i = h x (rw (eq-eqb x x refl)) in
     let l = without-less x ns i in
     let r = no_more xs (without x ns) n.1
-    (λ y k. has_kept y x ns (h y (or_right (eqb y x) _ k)) (split (eqb x y) (λ e. impossible (sym n.0 ∙ rw (eqb-true x y e) k)) (λ e. e))) in
+    (λ y k. has_kept y x ns (h y (or_right (eqb y x) _ k)) (split (eqb x y) (λ e. absurd (false≢true (sym n.0 ∙ rw (eqb-true x y e) k))) (λ e. e))) in
     omega arith

@@ -1,11 +1,12 @@
 -- Every form of a text that is read is proper. Assumes nothing.
 use Rattle.std.specs.Prelude.{◌≡◌, refl, true, false, List, [], ◌∷◌, ℕ, suc, ◌<◌, ◌≤◌, eqb, ℤ, length}
+use Rattle.std.proofs.lemmas.Bool.{false≢true, cond_both}
 use Rattle.std.proofs.Common.{sym, ap, ◌∙◌, arith, eqb-true, eq-eqb, ne_eqb}
 use Rattle.members.specs.MembersLaws.{few-arguments}
 use Rattle.language.specs.Limits.{open_lambdas}
 use Rattle.language.specs.Names.{packed, same_name, is_data, data_word}
 use Rattle.members.specs.Members.{arguments}
-use Rattle.language.specs.Cases.{impossible, split, by_cond}
+use Rattle.language.specs.Cases.{split}
 use Rattle.grammar.specs.Grammar.{Expression, Calls, Arguments, More, let_in, lambda, name, literal, bracket, done, call, none, first, last, next}
 use Rattle.grammar.specs.Faults.{Around, outermost, opened, in_lambda}
 use Rattle.grammar.specs.KeptLimits.{Site, a_let, a_lambda, a_bracket, a_name, a_number, a_call, given_a, given_m, EverywhereE, EverywhereC, EverywhereA}
@@ -75,18 +76,18 @@ good-all-more (e ∷ Γ) x ns h = (good_more e.1 x ns h.0, good-all-more Γ x ns
 
 -- each form from the forms that it is made of
 good-leaf : (f : Form) (ns : List ℕ) → length ns ≤ 2 → Shape f → ((y : ℕ) → has_name y (awaited f) ≡ false) → Good f ns
-good-leaf f ns l s h = good f ns l s (λ y e. impossible (sym (h y) ∙ e))
+good-leaf f ns l s h = good f ns l s (λ y e. absurd (false≢true (sym (h y) ∙ e)))
 
 good-lookup : (x : List ℕ) (Γ : List Meaning) (ns : List ℕ) → length ns ≤ 2 → GoodAll Γ ns → is_name (packed x) ≡ true → Good (look_up x Γ) ns
 unfolding look_up awaited has_name
 good-lookup x [] ns l h n = good-leaf (unbound (packed x)) ns l n (λ y. refl)
 good-lookup x (e ∷ Γ) ns l h n =
-    by_cond (λ (f : Form). Good f ns) (same_name x e.0) e.1 (look_up x Γ) (λ q. h.0) (λ q. good-lookup x Γ ns l h.1 n)
+    cond_both (same_name x e.0) e.1 (look_up x Γ) (λ (f : Form). Good f ns) (λ q. h.0) (λ q. good-lookup x Γ ns l h.1 n)
 
 good-named : (x : List ℕ) (Γ : List Meaning) (ns : List ℕ) → length ns ≤ 2 → GoodAll Γ ns → (is_data x ≡ false → is_name (packed x) ≡ true) → Good (named x Γ) ns
 unfolding named awaited has_name
 good-named x Γ ns l h n =
-    by_cond (λ (f : Form). Good f ns) (is_data x) readings (look_up x Γ) (λ q. good-leaf readings ns l tt (λ y. refl))
+    cond_both (is_data x) readings (look_up x Γ) (λ (f : Form). Good f ns) (λ q. good-leaf readings ns l tt (λ y. refl))
     (λ q. good-lookup x Γ ns l h (n q))
 
 good-number : (z : ℤ) (ns : List ℕ) → length ns ≤ 2 → InRange z → Good (number z) ns
@@ -103,7 +104,7 @@ good-call m f a ns l e g h = good (Form.call (member m) f a) ns l e (λ y i. has
 
 good-variable : (x : ℕ) (ns : List ℕ) → length ns ≤ 2 → is_name (name_in x) ≡ true → Has x ns → Good (variable x) ns
 unfolding awaited has_name
-good-variable x ns l n i = good (variable x) ns l n (λ y h. split (eqb y x) (λ e. rw (eqb-true y x e) i) (λ e. impossible (rw e at h)))
+good-variable x ns l n i = good (variable x) ns l n (λ y h. split (eqb y x) (λ e. rw (eqb-true y x e) i) (λ e. absurd (false≢true (rw e at h))))
 
 good-function : (x : ℕ) (b : Form) (ns : List ℕ) → length ns ≤ 2 → is_name (name_in x) ≡ true → Good b (x ∷ ns) → Good (function x b) ns
 unfolding awaited has_name
@@ -112,7 +113,7 @@ good-function x b ns l n g =
     (λ y h.
     let r = has-without y x (awaited b) h in
     let i = g.within y r.0 in
-    split (eqb y x) (λ e. impossible (sym r.1 ∙ eq-eqb x y (sym (eqb-true y x e)))) (λ e. rw e at i))
+    split (eqb y x) (λ e. absurd (false≢true (sym r.1 ∙ eq-eqb x y (sym (eqb-true y x e))))) (λ e. rw e at i))
 
 first-has : (x : ℕ) (ns : List ℕ) → Has x (x ∷ ns)
 unfolding has_name

@@ -1,5 +1,7 @@
 -- The records of a tree unfold to its let-free forms: the root to the whole's, each place to its part's, and bound in their order they add
 -- what the forms in the order of binding add. Assumes nothing.
+use Rattle.std.specs.Prelude.{Option, Some, None}
+use Rattle.std.proofs.lemmas.Bool.{false≢true}
 use Rattle.std.specs.Prelude.{◌≡◌, refl, Bool, true, false, cond, List, [], ◌∷◌, ◌++◌, map, ℕ, zero, suc, ◌+◌, ◌<◌, ◌≤◌, T, eqb, ℤ, pos, negsuc, ◌+ℤ◌, ◌-ℤ◌, ◌≤ℤ◌, length, get_or}
 use Rattle.std.proofs.Common.{sym, ap, ◌∙◌, append-nil, append_assoc, arith, eqb-true, le-ltb, leb→le, length-append}
 use Rattle.std.proofs.lemmas.List.{map-append, get_or_at}
@@ -12,9 +14,7 @@ use Rattle.language.specs.Names.{packed, same_name, is_data}
 use Rattle.members.specs.Members.{arguments, member_of, is_unknown, takes}
 use Rattle.members.specs.MembersLaws.{few-arguments}
 use Rattle.members.specs.declared.Member.{Member}
-use Rattle.members.specs.declared.Found.{Found}
-use Rattle.members.specs.declared.Found.TheVariants.{Is, Unknown}
-use Rattle.language.specs.Cases.{impossible, split}
+use Rattle.language.specs.Cases.{split}
 use Rattle.grammar.specs.Grammar.{Expression, Calls, Arguments, More, let_in, lambda, name, literal, bracket, done, call, none, first, last, next}
 use Rattle.grammar.specs.Faults.{Around, outermost, opened, in_lambda}
 use Rattle.grammar.specs.KeptLimits.{given_a, given_m, EverywhereE, EverywhereC, EverywhereA, EverywhereM, InRange, KeepsLimits}
@@ -277,12 +277,12 @@ right-pick false A B t f g p q = q
 
 linked-right : (j : ℕ) (x y : List ℕ) (k : ℕ) (e : Meaning) (t : List Node) → packed x ≡ packed y → Linked j y k e t → Right (linked j x k t) t e.1 (one e.1) (one e.1)
 unfolding is_in kids arity member_of_kind
-linked-right zero x y k e t q h = fresh (a_variable (packed x) k h.2) t e.1 (λ j. impossible) (ap (λ (m : ℕ). variable (with_level m k)) q ∙ sym h.0)
+linked-right zero x y k e t q h = fresh (a_variable (packed x) k h.2) t e.1 (λ j e. absurd (false≢true e)) (ap (λ (m : ℕ). variable (with_level m k)) q ∙ sym h.0)
 linked-right (suc j) x y k e t q h = again t j e.1 h.0 h.1
 
 scoped-right : (x : List ℕ) (Σ : List Named) (Γ : List Meaning) (t : List Node) → Scoped Σ Γ t → Right (record_scoped x Σ t) t (look_up x Γ) (one (look_up x Γ)) (one (look_up x Γ))
 unfolding record_scoped look_up is_in kids arity member_of_kind
-scoped-right x [] [] t h = fresh (an_unbound (packed x)) t (unbound (packed x)) (λ j. impossible) refl
+scoped-right x [] [] t h = fresh (an_unbound (packed x)) t (unbound (packed x)) (λ j e. absurd (false≢true e)) refl
 scoped-right x [] (e ∷ Γ) t h = absurd h
 scoped-right x (s ∷ Σ) [] t h = absurd h
 scoped-right x (s ∷ Σ) (e ∷ Γ) t h =
@@ -297,7 +297,7 @@ name-right : (x : List ℕ) (Σ : List Named) (Γ : List Meaning) (t : List Node
 unfolding record_name named is_in kids arity member_of_kind
 name-right x Σ Γ t h =
     right-pick (is_data x) _ _ t readings (look_up x Γ)
-    (fresh the_readings t readings (λ j. impossible) refl)
+    (fresh the_readings t readings (λ j e. absurd (false≢true e)) refl)
     (scoped-right x Σ Γ t h)
 
 -- a member that is known and given what it takes
@@ -305,9 +305,9 @@ pub given-right : (m : List ℕ) (k : ℕ) → is_unknown (member_of m) ≡ fals
 unfolding member takes
 given-right m k u e = by (member_of m) refl
   where
-    by : (f : Found) → member_of m ≡ f → arguments (member m) ≡ k
-    by (Is n) q = rw q (sym (rw q at e))
-    by Unknown q = impossible (sym (rw q at u))
+    by : (f : Option Member) → member_of m ≡ f → arguments (member m) ≡ k
+    by (Some n) q = rw q (sym (rw q at e))
+    by None q = absurd (false≢true (sym (rw q at u)))
 
 -- the dependencies of a call's record, and of a function's, stand before it
 ask-lower : (m : Member) (f i : ℕ) → arguments m ≡ 0 → f < i → (j : ℕ) → among j (kids (node (member_kind m) 0 (suc f) 0)) ≡ true → j < i
@@ -394,7 +394,7 @@ mutual
       (recorded_c r d RN.root (named x Γ) Σ Γ RN.records c.1 n.1 l.1 q (scoped-after Σ Γ t RN _ _ _ N s) N.low N.form)
   recorded_e (literal z r) d Σ Γ t c n l q s =
       let k = node number_kind (number_key z) 0 0 in
-      let N = fresh (a_number (number_key z)) t (number z) (λ j. impossible) (ap number (key-number z n.0)) in
+      let N = fresh (a_number (number_key z)) t (number z) (λ j e. absurd (false≢true e)) (ap number (key-number z n.0)) in
       let RN = new_record k t (length t ∷ []) in
       after RN (record_c r (length t) Σ (t ++ (k ∷ []))) t _ _ _ _ _ _ N
       (recorded_c r d (length t) (number z) Σ Γ (t ++ (k ∷ [])) c.1 n.1 l.1 q (scoped-after Σ Γ t RN _ _ _ N s) N.low N.form)

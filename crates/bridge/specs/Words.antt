@@ -1,5 +1,6 @@
 -- A word of at most 8 bytes that is not data, packed, passes the table's test of names. Assumes nothing.
 use Rattle.std.specs.Prelude.{◌≡◌, refl, true, false, List, [], ◌∷◌, ℕ, zero, suc, ◌+◌, ◌-◌, ◌*◌, ◌/◌, ◌%◌, ◌<◌, ◌≤◌, ltb, leb, eqb, length}
+use Rattle.std.proofs.lemmas.Bool.{false≢true}
 use Rattle.std.proofs.Common.{sym, ap, ◌∙◌, subst, arith, ne_eqb, lt-ltb, le-ltb, leb-true}
 use Rattle.std.proofs.Math.Bool.{and-eq-true_iff}
 use Rattle.language.specs.Limits.{name_bytes}
@@ -7,7 +8,7 @@ use Rattle.language.specs.Names.{bytes, between, is_letter, in_word, pack_onto, 
 use Rattle.language.specs.NamesLaws.{Each, NameByte, word_byte, packed-injective}
 use Rattle.members.specs.Members.{same_bytes}
 use Rattle.members.specs.MembersLaws.{same_bytes_lem}
-use Rattle.language.specs.Cases.{impossible, split, either}
+use Rattle.language.specs.Cases.{split, either}
 use Rattle.grammar.proofs.Words.{IsWord, word_bytes}
 use Rattle.layout.specs.Nodes.{word_number, is_name}
 
@@ -37,7 +38,7 @@ number-onto (b ∷ v) n m k e h w r = number-onto v (suc n) m (k * 256 + b) (ome
 
 number-longer : (n k : ℕ) → word_number n k ≡ true → word_number (suc n) k ≡ true
 unfolding word_number
-number-longer zero k h = impossible h
+number-longer zero k h = absurd (false≢true h)
 number-longer (suc n) k h =
     split (ltb k 256)
     (λ e. rw e (rw e at h))
@@ -61,7 +62,7 @@ word_number_lem w h l =
     rw (x, z) (subst (λ (m : ℕ). word_number m (pack_onto h.head h.tail) ≡ true) j (number_up (8 - (1 + length h.tail)) (1 + length h.tail) (pack_onto h.head h.tail) v))
 
 other_word : (w v : List ℕ) → IsWord w → Each NameByte v → same_bytes w v ≡ false → eqb (packed w) (packed v) ≡ false
-other_word w v h b e = ne_eqb (packed w) (packed v) (λ q. impossible (sym e ∙ (same_bytes_lem w v).1 (packed-injective w v (word_bytes w h) b q)))
+other_word w v h b e = ne_eqb (packed w) (packed v) (λ q. absurd (false≢true (sym e ∙ (same_bytes_lem w v).1 (packed-injective w v (word_bytes w h) b q))))
 
 let-bytes : Each NameByte let_word
 unfolding let_word bytes

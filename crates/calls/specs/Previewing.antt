@@ -1,7 +1,8 @@
 -- The tests that come before a preview and a fetch, and laws of both, each with a premise for every call and test on the code's way. That a
 -- fetched part lies within the readings follows from well-formedness. Assumes nothing.
-use Rattle.std.specs.Prelude.{◌≡◌, Bool, true, false, cond, ◌&&◌, ◌||◌, List, ℕ, ◌+◌, ◌-◌, ◌%◌, ◌≤◌, ◌<◌, ltb, leb, eqb, ℤ, length, get_or, take, drop}
-use Rattle.std.proofs.Common.{sym, ap, ◌∙◌, arith, length-take-le}
+use Rattle.std.specs.Prelude.{◌≡◌, Bool, true, false, cond, ◌&&◌, ◌||◌, List, [], ℕ, ◌+◌, ◌-◌, ◌%◌, ◌≤◌, ◌<◌, ltb, leb, eqb, ℤ, length, get_or, take, drop}
+use Rattle.std.proofs.lemmas.Bool.{false≢true}
+use Rattle.std.proofs.Common.{refl, sym, ap, ◌∙◌, arith, length-take-le}
 use Rattle.std.proofs.Math.Bool.{and-eq-true_iff}
 use borrow.Author.Tests.{lt-ltb, le-ltb, leb-true, ltb-true, eqb-true}
 use Rattle.language.specs.Cases.{split}
@@ -21,36 +22,42 @@ use Rattle.layout.specs.Nodes.{number_kind, variable_kind, unbound_kind, functio
 use Rattle.evaluator.specs.Frames.{leaf_of, start_at}
 use Rattle.schedule.specs.declared.View.{View}
 use Rattle.schedule.specs.Works.{Lent, Works, show_of}
-use Rattle.interface.specs.declared.answers.Previewed.TheVariants.{NotYet, Finished, Refused}
+use Rattle.std.specs.Prelude.{Result, Ok, Err, IsErrAnd, is_err}
+use Rattle.std.proofs.lemmas.Result.{err_from_is_err_and}
+use Rattle.language.specs.declared.refusals.Refusal.{Refusal}
+use Rattle.language.specs.declared.refusals.Refusal.TheVariants.{MemoryTooSmall, CacheIllFormed, NoSuchEntry}
+use Rattle.interface.specs.declared.answers.Previewed.{Previewed}
+use Rattle.interface.specs.declared.answers.Previewed.TheVariants.{NotYet, Finished}
 use Rattle.interface.specs.Calls.{previewed, preview_memory, Part, window_in, part_of, fetched}
 use Rattle.interface.proofs.CallsLaws.{part_held, kept-right}
 use Rattle.interface.specs.Effects.{Previews}
 
--- the refusal of a call on entry n, 0 for none
-unfoldable pub refusal : Memory → ℕ → ℕ
-refusal m n = cond (fits m) (cond (well_formed m) (cond (ltb n (entry_count m)) 0 14) 4) 3
+-- whether a call on entry n may go on, or its refusal
+unfoldable pub checked : Memory → ℕ → Result (Unit {0}) Refusal
+checked m n =
+    cond (fits m) (cond (well_formed m) (cond (ltb n (entry_count m)) (Ok tt) (Err NoSuchEntry)) (Err CacheIllFormed)) (Err MemoryTooSmall)
 
 -- each test decides in its turn
 module _ (rs : List ℤ) (heads links cells : List ℕ) (n : ℕ) (f : Bool) (qf : f ≡ fits (memory rs heads links cells)) where
   abbrev here : Memory
   here = memory rs heads links cells
 
-  pub refuses-short : f ≡ false → 3 ≡ refusal here n
-  unfolding refusal
+  pub refuses-short : f ≡ false → Err MemoryTooSmall ≡ checked here n
+  unfolding checked
   refuses-short t = rw (← qf, t)
 
   module _ (t : f ≡ true) (w : Bool) (qw : (xs : List ℤ) → w ≡ well_formed (memory xs heads links cells)) where
-    pub refuses-ill : w ≡ false → 4 ≡ refusal here n
-    unfolding refusal
+    pub refuses-ill : w ≡ false → Err CacheIllFormed ≡ checked here n
+    unfolding checked
     refuses-ill u = rw (← qf, t) (rw (← qw rs, u))
 
     module _ (u : w ≡ true) (k : ℕ) (qk : k ≡ get_or heads 0 0) where
-      pub refuses-none : n < k → 0 ≡ refusal here n
-      unfolding refusal
+      pub refuses-none : n < k → Ok tt ≡ checked here n
+      unfolding checked
       refuses-none h = rw (← qf, t) (rw (← qw rs, u) (rw (← qk, lt-ltb n k h)))
 
-      pub refuses-unheld : k ≤ n → 14 ≡ refusal here n
-      unfolding refusal
+      pub refuses-unheld : k ≤ n → Err NoSuchEntry ≡ checked here n
+      unfolding checked
       refuses-unheld h = rw (← qf, t) (rw (← qw rs, u) (rw (← qk, le-ltb n k h)))
 
 pub ruleset refusals = (refuses-short, refuses-ill, refuses-none, refuses-unheld)
@@ -61,24 +68,24 @@ pub record Accepted (m : Memory) (n : ℕ) : Type 0 where
   pub well : well_formed m ≡ true
   pub held : ltb n (entry_count m) ≡ true
 
-pub accepted : (m : Memory) (n : ℕ) → refusal m n ≡ 0 → Accepted m n
-unfolding refusal
+pub accepted : (m : Memory) (n : ℕ) → checked m n ≡ Ok tt → Accepted m n
+unfolding checked
 accepted m n e =
     split (fits m)
     (λ f. split (well_formed m)
     (λ w. split (ltb n (entry_count m))
     (λ h. record { whole = f; well = w; held = h })
-    (λ h. let z : ◌≡◌ {A = ℕ} 14 0 = rw (f, w, h) at e in absurd (omega arith)))
-    (λ w. let z : ◌≡◌ {A = ℕ} 4 0 = rw (f, w) at e in absurd (omega arith)))
-    (λ f. let z : ◌≡◌ {A = ℕ} 3 0 = rw f at e in absurd (omega arith))
+    (λ h. absurd (false≢true (let z = rw (f, w, h) at e in cc))))
+    (λ w. absurd (false≢true (let z = rw (f, w) at e in cc))))
+    (λ f. absurd (false≢true (let z = rw f at e in cc)))
 
 passes-all : (m : Memory) (n : ℕ) → (fits m && (well_formed m && ltb n (entry_count m))) ≡ true → Accepted m n
 passes-all m n t =
     let u = ((and-eq-true_iff (fits m) _).0 t).1 in
     record { whole = ((and-eq-true_iff _ _).0 t).0; well = ((and-eq-true_iff _ _).0 u).0; held = ((and-eq-true_iff (well_formed m) _).0 u).1 }
 
-none-refused : (m : Memory) (n : ℕ) → Accepted m n → refusal m n ≡ 0
-unfolding refusal
+none-refused : (m : Memory) (n : ℕ) → Accepted m n → checked m n ≡ Ok tt
+unfolding checked
 none-refused m n a = rw (a.whole, a.well, a.held)
 
 -- and the sizes that it may rely on
@@ -101,18 +108,21 @@ sizes m n a =
 
 -- ---- preview
 
-pub preview-refused : (m : Memory) (n a r : ℕ) → r ≡ refusal m n → (r ≡ 0 → ⊥) → Previews m n a m (Refused r)
-unfolding previewed preview_memory refusal
-preview-refused m n a r q u =
-    split (fits m)
+pub preview-refused : (m : Memory) (n a : ℕ) (r : Result (Unit {0}) Refusal) → r ≡ checked m n → (e : Refusal) → r ≡ Err e
+    → (x : Result Previewed Refusal) → IsErrAnd x (λ f. f ≡ e) → Previews m n a m x
+unfolding previewed preview_memory checked
+preview-refused m n a r q e u x w =
+    let y = err_from_is_err_and x w in
+    rw (y.1, y.2) (split (fits m)
     (λ f. split (well_formed m)
     (λ w. split (ltb n (entry_count m))
-    (λ h. absurd (u (q ∙ rw (f, w, h))))
-    (λ h. record { answer = ap Refused q ∙ rw (f, w, h); memory = rw (f, w, h) }))
-    (λ w. record { answer = ap Refused q ∙ rw (f, w); memory = rw (f, w) }))
-    (λ f. record { answer = ap Refused q ∙ rw f; memory = rw f })
+    (λ h. absurd (false≢true (let z = rw (f, w, h) at q in cc)))
+    (λ h. let z : e ≡ NoSuchEntry = (let k = rw (f, w, h) at q in cc) in record { answer = rw (f, w, h) (ap Err z); memory = rw (f, w, h) }))
+    (λ w. let z : e ≡ CacheIllFormed = (let k = rw (f, w) at q in cc) in record { answer = rw (f, w) (ap Err z); memory = rw (f, w) }))
+    (λ f. let z : e ≡ MemoryTooSmall = (let k = rw f at q in cc) in record { answer = rw f (ap Err z); memory = rw f }))
 
-module _ (rs : List ℤ) (heads links cells : List ℕ) (n r : ℕ) (q : r ≡ refusal (memory rs heads links cells) n) (z : r ≡ 0) where
+module _ (rs : List ℤ) (heads links cells : List ℕ) (n : ℕ) (r : Result (Unit {0}) Refusal) (q : r ≡ checked (memory rs heads links cells) n)
+    (done : Unit {0}) (z : r ≡ Ok done) where
   sure : Accepted (memory rs heads links cells) n
   sure = accepted (memory rs heads links cells) n (sym q ∙ z)
 
@@ -130,7 +140,7 @@ module _ (rs : List ℤ) (heads links cells : List ℕ) (n r : ℕ) (q : r ≡ r
     work-lent = record { few = omega (arith, readings-taken, readings-few); room = (sizes (memory rs heads links cells) n sure).room; entry = entry-few }
 
     module _ (a : ℕ) (after : List ℕ) (count : ℕ) (left : Bool) (w : Works (take k rs) links cells n a after count left) where
-      pub preview-left : left ≡ true → Previews (memory rs heads links cells) n a (memory rs heads links after) (NotYet count)
+      pub preview-left : left ≡ true → Previews (memory rs heads links cells) n a (memory rs heads links after) (Ok (NotYet count))
       unfolding previewed preview_memory
       preview-left t =
           record {
@@ -138,11 +148,11 @@ module _ (rs : List ℤ) (heads links cells : List ℕ) (n r : ℕ) (q : r ≡ r
             memory = rw (sure.whole, sure.well, sure.held) (rw (← qk, ← w.same));
           }
 
-      pub preview-done : left ≡ false → (v : View) → v ≡ show_of k links after n → Previews (memory rs heads links cells) n a (memory rs heads links after) (Finished count v)
+      pub preview-done : left ≡ false → (v : View) → v ≡ show_of k links after n → Previews (memory rs heads links cells) n a (memory rs heads links after) (Ok (Finished count v))
       unfolding previewed preview_memory
       preview-done t v e =
           record {
-            answer = rw (sure.whole, sure.well, sure.held) (rw (← qk, ← w.same, t) (ap (Finished count) e));
+            answer = rw (sure.whole, sure.well, sure.held) (rw (← qk, ← w.same, t) (ap (λ u. Ok (Finished count u)) e));
             memory = rw (sure.whole, sure.well, sure.held) (rw (← qk, ← w.same));
           }
 
@@ -150,22 +160,20 @@ pub ruleset previews = (preview-refused, entry-few, readings-taken, work-lent, p
 
 -- ---- fetch
 
+pub goes-on : (r : Result (Unit {0}) Refusal) → is_err r ≡ false → r ≡ Ok tt
+goes-on (Ok done) e = refl
+goes-on (Err f) e = absurd (false≢true (sym e))
+
 -- the start and the length of a part
 pub record Spans (p : Part) (start size : ℕ) : Type 0 where
   pub starts : start ≡ p.start
   pub lasts : size ≡ p.length
 
-pub span-refused : (m : Memory) (n r : ℕ) → r ≡ refusal m n → (r ≡ 0 → ⊥) → Spans (part_of m n) 0 0
+pub span-refused : (m : Memory) (n : ℕ) (r : Result (Unit {0}) Refusal) → r ≡ checked m n → is_err r ≡ true → Spans (part_of m n) 0 0
 span-refused m n r q u =
     rw (part_held m n) (split (fits m && (well_formed m && ltb n (entry_count m)))
-    (λ t. absurd (u (q ∙ none-refused m n (passes-all m n t))))
+    (λ t. absurd (false≢true (let z : is_err r ≡ false = rw (q, none-refused m n (passes-all m n t)) in sym z ∙ u)))
     (λ t. record { starts = rw t; lasts = rw t }))
-
-pub span-shown : (rs : List ℤ) (heads links cells : List ℕ) (n r : ℕ) → r ≡ refusal (memory rs heads links cells) n → r ≡ 0 → (k : ℕ) → k ≡ get_or heads 1 0
-    → (c : ℕ) → c ≡ start_at k links cells n → (v : Value) → v ≡ unpack_of c → (start size : ℕ) → Spans (window_in v) start size → Spans (part_of (memory rs heads links cells) n) start size
-span-shown rs heads links cells n r q z k qk c qc v qv start size s =
-    let a = accepted (memory rs heads links cells) n (sym q ∙ z) in
-    rw (part_held (memory rs heads links cells) n) (rw (a.whole, a.well, a.held) (rw (← qk, ← qc, ← qv) s))
 
 -- the part lies within the readings: of a leaf, since the recording is one window, and of another entry, since what is kept is right
 window-within : (k : ℕ) (v : Value) → Inside k v → (window_in v).start + (window_in v).length ≤ k
@@ -221,3 +229,11 @@ module _ (m : Memory) (n start size : ℕ) (s : Spans (part_of m n) start size) 
 
   pub fetch-is : take (start + size - start) (drop start m.readings) ≡ fetched m n
   fetch-is = let z : start + size - start ≡ size = omega arith in rw (z, s.starts, s.lasts)
+
+-- of a call that is not refused, the part that the entry's value is as it starts out
+pub span-shown : (rs : List ℤ) (heads links cells : List ℕ) (n : ℕ) (r : Result (Unit {0}) Refusal) → r ≡ checked (memory rs heads links cells) n
+    → is_err r ≡ false → (k : ℕ) → k ≡ get_or heads 1 0 → (c : ℕ) → c ≡ start_at k links cells n → (v : Value) → v ≡ unpack_of c
+    → (start size : ℕ) → Spans (window_in v) start size → Spans (part_of (memory rs heads links cells) n) start size
+span-shown rs heads links cells n r q u k qk c qc v qv start size s =
+    let a = accepted (memory rs heads links cells) n (sym q ∙ goes-on r u) in
+    rw (part_held (memory rs heads links cells) n) (rw (a.whole, a.well, a.held) (rw (← qk, ← qc, ← qv) s))

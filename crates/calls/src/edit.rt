@@ -11,7 +11,8 @@ use crate::lent::fits;
 use binder::commit::{commit, write_places};
 use interface::answers::Edited;
 use language::limits::Text;
-use layout::cells::at32;
+use language::refusals::{Refusal, Refused};
+use layout::cells::get_or;
 use layout::nodes::TEXT_WORDS;
 use planner::plan::plan_edit;
 use table::check::well_formed;
@@ -23,16 +24,16 @@ fn edit_checked(
     heads: &mut [u32],
     links: &mut [u16],
     cells: &mut [u64],
-) -> Edited
+) -> Result<Edited, Refused>
     requires whole { Whole heads.old links.old cells.old × (text_parts ≤ length places.old) }
-    requires cells_value { (readings : List ℤ) → well_formed (memory readings heads.old links.old cells.old) ≡ true }
+    requires is_well_formed { (readings : List ℤ) → well_formed (memory readings heads.old links.old cells.old) ≡ true }
     ensures { (readings : List ℤ) → EditsRead
         (memory readings heads.old links.old cells.old)
         places.old text.now
         (memory readings heads.new links.new cells.new)
         places.new result }
 {
-    let count = at32(heads, 0) as u16;
+    let count = get_or(heads, 0, 0) as u16;
     let mut parts = [0u16; Text::PARTS];
     let mut numbers = [0u16; Text::PARTS];
     let mut fresh = [0u64; TEXT_WORDS];
@@ -44,21 +45,14 @@ fn edit_checked(
         &mut parts,
         &mut numbers,
         &mut fresh,
-    );
-    if p.number == 0 {
-        commit(heads, links, cells, &fresh, count, p.total);
-        write_places(places, &parts, p.parts, &numbers);
-        Edited::Done {
-            whole: p.whole,
-            parts: p.parts,
-            added: p.total - count,
-        }
-    } else {
-        Edited::Refused {
-            number: p.number,
-            place: p.place,
-        }
-    }
+    )?;
+    commit(heads, links, cells, &fresh, count, p.total);
+    write_places(places, &parts, p.parts, &numbers);
+    Ok(Edited {
+        whole: p.whole,
+        parts: p.parts,
+        added: p.total - count,
+    })
 }
 
 // 01, "When a call is declined": 1, 3 and 4, then what the text is refused for.
@@ -69,7 +63,7 @@ pub fn edit(
     heads: &mut [u32],
     links: &mut [u16],
     cells: &mut [u64],
-) -> Edited
+) -> Result<Edited, Refused>
     ensures { Edits
         (memory readings.now heads.old links.old cells.old)
         places.old text.now
@@ -77,24 +71,13 @@ pub fn edit(
         places.new result }
 {
     if Text::BYTES < text.len() {
-        return Edited::Refused {
-            number: 1,
-            place: 0,
-        };
+        return Err(Refusal::TextTooLong.into());
     }
-    if fits(readings, heads, links, cells) {
-        if Text::PARTS <= places.len() {
-            if well_formed(heads, links, cells) {
-                return edit_checked(text, places, heads, links, cells);
-            }
-            return Edited::Refused {
-                number: 4,
-                place: 0,
-            };
-        }
+    if !fits(readings, heads, links, cells) || places.len() < Text::PARTS {
+        return Err(Refusal::MemoryTooSmall.into());
     }
-    Edited::Refused {
-        number: 3,
-        place: 0,
+    if !well_formed(heads, links, cells) {
+        return Err(Refusal::CacheIllFormed.into());
     }
+    edit_checked(text, places, heads, links, cells)
 }

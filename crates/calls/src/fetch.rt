@@ -4,9 +4,9 @@ ghost use Rattle.layout.specs.Memory.{memory};
 ghost use Rattle.interface.specs.Calls.{window_in, part_of, fetched};
 ghost use Rattle.calls.specs.Previewing.{Spans};
 
-use crate::lent::refusal;
+use crate::lent::check;
 use evaluator::frames::start_at;
-use layout::cells::at32;
+use layout::cells::get_or;
 use rules::Value;
 use values::packing::unpack;
 
@@ -26,19 +26,7 @@ fn window_in(v: Value) -> Span
             start: start as usize,
             length: length as usize,
         },
-        Value::Number(_) => Span {
-            start: 0,
-            length: 0,
-        },
-        Value::Function => Span {
-            start: 0,
-            length: 0,
-        },
-        Value::Delayed => Span {
-            start: 0,
-            length: 0,
-        },
-        Value::Missing(_) => Span {
+        Value::Number(_) | Value::Function | Value::Delayed | Value::Missing(_) => Span {
             start: 0,
             length: 0,
         },
@@ -49,14 +37,14 @@ fn window_in(v: Value) -> Span
 fn span_of(entry: u32, readings: &[i32], heads: &[u32], links: &[u16], cells: &[u64]) -> Span
     ensures { Spans (part_of (memory readings.now heads.now links.now cells.now) entry) result.start result.length }
 {
-    if refusal(entry, readings, heads, links, cells) == 0 {
-        let size = at32(heads, 1) as u16;
-        return window_in(unpack(start_at(size, links, cells, entry as usize)));
+    if check(entry, readings, heads, links, cells).is_err() {
+        return Span {
+            start: 0,
+            length: 0,
+        };
     }
-    Span {
-        start: 0,
-        length: 0,
-    }
+    let size = get_or(heads, 1, 0) as u16;
+    window_in(unpack(start_at(size, links, cells, entry as usize)))
 }
 
 // The shown window's readings, no copy; of a call that is refused, or an entry that shows no window, none.

@@ -4,18 +4,17 @@ ghost use Rattle.layout.specs.Memory.{memory};
 ghost use Rattle.interface.specs.Effects.{Opens};
 
 use crate::lent::fits;
-use interface::answers::Opened;
 use language::limits::Table;
+use language::refusals::Refusal;
 
-// The recording at the front of the readings; those behind it keep their contents.
+// The recording at the front of the readings; those behind it keep their contents. The library may need memcpy and memset alone, and
+// copy_from_slice would need memmove here.
 fn copy(recording: &[i32], readings: &mut [i32])
     requires { length recording.now ≤ length readings.old }
     ensures { readings.new ≡ recording.now ++ drop (length recording.now) readings.old }
 {
-    let mut i: usize = 0;
-    while i < recording.len() {
+    for i in 0..recording.len() {
         readings[i] = recording[i];
-        i += 1;
     }
 }
 
@@ -26,7 +25,7 @@ pub fn open(
     heads: &mut [u32],
     links: &[u16],
     cells: &[u64],
-) -> Opened
+) -> Result<(), Refusal>
     ensures { Opens
         (memory readings.old heads.old links.now cells.now)
         recording.now
@@ -34,13 +33,13 @@ pub fn open(
 {
     let n = recording.len();
     if Table::READINGS < n {
-        return Opened::Refused { number: 2 };
+        return Err(Refusal::RecordingTooLong);
     }
-    if fits(readings, heads, links, cells) {
-        copy(recording, readings);
-        heads[0] = 0;
-        heads[1] = n as u32;
-        return Opened::Done;
+    if !fits(readings, heads, links, cells) {
+        return Err(Refusal::MemoryTooSmall);
     }
-    Opened::Refused { number: 3 }
+    copy(recording, readings);
+    heads[0] = 0;
+    heads[1] = n as u32;
+    Ok(())
 }

@@ -2,12 +2,14 @@
 ghost use Rattle.layout.specs.Memory.{memory};
 ghost use Rattle.interface.specs.Effects.{Previews};
 
-use crate::lent::refusal;
+use crate::lent::check;
 use interface::answers::Previewed;
-use layout::cells::at32;
+use language::refusals::Refusal;
+use layout::cells::get_or;
 use scheduler::works::{show, work};
 
 // How many entries the call worked out, and with none left what the entry shows; or the refusal, and then no cell changes.
+#[tactic(auto, using(crate::specs::Previewing::previews))]
 pub fn preview(
     entry: u32,
     allowance: u32,
@@ -15,24 +17,21 @@ pub fn preview(
     heads: &[u32],
     links: &[u16],
     cells: &mut [u64],
-) -> Previewed
+) -> Result<Previewed, Refusal>
     ensures { Previews
         (memory readings.now heads.now links.now cells.old)
         entry allowance
         (memory readings.now heads.now links.now cells.new) result }
 {
-    let refused = refusal(entry, readings, heads, links, cells);
-    if refused == 0 {
-        let n = entry as usize;
-        let size = at32(heads, 1) as usize;
-        let done = work(&readings[..size], links, cells, n, allowance);
-        if done.left {
-            return Previewed::NotYet { worked: done.count };
-        }
-        return Previewed::Finished {
-            worked: done.count,
-            shown: show(size as u16, links, cells, n),
-        };
+    check(entry, readings, heads, links, cells)?;
+    let n = entry as usize;
+    let size = get_or(heads, 1, 0) as usize;
+    let done = work(&readings[..size], links, cells, n, allowance);
+    if done.left {
+        return Ok(Previewed::NotYet { worked: done.count });
     }
-    Previewed::Refused { number: refused }
+    Ok(Previewed::Finished {
+        worked: done.count,
+        shown: show(size as u16, links, cells, n),
+    })
 }

@@ -1,5 +1,8 @@
 -- The columns of a chunk, one entry after another. An entry's cell in row r is what the entry comes to in the frame of row r, since what it
 -- depends on stands in columns before it, or in the frame. Assumes nothing.
+use Rattle.std.specs.Prelude.{Option}
+use Rattle.std.proofs.lemmas.Bool.{false≢true, cond_both}
+use Rattle.members.specs.declared.Member.{Member}
 use mathlib.Core.Path.{◌≡◌, refl, sym, ap, ◌∙◌}
 use mathlib.Core.Bool.{Bool, true, false, cond, ◌&&◌, and-eq-true_iff}
 use mathlib.Core.List.{List, ◌∷◌}
@@ -11,11 +14,10 @@ use borrow.Author.Rules.{rules}
 use borrow.Author.Tests.{ltb-true, leb-true, leb-false, lt-ltb, le-ltb, le-leb, lt-leb, eqb-true, eqb-false}
 use lib.Dec.{leb, ltb, eqb}
 use lib.IntN.{ℤ}
-use lib.ListN.{length, get_or, set, drop, length-set, length-drop, drop_of_length-le}
-use lib.Seq.{drop-cons, get_or-drop, get_or-set_same, get_or-set_other}
-use Rattle.language.specs.Cases.{impossible, split, by_cond, either}
+use lib.ListN.{length, get_or, set, drop, length-set, drop_of_length-le}
+use lib.Seq.{drop-cons, get_or-set_same, get_or-set_other}
+use Rattle.language.specs.Cases.{split, either}
 use Rattle.language.specs.Limits.{table_entries}
-use Rattle.members.specs.declared.Found.{Found}
 use Rattle.layout.specs.Nodes.{member_of_kind}
 use Rattle.layout.specs.Links.{kind_at, first_at, second_at, is_below}
 use Rattle.columns.specs.declared.loops.Operand.{Operand}
@@ -121,10 +123,10 @@ module _ (links frame : List ℕ) (j a b : ℕ) (p : a ≡ first_at links j) (q 
         size = length-set before 0 x;
         kept = λ n l. get_or-set_other before 0 n x 0 (λ e. omega arith);
         first = get_or-set_same before 0 x 0 (omega arith) ∙ rw p;
-        second = λ o. impossible (sym h ∙ s ∙ rw q o);
+        second = λ o. absurd (false≢true (sym h ∙ s ∙ rw q o));
       }
 
-cell_same : (f : Found) (xs : List ℤ) (two : Bool) (a a' b b' : ℕ) → a ≡ a' → (two ≡ true → b ≡ b') → cell_of f xs two a b ≡ cell_of f xs two a' b'
+cell_same : (f : Option Member) (xs : List ℤ) (two : Bool) (a a' b b' : ℕ) → a ≡ a' → (two ≡ true → b ≡ b') → cell_of f xs two a b ≡ cell_of f xs two a' b'
 unfolding cell_of
 cell_same f xs true a a' b b' e o = rw (e, o refl)
 cell_same f xs false a a' b b' e o = rw e
@@ -136,7 +138,7 @@ module _ (links map frame : List ℕ) (width c m j : ℕ) (before buf : List ℕ
       rw e (record {
         first = λ r. place-low width 0 m _ fits.receiver c r (omega arith) fits.wide;
         second = λ r. place-low width 1 m _
-            (by_cond (λ (d : ℕ). is_there d m ≡ true) (is_below (second_at links j) j) _ _ fits.argument (λ z. fits.receiver)) c r (omega arith) fits.wide;
+            (cond_both (is_below (second_at links j) j) _ _ (λ (d : ℕ). is_there d m ≡ true) fits.argument (λ z. fits.receiver)) c r (omega arith) fits.wide;
         room = omega (arith, fits.room, fits.wide, front.size);
         few = omega (arith, fits.few, front.size);
       })
@@ -168,28 +170,24 @@ pub record Shown (width m n r : ℕ) (buf : List ℕ) (x y : ℕ) : Type 0 where
   pub column : 2 ≤ m → m < n → y ≡ get_or buf (column_at width m + r) 0
 
 -- the frame of row r: what is left of the list, from place k on, gives from it what the whole list gives
-pub record Mid (go : Go) (body : ℕ) (list : List ℕ) (at v x k : ℕ) (map frame : List ℕ) (width n r : ℕ) (buf other : List ℕ) : Type 0 where
+pub record Mid (go : Go) (body : ℕ) (list : List ℕ) (v x k : ℕ) (map frame : List ℕ) (width n r : ℕ) (buf other : List ℕ) : Type 0 where
   pub now : List ℕ
   pub size : length now ≡ table_entries
-  pub same : set_of go (body + 1) (drop at list) v x other ≡ fill_of go (body + 1) (drop k list) now
+  pub same : set_of go (body + 1) list v x other ≡ fill_of go (body + 1) (drop k list) now
   pub shown : (d : ℕ) → Shown width (get_or map d 0) n r buf (get_or frame d 0) (get_or now d 0)
 
-pub record Fill (links : List ℕ) (xs : List ℤ) (list : List ℕ) (at v body : ℕ) (map frame : List ℕ) (width c : ℕ) (before buf : List ℕ) (m k : ℕ) : Type 0 where
-  pub from : at ≤ k
-  pub mark : m ≡ k - at + 3
+pub record Fill (links : List ℕ) (xs : List ℤ) (list : List ℕ) (v body : ℕ) (map frame : List ℕ) (width c : ℕ) (before buf : List ℕ) (m k : ℕ) : Type 0 where
+  pub mark : m ≡ k + 3
   pub size : length buf ≡ length before
-  pub row : (r : ℕ) → r < c → (other : List ℕ) → Agrees map frame other → Mid (plain_of links xs) body list at v (get_or before (2 + r) 0) k map frame width m r buf other
+  pub row : (r : ℕ) → r < c → (other : List ℕ) → Agrees map frame other → Mid (plain_of links xs) body list v (get_or before (2 + r) 0) k map frame width m r buf other
 
 module _ (map frame now buf : List ℕ) (width n d r : ℕ) where
   shown-standing : is_there (get_or map d 0) n ≡ true → Shown width (get_or map d 0) n r buf (get_or frame d 0) (get_or now d 0) → get_or now d 0 ≡ standing map frame width buf d r
   shown-standing e s = there (get_or map d 0) n e (λ z. rw z (s.constant z)) (λ k l. rw (le-ltb (get_or map d 0) 2 k) (s.column k l))
 
-module _ (links : List ℕ) (xs : List ℤ) (list : List ℕ) (at v body : ℕ) (map frame : List ℕ) (width c : ℕ) (before : List ℕ) (asks : Chunks links list at v body map width c before) where
-  maps : Mapped links (drop at list) v body map
-  maps = mapped links (drop at list) v body map asks.fitted
-
-  rest : length (drop at list) ≡ table_entries - at
-  rest = length-drop at list ∙ ap (λ (n : ℕ). n - at) asks.size
+module _ (links : List ℕ) (xs : List ℤ) (list : List ℕ) (v body : ℕ) (map frame : List ℕ) (width c : ℕ) (before : List ℕ) (asks : Chunks links list v body map width c before) where
+  maps : Mapped links list v body map
+  maps = mapped links list v body map asks.fitted
 
   bound-is : (other : List ℕ) (x : ℕ) → bound other v x ≡ set other (v - 1) x
   unfolding bound
@@ -206,29 +204,27 @@ module _ (links : List ℕ) (xs : List ℤ) (list : List ℕ) (at v body : ℕ) 
         rw (own, s) (get_or-set_same other (v - 1) (get_or before (2 + r) 0) 0 (omega (arith, a.size, asks.fitted.some, asks.fitted.few)) ∙ ap (λ (i : ℕ). get_or before i 0) n);
   }
 
-  pub fill-begin : Fill links xs list at v body map frame width c before before 3 at
+  pub fill-begin : Fill links xs list v body map frame width c before before 3 0
   fill-begin = record {
-    from = omega arith;
-    mark = omega arith;
+    mark = refl;
     size = refl;
     row = λ r l other a. record {
       now = set other (v - 1) (get_or before (2 + r) 0);
       size = length-set other (v - 1) (get_or before (2 + r) 0) ∙ a.size;
-      same = ap (fill_of (plain_of links xs) (body + 1) (drop at list)) (bound-is other (get_or before (2 + r) 0));
+      same = ap (fill_of (plain_of links xs) (body + 1) list) (bound-is other (get_or before (2 + r) 0));
       shown = shown-begin other a r;
     };
   }
 
-  module _ (buf : List ℕ) (m k : ℕ) (fill : Fill links xs list at v body map frame width c before buf m k) where
-    pub fill-few : k < table_entries → m ≤ 128
-    fill-few h = omega (arith, fill.from, fill.mark, asks.fitted.short, rest)
+  module _ (buf : List ℕ) (m k : ℕ) (fill : Fill links xs list v body map frame width c before buf m k) where
+    pub fill-few : k < length list → m ≤ 128
+    fill-few h = omega (arith, fill.mark, asks.fitted.short)
 
-    module _ (h : k < table_entries) where
+    module _ (h : k < length list) where
       fit : Fit links map body m (get_or list k 0)
       fit =
-          let i : at + (k - at) ≡ k = omega (arith, fill.from) in
-          let n : k - at + 3 ≡ m = sym fill.mark in
-          rw (n, get_or-drop at list (k - at) 0, i) at (maps.entry (k - at) (omega (arith, fill.from, rest)))
+          let n : k + 3 ≡ m = sym fill.mark in
+          rw n at (maps.entry k h)
 
       pub fill-fits : Fits links map width c m (get_or list k 0) buf
       fill-fits = record {
@@ -242,11 +238,10 @@ module _ (links : List ℕ) (xs : List ℤ) (list : List ℕ) (at v body : ℕ) 
             omega (
               arith,
               fill.mark,
-              fill.from,
               fill.size,
               asks.room,
               suc-mul (m - 2) width,
-              mul-le-mul_right {m = suc (m - 2)} {n = table_entries - at + 1} width (omega (arith, fill.mark, fill.from)),
+              mul-le-mul_right {m = suc (m - 2)} {n = length list + 1} width (omega (arith, fill.mark)),
             );
         few = omega (arith, fill.size, asks.few);
       }
@@ -265,8 +260,8 @@ module _ (links : List ℕ) (xs : List ℤ) (list : List ℕ) (at v body : ℕ) 
         -- only entry k has the mark m
         mark-only : (d : ℕ) → get_or map d 0 ≡ m → d ≡ get_or list k 0
         mark-only d e =
-            let i : at + (get_or map d 0 - 3) ≡ k = omega (arith, e, fill.mark, fill.from) in
-            sym (maps.only d (omega (arith, e, fill.mark))) ∙ get_or-drop at list (get_or map d 0 - 3) 0 ∙ ap (λ (n : ℕ). get_or list n 0) i
+            let i : get_or map d 0 - 3 ≡ k = omega (arith, e, fill.mark) in
+            sym (maps.only d (omega (arith, e, fill.mark))) ∙ ap (λ (n : ℕ). get_or list n 0) i
 
         shown-again : (r : ℕ) → r < c → (now : List ℕ) → length now ≡ table_entries → ((d : ℕ) → Shown width (get_or map d 0) m r buf (get_or frame d 0) (get_or now d 0)) → (d : ℕ)
             → Shown width (get_or map d 0) (m + 1) r after (get_or frame d 0) (get_or (set now (get_or list k 0) (get_or after (column_at width m + r) 0)) d 0)
@@ -291,17 +286,16 @@ module _ (links : List ℕ) (xs : List ℤ) (list : List ℕ) (at v body : ℕ) 
                   same ∙ (shown d).column p q' ∙ sym (work.kept (column_at width (get_or map d 0) + r) (omega arith) (omega (arith, column-before width (get_or map d 0) m p q', asks.wide)));
             })
 
-        pub fill-again : Fill links xs list at v body map frame width c before after (m + 1) (k + 1)
+        more : Fill links xs list v body map frame width c before after (m + 1) (k + 1)
         unfolding fill_of
-        fill-again = record {
-          from = omega (arith, fill.from);
-          mark = omega (arith, fill.from, fill.mark);
+        more = record {
+          mark = omega (arith, fill.mark);
           size = work.size ∙ fill.size;
           row = λ r l other a.
-              let mid : Mid (plain_of links xs) body list at v (get_or before (2 + r) 0) k map frame width m r buf other = fill.row r l other a in
+              let mid : Mid (plain_of links xs) body list v (get_or before (2 + r) 0) k map frame width m r buf other = fill.row r l other a in
               let j : ℕ = get_or list k 0 in
               let cell : ℕ = get_or after (column_at width m + r) 0 in
-              let q : drop k list ≡ j ∷ drop (k + 1) list = rw add-one (drop-cons list k 0 (omega (arith, asks.size))) in
+              let q : drop k list ≡ j ∷ drop (k + 1) list = rw add-one (drop-cons list k 0 h) in
               record {
                 now = set mid.now j cell;
                 size = length-set mid.now j cell ∙ mid.size;
@@ -311,19 +305,26 @@ module _ (links : List ℕ) (xs : List ℤ) (list : List ℕ) (at v body : ℕ) 
               };
         }
 
-    pub fill_end : table_entries ≤ k → Chunked links xs (drop at list) v body map frame width c before buf
+        pub fill-again : Fill links xs list v body map frame width c before after (k + 1 + 3) (k + 1)
+        fill-again =
+            let n : m + 1 ≡ k + 1 + 3 = omega (arith, fill.mark) in
+            rw n at more
+
+    pub fill_end : length list ≤ k → Chunked links xs list v body map frame width c before buf
     unfolding fill_of
     fill_end h = record {
       size = fill.size;
       row = λ r l other a.
-          let mid : Mid (plain_of links xs) body list at v (get_or before (2 + r) 0) k map frame width m r buf other = fill.row r l other a in
-          let same : set_of (plain_of links xs) (body + 1) (drop at list) v (get_or before (2 + r) 0) other ≡ mid.now =
-          mid.same ∙ ap (λ (js : List ℕ). fill_of (plain_of links xs) (body + 1) js mid.now) (drop_of_length-le list {i = k} (omega (arith, asks.size))) in
+          let mid : Mid (plain_of links xs) body list v (get_or before (2 + r) 0) k map frame width m r buf other = fill.row r l other a in
+          let same : set_of (plain_of links xs) (body + 1) list v (get_or before (2 + r) 0) other ≡ mid.now =
+          mid.same ∙ ap (λ (js : List ℕ). fill_of (plain_of links xs) (body + 1) js mid.now) (drop_of_length-le list {i = k} h) in
           let low : get_or map body 0 < m = split (leb 3 (get_or map body 0))
-          (λ e. omega (arith, maps.few body (leb-true 3 (get_or map body 0) e), rest, fill.mark, asks.within))
+          (λ e. omega (arith, maps.few body (leb-true 3 (get_or map body 0) e), fill.mark))
           (λ e. omega (arith, leb-false 3 (get_or map body 0) e, fill.mark)) in
           record {
             value = ap (λ (f : List ℕ). get_or f body 0) same ∙ (mid.shown body).column maps.body-there low;
             agrees = record { size = ap length same ∙ mid.size; same = λ d z. ap (λ (f : List ℕ). get_or f d 0) same ∙ (mid.shown d).constant z };
           };
     }
+
+pub ruleset filling = (linking, product-few, operand-constant, operand-column, fill-begin, fill-few, fill-fits, fill-again, fill_end)

@@ -1,4 +1,3 @@
 pub mod Fits
-pub mod Readings
 pub mod Filling
 pub mod Turning

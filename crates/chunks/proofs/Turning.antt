@@ -1,17 +1,18 @@
 -- The turns of runs by columns: a chunk of readings is read, its rows are worked out, and their results are tallied. The tally is that of the
 -- runs reading by reading, since each row gives what its run does, from any frame that has the same constants. Assumes nothing.
 use mathlib.Core.Path.{◌≡◌, refl, sym, ap, ◌∙◌}
-use mathlib.Core.Bool.{Bool, true, false, cond, ◌&&◌, and-eq-true_iff}
+use mathlib.Core.Bool.{Bool, true, false, cond, and-false}
 use mathlib.Core.List.{List, ◌∷◌}
 use Prim.Native.Nat.{ℕ, zero, suc, ◌+◌, ◌-◌, ◌*◌, ◌/◌, ◌≤◌, ◌<◌}
 use native.Mathlib.Nat.{mul-div-le, div-le_self, le-div_iff_mul-le, mul-le-mul_right, add-mul}
 use native.Mathlib.Numerals.{add-one}
 use native.Mathlib.Omega.{arith}
 use borrow.Author.Count.{below_more}
+use borrow.Author.Rules.{rules}
 use borrow.Author.Tests.{leb-true, leb-false, le-leb, lt-leb}
 use lib.Dec.{leb}
 use lib.IntN.{ℤ, pos}
-use lib.ListN.{length, get_or, set, drop, length-set, length-drop, length-take, drop_of_length-le}
+use lib.ListN.{length, get_or, set, drop, length-set, length-take, take, drop_of_length-le}
 use lib.Seq.{drop-cons, get_or-take, get_or-drop, get_or-set_same, get_or-set_other}
 use Rattle.language.specs.Limits.{table_entries}
 use Rattle.language.specs.Cases.{split}
@@ -28,9 +29,6 @@ use Rattle.chunks.specs.FittingLaws.{Mapped, mapped, plain}
 
 -- ---- the readings of a chunk
 
-pub read-begin : {xs : List ℤ} {from : ℕ} {buf : List ℕ} → Read xs from 0 buf buf
-read-begin = record { size = refl; cell = λ r l. absurd (omega arith) }
-
 module _ {xs : List ℤ} {from r : ℕ} {before buf : List ℕ} (so : Read xs from r before buf) where
   pub read_again : {v : ℕ} → 2 + r < length before → v ≡ pack_of (Number (get_or xs (from + r) (pos 0))) → Read xs from (r + 1) before (set buf (2 + r) v)
   read_again {v} h e = record {
@@ -46,85 +44,75 @@ module _ {xs : List ℤ} {from r : ℕ} {before buf : List ℕ} (so : Read xs fr
 -- ---- the results of a chunk
 
 -- the results before row i: what is left of them gives the same tally
-pub record Taking (buf : List ℕ) (at n : ℕ) (t u : Tally) (i : ℕ) : Type 0 where
-  pub most : i ≤ n
-  pub same : tallied_of buf n at t ≡ tallied_of buf (n - i) (at + i) u
+pub record Taking (cells : List ℕ) (t u : Tally) (i : ℕ) : Type 0 where
+  pub same : tallied_of cells t ≡ tallied_of (drop i cells) u
   pub bound : (k : ℕ) → Within k t → Within (k + i) u
 
-pub taking-begin : {buf : List ℕ} {at n : ℕ} {t : Tally} → Taking buf at n t t 0
-taking-begin {buf} {at} {n} {t} =
-    let a : at ≡ at + 0 = omega arith in
-    let e : n ≡ n - 0 = omega arith in
-    record { most = omega arith; same = λ i. tallied_of buf (e i) (a i) t; bound = λ k w. within_more k (k + 0) t (omega arith) w }
+pub taking-begin : (cells : List ℕ) (t : Tally) → Taking cells t t 0
+taking-begin cells t = record { same = refl; bound = λ k w. within_more k (k + 0) t (omega arith) w }
 
-module _ {buf : List ℕ} {at n : ℕ} {t u : Tally} {i : ℕ} (so : Taking buf at n t u i) where
-  pub taking-asks : i < n → n ≤ table_entries → Within (65535 - n) t → Within 65534 u
-  taking-asks h l w = within_more (65535 - n + i) 65534 u (omega arith) (so.bound (65535 - n) w)
+module _ {cells : List ℕ} {t u : Tally} {i : ℕ} (so : Taking cells t u i) where
+  pub taking-asks : i < length cells → length cells ≤ table_entries → Within (65535 - length cells) t → Within 65534 u
+  taking-asks h l w = within_more (65535 - length cells + i) 65534 u (omega arith) (so.bound (65535 - length cells) w)
 
-  module _ (h : i < n) {r : Tally} (y : Tallied u (get_or buf (at + i) 0) r) where
-    turned : tallied_of buf n at t ≡ cond r.stopped r (tallied_of buf (n - (i + 1)) (at + (i + 1)) r)
+  module _ (h : i < length cells) {r : Tally} (y : Tallied u (get_or cells i 0) r) where
+    turned : tallied_of cells t ≡ cond r.stopped r (tallied_of (drop (i + 1) cells) r)
     unfolding tallied_of
     turned =
-        let e : n - i ≡ suc (n - (i + 1)) = omega arith in
-        let a : suc (at + i) ≡ at + (i + 1) = omega arith in
-        so.same ∙ rw (e, ← y.same, a)
+        let q : drop i cells ≡ get_or cells i 0 ∷ drop (i + 1) cells = rw add-one (drop-cons cells i 0 h) in
+        so.same ∙ ap (λ (cs : List ℕ). tallied_of cs u) q ∙ rw (← y.same)
 
     more : (k m : ℕ) → k + i + 1 ≤ m → Within k t → Within m r
     more k m l w = within_more (k + i + 1) m r l (y.bound (k + i) (so.bound k w))
 
-    pub taking-stop : r.stopped ≡ true → Takes buf at n t r
-    taking-stop d = record { same = sym (turned ∙ rw d); bound = λ k w. more k (k + n) (omega arith) w }
+    pub taking-stop : r.stopped ≡ true → Takes cells t r
+    taking-stop d = record { same = sym (turned ∙ rw d); bound = λ k w. more k (k + length cells) (omega arith) w }
 
-    pub taking-again : r.stopped ≡ false → Taking buf at n t r (i + 1)
-    taking-again d = record { most = omega arith; same = turned ∙ rw d; bound = λ k w. more k (k + (i + 1)) (omega arith) w }
+    pub taking-again : r.stopped ≡ false → Taking cells t r (i + 1)
+    taking-again d = record { same = turned ∙ rw d; bound = λ k w. more k (k + (i + 1)) (omega arith) w }
 
-  pub taking-end : n ≤ i → Takes buf at n t u
+  pub taking-end : length cells ≤ i → i ≤ length cells → Takes cells t u
   unfolding tallied_of
-  taking-end h =
-      let e : n - i ≡ 0 = omega arith in
-      record { same = sym (so.same ∙ rw e); bound = λ k w. within_more (k + i) (k + n) u (omega (arith, so.most)) (so.bound k w) }
+  taking-end h l = record {
+    same = sym (so.same ∙ ap (λ (cs : List ℕ). tallied_of cs u) (drop_of_length-le cells {i = i} h));
+    bound = λ k w. within_more (k + i) (k + length cells) u (omega arith) (so.bound k w);
+  }
 
 -- ---- how wide a column is
 
 -- what a width asks: some rows, and room for a column for the variable and one for each entry
-pub record Wide (at width : ℕ) : Type 0 where
+pub record Wide (size width : ℕ) : Type 0 where
   pub some : 1 ≤ width
   pub few : width ≤ table_entries
-  pub room : 2 + (table_entries - at + 1) * width ≤ table_entries
+  pub room : 2 + (size + 1) * width ≤ table_entries
 
-wide_enough : (list : List ℕ) (at n : ℕ) → length list ≡ table_entries → at ≤ table_entries → length (drop at list) ≤ most_columns → n ≡ table_entries
-    → Wide at ((n - 2) / (table_entries + 1 - at))
-wide_enough list at n size within short e =
-    let l : length (drop at list) ≡ length list - at = length-drop at list in
-    let d : table_entries - at + 1 ≡ table_entries + 1 - at = omega arith in
-    let few : table_entries + 1 - at ≤ 127 = omega arith in
-    record {
-      some = (le-div_iff_mul-le {k = table_entries + 1 - at} {x = 1} {y = n - 2} (omega arith)).1 (omega arith);
-      few = omega (arith, div-le_self (n - 2) (table_entries + 1 - at));
-      room = rw d (omega (arith, mul-div-le (n - 2) (table_entries + 1 - at)));
-    }
+wide_enough : (size : ℕ) → size ≤ most_columns → Wide size ((table_entries - 2) / (size + 1))
+wide_enough size short = record {
+  some = (le-div_iff_mul-le {k = size + 1} {x = 1} {y = table_entries - 2} (omega arith)).1 (omega arith);
+  few = omega (arith, div-le_self (table_entries - 2) (size + 1));
+  room = omega (arith, mul-div-le (table_entries - 2) (size + 1));
+}
 
 -- a column lies within the buffer
-column-room : (at width m : ℕ) → Wide at width → m - 2 ≤ table_entries - at → column_at width m + width ≤ table_entries
-column-room at width m w h = omega (arith, w.room, mul-le-mul_right {m = m - 2 + 1} {n = table_entries - at + 1} width (omega arith), add-mul (m - 2) 1 width)
+column-room : (size width m : ℕ) → Wide size width → m - 2 ≤ size → column_at width m + width ≤ table_entries
+column-room size width m w h = omega (arith, w.room, mul-le-mul_right {m = m - 2 + 1} {n = size + 1} width (omega arith), add-mul (m - 2) 1 width)
 
 -- that of the body does
-body-room : (links list : List ℕ) (at v body : ℕ) (map : List ℕ) (width : ℕ) → length list ≡ table_entries → Fitted links (drop at list) v body map → Wide at width
+body-room : (links list : List ℕ) (v body : ℕ) (map : List ℕ) (width : ℕ) → Fitted links list v body map → Wide (length list) width
     → column_at width (get_or map body 0) + width ≤ table_entries
-body-room links list at v body map width size f w =
-    let q : Mapped links (drop at list) v body map = mapped links (drop at list) v body map f in
-    let l : length (drop at list) ≡ length list - at = length-drop at list in
-    column-room at width (get_or map body 0) w
+body-room links list v body map width f w =
+    let q : Mapped links list v body map = mapped links list v body map f in
+    column-room (length list) width (get_or map body 0) w
     (split (leb 3 (get_or map body 0))
     (λ e. omega (arith, q.few body (leb-true 3 (get_or map body 0) e), leb-true 3 (get_or map body 0) e))
     (λ e. omega (arith, leb-false 3 (get_or map body 0) e)))
 
 -- what the place of the body's column asks
-pub place-asks : {links list : List ℕ} {at v body : ℕ} {map buf : List ℕ} {n width : ℕ} → Columns links list at v body map buf → n ≡ table_entries
-    → width ≡ (n - 2) / (table_entries + 1 - at) → (2 ≤ get_or map body 0) × (width ≤ table_entries)
-place-asks {links} {list} {at} {v} {body} {map} {buf} {n} {width} q h w = (
-  (mapped links (drop at list) v body map q.fitted).body-there,
-  rw w (wide_enough list at n q.size q.within q.fitted.short h).few,
+pub place-asks : {links list : List ℕ} {v body : ℕ} {map buf : List ℕ} {width : ℕ} → Columns links list v body map buf → width ≡ (table_entries - 2) / (length list + 1)
+    → (2 ≤ get_or map body 0) × (width ≤ table_entries)
+place-asks {links} {list} {v} {body} {map} {buf} {width} q w = (
+  (mapped links list v body map q.fitted).body-there,
+  rw w (wide_enough (length list) q.fitted.short).few,
 )
 
 -- ---- the runs
@@ -148,12 +136,22 @@ record Over (go : Go) (body : ℕ) (list : List ℕ) (v : ℕ) (map frame : List
 
 module _ (go : Go) (body : ℕ) (list : List ℕ) (v : ℕ) (map frame : List ℕ) (xs : List ℤ) (s l k c : ℕ) (earlier before after : List ℕ) (off : ℕ)
     (read : Read xs (s + k) c earlier before) (few : k + c ≤ length (readings_in xs s l))
-    (row : (r : ℕ) → r < c → (other : List ℕ) → Agrees map frame other → Row go body list v (get_or before (2 + r) 0) map frame other (get_or after (off + r) 0)) where
+    (row : (r : ℕ) → r < c → (other : List ℕ) → Agrees map frame other → Row go body list v (get_or before (2 + r) 0) map frame other (get_or after (off + r) 0))
+    (room : off + c ≤ length after) where
   abbrev zs : List ℤ
   zs = readings_in xs s l
 
+  -- the results of n rows from row i on
+  abbrev from-row : ℕ → ℕ → List ℕ
+  from-row n i = take n (drop (off + i) after)
+
+  one-row : (n i : ℕ) → i < c → from-row (suc n) i ≡ get_or after (off + i) 0 ∷ from-row n (i + 1)
+  one-row n i h =
+      let o : suc (off + i) ≡ off + (i + 1) = omega arith in
+      ap (take (suc n)) (drop-cons after (off + i) 0 (omega (arith, room))) ∙ ap (λ (m : ℕ). get_or after (off + i) 0 ∷ take n (drop m after)) o
+
   over : (n i : ℕ) → i + n ≡ c → (other : List ℕ) → Agrees map frame other → (t : Tally) → t.stopped ≡ false
-      → Over go body list v map frame zs other t (tallied_of after n (off + i) t) (k + i) (k + c)
+      → Over go body list v map frame zs other t (tallied_of (from-row n i) t) (k + i) (k + c)
   unfolding tallied_of over_of
   over zero i e other a t d =
       let j : k + i ≡ k + c = omega arith in
@@ -166,9 +164,10 @@ module _ (go : Go) (body : ℕ) (list : List ℕ) (v : ℕ) (map frame : List �
       let z : get_or before (2 + i) 0 ≡ pack_of (Number (get_or xs (s + (k + i)) (pos 0))) = read.cell i (omega arith) ∙ ap (λ (m : ℕ). pack_of (Number (get_or xs m (pos 0)))) j in
       let one : over_of go body list v other t (drop (k + i) zs) ≡ cond u.stopped u (over_of go body list v w u (drop (k + i + 1) zs)) =
       ap (over_of go body list v other t) (drop-reading xs s l (k + i) (omega arith)) ∙ rw (← z, here.value) in
+      let cut : tallied_of (from-row (suc n) i) t ≡ cond u.stopped u (tallied_of (from-row n (i + 1)) u) = ap (λ (cs : List ℕ). tallied_of cs t) (one-row n i (omega arith)) in
       split u.stopped
       (λ q.
-      let whole : tallied_of after (suc n) (off + i) t ≡ u = cond-true u.stopped _ _ q in
+      let whole : tallied_of (from-row (suc n) i) t ≡ u = cut ∙ cond-true u.stopped _ _ q in
       record {
         next = other;
         agrees = a;
@@ -176,10 +175,9 @@ module _ (go : Go) (body : ℕ) (list : List ℕ) (v : ℕ) (map frame : List �
       })
       (λ q.
       let j' : k + i + 1 ≡ k + (i + 1) = omega arith in
-      let o : suc (off + i) ≡ off + (i + 1) = omega arith in
-      let rest : Over go body list v map frame zs w u (tallied_of after n (off + (i + 1)) u) (k + (i + 1)) (k + c) =
+      let rest : Over go body list v map frame zs w u (tallied_of (from-row n (i + 1)) u) (k + (i + 1)) (k + c) =
       over n (i + 1) (omega arith) w here.agrees u q in
-      let whole : tallied_of after (suc n) (off + i) t ≡ tallied_of after n (off + (i + 1)) u = cond-false u.stopped _ _ q ∙ ap (λ (m : ℕ). tallied_of after n m u) o in
+      let whole : tallied_of (from-row (suc n) i) t ≡ tallied_of (from-row n (i + 1)) u = cut ∙ cond-false u.stopped _ _ q in
       record {
         next = rest.next;
         agrees = rest.agrees;
@@ -193,48 +191,46 @@ pub record Left (links list : List ℕ) (v body : ℕ) (map frame : List ℕ) (x
   pub agrees : Agrees map frame other
   pub same : over_of (plain_of links xs) body list v frame begun (readings_in xs s l) ≡ over_of (plain_of links xs) body list v other t (drop k (readings_in xs s l))
 
-pub record Turns (links list : List ℕ) (at v body : ℕ) (map frame : List ℕ) (xs : List ℤ) (s l count width to : ℕ) (buf : List ℕ) (t : Tally) (k : ℕ) : Type 0 where
-  pub asks : Columns links list at v body map buf
+pub record Turns (links list : List ℕ) (v body : ℕ) (map frame : List ℕ) (xs : List ℤ) (s l count width to : ℕ) (buf : List ℕ) (t : Tally) (k : ℕ) : Type 0 where
+  pub asks : Columns links list v body map buf
   pub counts : Counts xs s l count
-  pub wide : Wide at width
+  pub wide : Wide (length list) width
   pub place : to ≡ column_at width (get_or map body 0)
   pub room : to + width ≤ table_entries
   pub going : t.stopped ≡ false
   pub within : Within k t
   pub most : k ≤ count
-  pub left : Left links (drop at list) v body map frame xs s l t k
+  pub left : Left links list v body map frame xs s l t k
 
-pub turns-begin : {links list : List ℕ} {at v body : ℕ} {map frame : List ℕ} {xs : List ℤ} {s l count width to : ℕ} {buf : List ℕ} {t : Tally}
-    → Columns links list at v body map buf → length frame ≡ table_entries → Counts xs s l count → width ≡ (length frame - 2) / (table_entries + 1 - at)
-    → to ≡ column_at width (get_or map body 0) → t ≡ begun → Turns links list at v body map frame xs s l count width to buf t 0
-turns-begin {links} {list} {at} {v} {body} {map} {frame} {xs} {s} {l} {count} {width} {to} {buf} {t} q h n w p e =
-    let f : Wide at width = rw w (wide_enough list at (length frame) q.size q.within q.fitted.short h) in
+pub turns-begin : {links list : List ℕ} {v body : ℕ} {map frame : List ℕ} {xs : List ℤ} {s l count width to : ℕ} {buf : List ℕ} {t : Tally}
+    → Columns links list v body map buf → length frame ≡ table_entries → Counts xs s l count → width ≡ (table_entries - 2) / (length list + 1)
+    → to ≡ column_at width (get_or map body 0) → t ≡ begun → Turns links list v body map frame xs s l count width to buf t 0
+turns-begin {links} {list} {v} {body} {map} {frame} {xs} {s} {l} {count} {width} {to} {buf} {t} q h n w p e =
+    let f : Wide (length list) width = rw w (wide_enough (length list) q.fitted.short) in
     rw e (record {
       asks = q;
       counts = n;
       wide = f;
       place = p;
-      room = rw p (body-room links list at v body map width q.size q.fitted f);
+      room = rw p (body-room links list v body map width q.fitted f);
       going = refl;
       within = within_none;
       most = omega arith;
       left = record { other = frame; agrees = record { size = h; same = λ d z. refl }; same = refl };
     })
 
-module _ {links list : List ℕ} {at v body : ℕ} {map frame : List ℕ} {xs : List ℤ} {s l count width to : ℕ} {buf : List ℕ} {t : Tally} {k : ℕ}
-    (turns : Turns links list at v body map frame xs s l count width to buf t k) where
-  pub turns-end : count ≤ k → t ≡ over_of (plain_of links xs) body (drop at list) v frame begun (readings_in xs s l)
+module _ {links list : List ℕ} {v body : ℕ} {map frame : List ℕ} {xs : List ℤ} {s l count width to : ℕ} {buf : List ℕ} {t : Tally} {k : ℕ}
+    (turns : Turns links list v body map frame xs s l count width to buf t k) where
+  pub turns-end : count ≤ k → t ≡ over_of (plain_of links xs) body list v frame begun (readings_in xs s l)
   unfolding over_of
   turns-end h =
       let e : length (readings_in xs s l) ≤ k = omega (arith, turns.counts.same) in
-      sym (turns.left.same ∙ ap (over_of (plain_of links xs) body (drop at list) v turns.left.other t) (drop_of_length-le (readings_in xs s l) {i = k} e))
+      sym (turns.left.same ∙ ap (over_of (plain_of links xs) body list v turns.left.other t) (drop_of_length-le (readings_in xs s l) {i = k} e))
 
   -- what a chunk of c rows asks
-  pub chunk-asks : {before : List ℕ} {c : ℕ} → length before ≡ length buf → c ≤ width → Chunks links list at v body map width c before
+  pub chunk-asks : {before : List ℕ} {c : ℕ} → length before ≡ length buf → c ≤ width → Chunks links list v body map width c before
   chunk-asks e h = record {
     fitted = turns.asks.fitted;
-    size = turns.asks.size;
-    within = turns.asks.within;
     wide = h;
     room = omega (arith, turns.asks.room, turns.wide.room);
     few = omega (arith, turns.asks.room);
@@ -244,81 +240,90 @@ module _ {links list : List ℕ} {at v body : ℕ} {map frame : List ℕ} {xs : 
   tally-asks {c} h = within_more k (65535 - c) t (omega (arith, turns.counts.few, turns.most)) turns.within
 
   module _ {c : ℕ} (few : c ≤ count - k) {before after : List ℕ} (read : Read xs (s + k) c buf before)
-      (q : Chunked links xs (drop at list) v body map frame width c before after) {u : Tally} (y : Takes after to c t u) where
-    turn : Over (plain_of links xs) body (drop at list) v map frame (readings_in xs s l) turns.left.other t u k (k + c)
+      (q : Chunked links xs list v body map frame width c before after) {u : Tally} (y : Takes (take (to + c - to) (drop to after)) t u) (room : to + c ≤ length after) where
+    turn : Over (plain_of links xs) body list v map frame (readings_in xs s l) turns.left.other t u k (k + c)
     turn =
-        let o : column_at width (get_or map body 0) + 0 ≡ to = omega (arith, turns.place) in
+        let n : to + c - to ≡ c = omega arith in
+        let o : to + 0 ≡ to = omega arith in
         let z : k + 0 ≡ k = omega arith in
-        rw (o, z, ← y.same) at
-        (over (plain_of links xs) body (drop at list) v map frame xs s l k c buf before after (column_at width (get_or map body 0)) read
-        (omega (arith, turns.counts.same, turns.most)) q.row c 0 (omega arith) turns.left.other turns.left.agrees t turns.going)
+        let rows : (r : ℕ) → r < c → (other : List ℕ) → Agrees map frame other → Row (plain_of links xs) body list v (get_or before (2 + r) 0) map frame other (get_or after (to + r) 0) = rw turns.place q.row in
+        let said : u ≡ tallied_of (take c (drop to after)) t = rw n at y.same in
+        rw (o, z, ← said) at
+        (over (plain_of links xs) body list v map frame xs s l k c buf before after to read (omega (arith, turns.counts.same, turns.most)) rows room c 0
+        (omega arith) turns.left.other turns.left.agrees t turns.going)
 
-    pub turns-stop : u.stopped ≡ true → u ≡ over_of (plain_of links xs) body (drop at list) v frame begun (readings_in xs s l)
+    pub turns-stop : u.stopped ≡ true → u ≡ over_of (plain_of links xs) body list v frame begun (readings_in xs s l)
     turns-stop d = sym (turns.left.same ∙ turn.same ∙ cond-true u.stopped _ _ d)
 
-    pub turns-again : u.stopped ≡ false → Turns links list at v body map frame xs s l count width to after u (k + c)
+    pub turns-again : u.stopped ≡ false → Turns links list v body map frame xs s l count width to after u (k + c)
     turns-again d = record {
-      asks = record { fitted = turns.asks.fitted; size = turns.asks.size; within = turns.asks.within; room = q.size ∙ read.size ∙ turns.asks.room };
+      asks = record { fitted = turns.asks.fitted; room = q.size ∙ read.size ∙ turns.asks.room };
       counts = turns.counts;
       wide = turns.wide;
       place = turns.place;
       room = turns.room;
       going = d;
-      within = y.bound k turns.within;
+      within =
+          let n : length (take (to + c - to) (drop to after)) ≤ c = simp length-take (omega arith) in
+          within_more (k + length (take (to + c - to) (drop to after))) (k + c) u (omega (arith, n)) (y.bound k turns.within);
       most = omega (arith, turns.most);
       left = record { other = turn.next; agrees = turn.agrees; same = turns.left.same ∙ turn.same ∙ cond-false u.stopped _ _ d };
     }
 
--- the last chunk, whether or not it stops
-pub turns-last : {links list : List ℕ} {at v body : ℕ} {map frame : List ℕ} {xs : List ℤ} {s l count width to : ℕ} {buf : List ℕ} {t : Tally} {k : ℕ}
-    → Turns links list at v body map frame xs s l count width to buf t k → {c : ℕ} → c ≤ count - k → {before after : List ℕ} → Read xs (s + k) c buf before
-    → Chunked links xs (drop at list) v body map frame width c before after → {u : Tally} → Takes after to c t u → count ≤ k + c
-    → u ≡ over_of (plain_of links xs) body (drop at list) v frame begun (readings_in xs s l)
-turns-last turns few read q {u} y h = split u.stopped (turns-stop turns few read q y) (λ d. turns-end (turns-again turns few read q y d) h)
-
 -- ---- which runs go by columns
-pub columns-few : (at v : ℕ) → (leb 1 v && leb table_entries (at + most_columns)) ≡ true → (1 ≤ v) × (table_entries ≤ at + most_columns)
-columns-few at v e =
-    let both = (and-eq-true_iff (leb 1 v) (leb table_entries (at + most_columns))).0 e in
-    (leb-true 1 v both.0, leb-true table_entries (at + most_columns) both.1)
-
-module _ (links list : List ℕ) (at v body : ℕ) (marks : List ℕ) (size : length list ≡ table_entries) where
-  short : leb (length (drop at list)) most_columns ≡ leb table_entries (at + most_columns)
-  short =
-      split (leb table_entries (at + most_columns))
-      (λ e. le-leb (length (drop at list)) most_columns (omega (arith, length-drop at list, leb-true table_entries (at + most_columns) e)) ∙ sym e)
-      (λ e. lt-leb (length (drop at list)) most_columns (omega (arith, length-drop at list, leb-false table_entries (at + most_columns) e)) ∙ sym e)
-
-  pub columns-none : (leb 1 v && leb table_entries (at + most_columns)) ≡ false → false ≡ by_columns links (drop at list) v body marks
+module _ (links list : List ℕ) (v body : ℕ) (marks : List ℕ) where
+  pub columns-none : v ≡ 0 → false ≡ by_columns links list v body marks
   unfolding by_columns
-  columns-none e = rw (short, e)
+  columns-none e = rw e
 
-  pub columns-is : (leb 1 v && leb table_entries (at + most_columns)) ≡ true → (map : List ℕ) → map ≡ placed_of v 3 (drop at list) marks
-      → (b : Bool) → b ≡ fits_of links map body 3 (drop at list) → b ≡ by_columns links (drop at list) v body marks
+  pub columns-many : most_columns < length list → false ≡ by_columns links list v body marks
   unfolding by_columns
-  columns-is e map p b f = rw (short, e, ← p) f
+  columns-many h = rw (lt-leb (length list) most_columns h, and-false (leb 1 v))
 
-pub columns-asks : {links list : List ℕ} {at v body : ℕ} {marks map buf : List ℕ} {b : Bool} → Reruns list at body v → Marks marks
-    → (leb 1 v && leb table_entries (at + most_columns)) ≡ true → map ≡ placed_of v 3 (drop at list) marks → b ≡ fits_of links map body 3 (drop at list) → b ≡ true
-    → length buf ≡ table_entries → Columns links list at v body map buf
-columns-asks {list = list} {at = at} {v = v} {marks = marks} r m h p f d e =
-    let low = columns-few at v h in
-    record {
-      fitted = record {
-        low = r.low;
-        some = low.0;
-        few = r.few;
-        short = omega (arith, r.size, length-drop at list, low.1);
-        marks = marks;
-        none = m;
-        placed = p;
-        fits = sym f ∙ d;
-      };
-      size = r.size;
-      within = r.within;
-      room = e;
-    }
+  pub columns-is : 1 ≤ v → length list ≤ most_columns → (map : List ℕ) → map ≡ placed_of v 3 list marks
+      → (b : Bool) → b ≡ fits_of links map body 3 list → b ≡ by_columns links list v body marks
+  unfolding by_columns
+  columns-is h l map p b f = rw (le-leb 1 v h, le-leb (length list) most_columns l, ← p) f
+
+pub columns-asks : {links list : List ℕ} {v body : ℕ} {marks map buf : List ℕ} {b : Bool} → Reruns list body v → Marks marks → 1 ≤ v → length list ≤ most_columns
+    → map ≡ placed_of v 3 list marks → b ≡ fits_of links map body 3 list → b ≡ true → length buf ≡ table_entries → Columns links list v body map buf
+columns-asks {list = list} {v = v} {marks = marks} r m h l p f d e = record {
+  fitted = record {
+    low = r.low;
+    some = h;
+    few = r.few;
+    short = l;
+    marks = marks;
+    none = m;
+    placed = p;
+    fits = sym f ∙ d;
+  };
+  room = e;
+}
 
 pub ran : {links list : List ℕ} {v body : ℕ} (map : List ℕ) {frame : List ℕ} {xs : List ℤ} {s l : ℕ} {b : Bool} {t : Tally} → b ≡ fits_of links map body 3 list → b ≡ true
     → t ≡ over_of (plain_of links xs) body list v frame begun (readings_in xs s l) → Ran links xs list v body frame s l t
 ran {links} {list} {v} {body} map f d e = record { plain = plain links map body 3 list (sym f ∙ d); same = e }
+
+pub ruleset turning = (
+  rules,
+  read_again,
+  read-end,
+  taking-begin,
+  taking-asks,
+  taking-stop,
+  taking-again,
+  taking-end,
+  place-asks,
+  turns-begin,
+  turns-end,
+  chunk-asks,
+  tally-asks,
+  turns-stop,
+  turns-again,
+  columns-none,
+  columns-many,
+  columns-is,
+  columns-asks,
+  ran,
+)

@@ -1,6 +1,6 @@
 -- A chunk of readings by columns. The buffer begins with a cell for a constant receiver and one for a constant argument; then come the columns,
 -- each as wide as a chunk has rows. Assumes nothing: these are definitions.
-use Rattle.std.specs.Prelude.{◌≡◌, true, cond, List, ℕ, zero, suc, ◌+◌, ◌-◌, ◌*◌, ◌≤◌, ◌<◌, ltb, ℤ, pos, length, get_or, drop}
+use Rattle.std.specs.Prelude.{◌≡◌, true, cond, List, [], ◌∷◌, ℕ, ◌+◌, ◌-◌, ◌*◌, ◌≤◌, ◌<◌, ltb, ℤ, pos, length, get_or}
 use Rattle.language.specs.Limits.{table_entries}
 use Rattle.rules.specs.declared.Value.TheVariants.{Number}
 use Rattle.rules.specs.Windows.{readings_in}
@@ -84,13 +84,11 @@ pub record Row (go : Go) (body : ℕ) (list : List ℕ) (v c : ℕ) (map frame o
   pub value : get_or (set_of go (body + 1) list v c other) body 0 ≡ r
   pub agrees : Agrees map frame (set_of go (body + 1) list v c other)
 
--- what a chunk asks: such a list at the end of an array, and a buffer with room for its columns
-pub record Chunks (links list : List ℕ) (at v body : ℕ) (map : List ℕ) (width c : ℕ) (buf : List ℕ) : Type 0 where
-  pub fitted : Fitted links (drop at list) v body map
-  pub size : length list ≡ table_entries
-  pub within : at ≤ table_entries
+-- what a chunk asks: such a list, and a buffer with room for its columns
+pub record Chunks (links list : List ℕ) (v body : ℕ) (map : List ℕ) (width c : ℕ) (buf : List ℕ) : Type 0 where
+  pub fitted : Fitted links list v body map
   pub wide : c ≤ width
-  pub room : 2 + (table_entries - at + 1) * width ≤ length buf
+  pub room : 2 + (length list + 1) * width ≤ length buf
   pub few : length buf ≤ table_entries
 
 -- c rows are worked out: the body's column has what the runs give, from the readings in the first column
@@ -99,16 +97,16 @@ pub record Chunked (links : List ℕ) (xs : List ℤ) (list : List ℕ) (v body 
   pub row : (r : ℕ) → r < c → (other : List ℕ) → Agrees map frame other
       → Row (plain_of links xs) body list v (get_or before (2 + r) 0) map frame other (get_or after (column_at width (get_or map body 0) + r) 0)
 
--- the tally over n cells from a place on, up to one that is no number
-unfoldable pub tallied_of : List ℕ → ℕ → ℕ → Tally → Tally
-tallied_of buf zero at t = t
-tallied_of buf (suc n) at t =
-    let u : Tally = stepped t (unpack_of (get_or buf at 0)) in
-    cond u.stopped u (tallied_of buf n (suc at) u)
+-- the tally over cells, up to one that is no number
+unfoldable pub tallied_of : List ℕ → Tally → Tally
+tallied_of [] t = t
+tallied_of (c ∷ cs) t =
+    let u : Tally = stepped t (unpack_of c) in
+    cond u.stopped u (tallied_of cs u)
 
-pub record Takes (buf : List ℕ) (at n : ℕ) (t r : Tally) : Type 0 where
-  pub same : r ≡ tallied_of buf n at t
-  pub bound : (k : ℕ) → Within k t → Within (k + n) r
+pub record Takes (cells : List ℕ) (t r : Tally) : Type 0 where
+  pub same : r ≡ tallied_of cells t
+  pub bound : (k : ℕ) → Within k t → Within (k + length cells) r
 
 -- a chunk of c readings: they are read, and the columns worked out
 pub record Turned (links : List ℕ) (xs : List ℤ) (list : List ℕ) (v body : ℕ) (map frame : List ℕ) (from width c : ℕ) (before after : List ℕ) : Type 0 where
@@ -126,19 +124,15 @@ pub record Counts (xs : List ℤ) (s l r : ℕ) : Type 0 where
   pub same : r ≡ length (readings_in xs s l)
   pub few : r ≤ 65535
 
--- what working out a body again asks: the list, from a place on, of entries up to the body, and the body and the variable within the frame
-pub record Reruns (list : List ℕ) (at body v : ℕ) : Type 0 where
-  pub size : length list ≡ table_entries
-  pub within : at ≤ table_entries
-  pub upto : (k : ℕ) → at ≤ k → k < table_entries → get_or list k 0 ≤ body
+-- what working out a body again asks: a list of entries up to the body, and the body and the variable within the frame
+pub record Reruns (list : List ℕ) (body v : ℕ) : Type 0 where
+  pub upto : (k : ℕ) → k < length list → get_or list k 0 ≤ body
   pub low : body < table_entries
   pub few : v ≤ table_entries
 
--- what runs by columns ask: a list that fits, at the end of an array, and a whole buffer
-pub record Columns (links list : List ℕ) (at v body : ℕ) (map buf : List ℕ) : Type 0 where
-  pub fitted : Fitted links (drop at list) v body map
-  pub size : length list ≡ table_entries
-  pub within : at ≤ table_entries
+-- what runs by columns ask: a list that fits, and a whole buffer
+pub record Columns (links list : List ℕ) (v body : ℕ) (map buf : List ℕ) : Type 0 where
+  pub fitted : Fitted links list v body map
   pub room : length buf ≡ table_entries
 
 -- the runs by columns: every entry is a member that runs no function, and the tally is that of the runs reading by reading

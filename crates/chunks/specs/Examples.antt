@@ -1,5 +1,5 @@
 -- Runs by columns, computed: which lists go by columns, and where a tally ends. Assumes nothing.
-use Rattle.std.specs.Prelude.{◌≡◌, refl, Bool, true, false, List, [], ◌∷◌, ◌++◌, ℕ, ◌+◌, pos, negsuc, replicate}
+use Rattle.std.specs.Prelude.{◌≡◌, refl, Bool, true, false, List, [], ◌∷◌, ◌++◌, ℕ, pos, negsuc, replicate, take, drop}
 use Rattle.members.specs.Members
 use Rattle.rules.specs.declared.Value.TheVariants.{Number, Missing}
 use Rattle.rules.specs.Rules
@@ -8,7 +8,6 @@ use Rattle.values.specs.Tallies
 use Rattle.values.specs.Tallies.{begun}
 use Rattle.values.specs.Packing
 use Rattle.values.specs.Packing.{pack_of}
-use Rattle.layout.specs.Links
 use Rattle.layout.specs.Nodes
 use Rattle.chunks.specs.Rows
 use Rattle.chunks.specs.Fitting
@@ -72,7 +71,7 @@ cells = pack_of (Number (pos 2)) ∷ pack_of (Number (pos 0)) ∷ pack_of (Numbe
 
 unfoldable tallied : ℕ → ℕ → Tally
 unfolding Chunks.tallied_of Packing.unpack_of Tallies.stepped Tallies.entered Tallies.noted
-tallied at n = tallied_of cells n at begun
+tallied at n = tallied_of (take n (drop at cells)) begun
 
 -- three numbers: two other than 0, and their sum
 all : tallied 0 3 ≡ record { stopped = false; reason = 0; count = 2; stretch = 1; longest = 1; total = negsuc 2 }

@@ -1,5 +1,7 @@
 // Which runs go by columns, and where their entries stand.
-ghost use Rattle.std.specs.Prelude.{◌≡◌, ℕ, ◌+◌, ◌-◌, ◌<◌, ◌≤◌, length, get_or, drop};
+#![tactic(auto, using(crate::proofs::Fits::fitting))]
+
+ghost use Rattle.std.specs.Prelude.{◌≡◌, ℕ, ◌<◌, ◌≤◌, length, get_or};
 ghost use Rattle.language.specs.Limits.{table_entries};
 ghost use Rattle.chunks.specs.Rows.{settles as settles_of};
 ghost use Rattle.chunks.specs.Fitting.{most_columns, placed_of, is_there, fit_of, fits_of};
@@ -7,23 +9,21 @@ ghost use Rattle.chunks.specs.Fitting.{most_columns, placed_of, is_there, fit_of
 use language::limits::Table;
 use layout::cells::{first_of, is_below, kind_of, second_of};
 use layout::nodes::member_of;
-use members::{Found, Kind, argument};
+use members::{Kind, argument};
 
 // The most entries that are worked out by columns.
 pub const MOST_COLUMNS: usize = 126;
 
-// Whether a kind is that of a member which runs no function.
+// Whether a kind is that of a member which runs no function. By two matches: `is_some_and` and `matches!` leave the goal open.
 pub fn settles(kind: u16) -> bool
     ensures { result ≡ settles_of kind }
 {
     match member_of(kind) {
-        Found::Is(m) => match argument(m) {
+        Some(m) => match argument(m) {
             Kind::Function => false,
-            Kind::Number => true,
-            Kind::Window => true,
-            Kind::Nothing => true,
+            _ => true,
         },
-        Found::Unknown => false,
+        None => false,
     }
 }
 
@@ -35,6 +35,7 @@ fn is_there(m: u8, c: u8) -> bool
 }
 
 // Whether entry j can be the column that is marked c.
+#[tactic(auto, using(crate::proofs::Fits::fitting), unfolding(crate::specs::Fitting::fit_of))]
 fn fit(links: &[u16], map: &[u8; Table::ENTRIES], body: usize, c: u8, j: usize) -> bool
     requires { body < table_entries }
     ensures { result ≡ fit_of links.now map.now body c j }
@@ -42,51 +43,22 @@ fn fit(links: &[u16], map: &[u8; Table::ENTRIES], body: usize, c: u8, j: usize) 
     if body < j {
         return false;
     }
-    if settles(kind_of(links, j)) {
-        let first = first_of(links, j) as usize;
-        if is_below(first, j) {
-            if map[j] == c {
-                if is_there(map[first - 1], c) {
-                    let second = second_of(links, j) as usize;
-                    if is_below(second, j) {
-                        return is_there(map[second - 1], c);
-                    }
-                    return true;
-                }
-                return false;
-            }
-            return false;
-        }
-        return false;
-    }
-    false
-}
-
-// An entry of a list.
-fn entry(j: u16) -> usize
-    ensures { result ≡ j }
-{
-    j as usize
+    let first = first_of(links, j) as usize;
+    let second = second_of(links, j) as usize;
+    settles(kind_of(links, j))
+        && is_below(first, j)
+        && map[j] == c
+        && is_there(map[first - 1], c)
+        && (!is_below(second, j) || is_there(map[second - 1], c))
 }
 
 // Whether each entry of the list can be the next column, and the body is a column.
-pub fn fits(
-    links: &[u16],
-    list: &[u16; Table::ENTRIES],
-    at: usize,
-    body: usize,
-    map: &[u8; Table::ENTRIES],
-) -> bool
-    requires { ((body < table_entries) × (length list.now ≡ table_entries)) × ((at ≤ table_entries) × (table_entries ≤ at + most_columns)) }
-    ensures { result ≡ fits_of links.now map.now body 3 (drop at list.now) }
+pub fn fits(links: &[u16], list: &[u16], body: usize, map: &[u8; Table::ENTRIES]) -> bool
+    requires { (body < table_entries) × (length list.now ≤ most_columns) }
+    ensures { result ≡ fits_of links.now map.now body 3 list.now }
 {
-    let mut c: u8 = 3;
-    let mut k = at;
-    while k < Table::ENTRIES {
-        if fit(links, map, body, c, entry(list[k])) {
-            c += 1;
-            k += 1;
-        } else {
+    for (k, j) in list.iter().enumerate() {
+        if !fit(links, map, body, k as u8 + 3, *j as usize) {
             return false;
         }
     }
@@ -94,19 +66,14 @@ pub fn fits(
 }
 
 // Marks each entry of the list with its column, and the variable with the first.
-pub fn place(list: &[u16; Table::ENTRIES], at: usize, v: u32, map: &mut [u8; Table::ENTRIES])
-    requires le_v { ((1 ≤ v) × (v ≤ table_entries)) × ((length list.now ≡ table_entries) × (length map.old ≡ table_entries)) × ((at ≤ table_entries) × (table_entries ≤ at + most_columns)) }
-    requires by_index { (k : ℕ) → at ≤ k → k < table_entries → get_or list.now k 0 < table_entries }
-    ensures { map.new ≡ placed_of v 3 (drop at list.now) map.old }
+pub fn place(list: &[u16], v: u32, map: &mut [u8; Table::ENTRIES])
+    requires variable { (1 ≤ v) × (v ≤ table_entries) }
+    requires short { (length list.now ≤ most_columns) × (length map.old ≡ table_entries) }
+    requires low { (k : ℕ) → k < length list.now → get_or list.now k 0 < table_entries }
+    ensures { map.new ≡ placed_of v 3 list.now map.old }
 {
-    let mut c: u8 = 3;
-    let mut k = at;
-    while k < Table::ENTRIES {
-        let j = entry(list[k]);
-        map[j] = c;
-        c += 1;
-        k += 1;
+    for (k, j) in list.iter().enumerate() {
+        map[*j as usize] = k as u8 + 3;
     }
-    let own = v as usize - 1;
-    map[own] = 2;
+    map[v as usize - 1] = 2;
 }

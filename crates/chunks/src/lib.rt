@@ -2,6 +2,7 @@
 // entry by entry.
 #![tactic(auto)]
 
+pub mod body;
 pub mod fitting;
 pub mod rows;
 pub mod running;

@@ -1,5 +1,7 @@
 // A chunk of readings: its first column, the columns of the entries, and the tally of the body's column.
-ghost use Rattle.std.specs.Prelude.{◌≡◌, true, ◌+◌, ◌-◌, ◌*◌, ◌<◌, ◌≤◌, pos, length, get_or, drop};
+#![tactic(auto, using(crate::proofs::Filling::filling, crate::proofs::Turning::turning))]
+
+ghost use Rattle.std.specs.Prelude.{◌≡◌, true, ◌+◌, ◌-◌, ◌*◌, ◌<◌, ◌≤◌, pos, length, get_or};
 ghost use Rattle.language.specs.Limits.{table_entries};
 ghost use Rattle.rules.specs.declared.Value.TheVariants.{Number};
 ghost use Rattle.values.specs.Packing.{pack_of};
@@ -7,10 +9,11 @@ ghost use Rattle.values.specs.Tallies.{Within};
 ghost use Rattle.layout.specs.Links.{first_at, is_below};
 ghost use Rattle.chunks.specs.Chunks.{column_at, operand_of, column_of, Read, Fits, Worked, Chunks, Chunked, Takes, Turned, Tallied, Counts};
 
+use crate::body::{Body, Columns};
 use columns::column::column;
 use columns::loops::{Column, Operand};
 use language::limits::Table;
-use layout::cells::{first_of, is_below, kind_of, second_of};
+use layout::cells::{first_of, get_or, is_below, kind_of, second_of};
 use rules::Value;
 use values::packing::{pack, unpack};
 use values::runs::{Tally, step};
@@ -19,18 +22,14 @@ use values::runs::{Tally, step};
 pub fn count_in(readings: &[i32], start: u16, most: u16) -> usize
     ensures { Counts readings.now start most result }
 {
-    let from = start as usize;
-    let most = most as usize;
-    if readings.len() <= from {
-        return 0;
-    }
-    if readings.len() - from <= most {
-        return readings.len() - from;
-    }
-    most
+    readings
+        .len()
+        .saturating_sub(start as usize)
+        .min(most as usize)
 }
 
-fn number(z: i32) -> u64
+// A number as a packed value.
+pub fn number(z: i32) -> u64
     ensures { result ≡ pack_of (Number z) }
 {
     pack(Value::Number(z))
@@ -40,10 +39,7 @@ fn number(z: i32) -> u64
 pub fn reading(readings: &[i32], k: usize) -> u64
     ensures { result ≡ pack_of (Number (get_or readings.now k (pos 0))) }
 {
-    if k < readings.len() {
-        return number(readings[k]);
-    }
-    number(0)
+    number(get_or(readings, k, 0))
 }
 
 // One more result of a run.
@@ -59,10 +55,8 @@ fn read_rows(readings: &[i32], from: usize, c: usize, buf: &mut [u64])
     requires { (2 + c ≤ length buf.old) × ((length buf.old ≤ table_entries) × (from ≤ 131070)) }
     ensures { Read readings.now from c buf.old buf.new }
 {
-    let mut r: usize = 0;
-    while r < c {
+    for r in 0..c {
         buf[2 + r] = reading(readings, from + r);
-        r += 1;
     }
 }
 
@@ -110,105 +104,54 @@ fn column_of(links: &[u16], map: &[u8; Table::ENTRIES], width: usize, m: u8, j: 
     }
 }
 
-// The column of entry j. What it depends on and is a constant goes to the front of the buffer.
-fn work_column(
-    readings: &[i32],
-    links: &[u16],
-    frame: &[u64; Table::ENTRIES],
-    map: &[u8; Table::ENTRIES],
-    width: usize,
-    c: usize,
-    m: u8,
-    j: usize,
-    buf: &mut [u64],
-)
-    requires { Fits links.now map.now width c m j buf.old }
-    ensures { Worked links.now readings.now frame.now map.now width c m j buf.old buf.new }
+// The column of entry j, which is marked m. What it depends on and is a constant goes to the front of the buffer.
+fn work_column(body: Body, columns: Columns, c: usize, m: u8, j: usize, buf: &mut [u64])
+    requires { Fits body.links.now columns.map.now columns.width c m j buf.old }
+    ensures { Worked body.entry.links.now body.entry.readings.now columns.entry.frame.now columns.entry.map.now columns.entry.width c m j buf.old buf.new }
 {
+    let links = body.links;
     let first = first_of(links, j) as usize;
     let second = second_of(links, j) as usize;
     let two = is_below(second, j);
-    buf[0] = frame[first - 1];
+    buf[0] = columns.frame[first - 1];
     if two {
-        buf[1] = frame[second - 1];
+        buf[1] = columns.frame[second - 1];
     }
-    let k = column_of(links, map, width, m, j);
-    column(kind_of(links, j), two, k, c, readings, buf);
+    let k = column_of(links, columns.map, columns.width, m, j);
+    column(kind_of(links, j), two, k, c, body.readings, buf);
 }
 
 // The columns of the entries of a list, for c rows whose readings stand in the first column.
-fn work_rows(
-    readings: &[i32],
-    links: &[u16],
-    list: &[u16; Table::ENTRIES],
-    at: usize,
-    body: usize,
-    v: u32,
-    frame: &[u64; Table::ENTRIES],
-    map: &[u8; Table::ENTRIES],
-    width: usize,
-    c: usize,
-    buf: &mut [u64],
-)
-    requires { Chunks links.now list.now at v body map.now width c buf.old }
-    ensures { Chunked links.now readings.now (drop at list.now) v body map.now frame.now width c buf.old buf.new }
+fn work_rows(body: Body, columns: Columns, c: usize, buf: &mut [u64])
+    requires { Chunks body.links.now body.list.now body.variable body.root columns.map.now columns.width c buf.old }
+    ensures { Chunked body.entry.links.now body.entry.readings.now body.entry.list.now body.entry.variable body.entry.root columns.entry.map.now columns.entry.frame.now columns.entry.width c buf.old buf.new }
 {
-    let mut m: u8 = 3;
-    let mut k = at;
-    while k < Table::ENTRIES {
-        work_column(
-            readings,
-            links,
-            frame,
-            map,
-            width,
-            c,
-            m,
-            list[k] as usize,
-            buf,
-        );
-        m += 1;
-        k += 1;
+    for (k, j) in body.list.iter().enumerate() {
+        work_column(body, columns, c, k as u8 + 3, *j as usize, buf);
     }
 }
 
-// The results of n rows, up to one that is no number.
-pub fn take_rows(t: Tally, buf: &[u64], at: usize, n: usize) -> Tally
-    requires { ((at + n ≤ length buf.now) × (length buf.now ≤ table_entries)) × Within (65535 - n) t }
-    ensures { Takes buf.now at n t result }
+// The results of rows, up to one that is no number.
+pub fn take_rows(t: Tally, cells: &[u64]) -> Tally
+    requires { (length cells.now ≤ table_entries) × Within (65535 - length cells.now) t }
+    ensures { Takes cells.now t result }
 {
     let mut u = t;
-    let mut i: usize = 0;
-    while i < n {
-        u = tally(u, buf[at + i]);
+    for c in cells {
+        u = tally(u, *c);
         if u.stopped {
             return u;
         }
-        i += 1;
     }
     u
 }
 
-// A chunk of c readings: they are read, and the columns worked out.
-pub fn chunk(
-    readings: &[i32],
-    from: usize,
-    links: &[u16],
-    list: &[u16; Table::ENTRIES],
-    at: usize,
-    body: usize,
-    v: u32,
-    frame: &[u64; Table::ENTRIES],
-    map: &[u8; Table::ENTRIES],
-    width: usize,
-    c: usize,
-    buf: &mut [u64],
-)
-    requires { Chunks links.now list.now at v body map.now width c buf.old × (from ≤ 131070) }
-    ensures { Turned links.now readings.now (drop at list.now) v body map.now frame.now from width c buf.old buf.new }
+// A chunk of c readings: they are read, and the columns worked out. By itself, so that its loops have the registers.
+#[inline(never)]
+pub fn chunk(body: Body, columns: Columns, from: usize, c: usize, buf: &mut [u64])
+    requires { Chunks body.links.now body.list.now body.variable body.root columns.map.now columns.width c buf.old × (from ≤ 131070) }
+    ensures { Turned body.entry.links.now body.entry.readings.now body.entry.list.now body.entry.variable body.entry.root columns.entry.map.now columns.entry.frame.now from columns.entry.width c buf.old buf.new }
 {
-    read_rows(readings, from, c, buf);
-    work_rows(
-        readings, links, list, at, body, v, frame, map, width, c, buf,
-    );
+    read_rows(body.readings, from, c, buf);
+    work_rows(body, columns, c, buf);
 }

@@ -1,5 +1,6 @@
 -- The rows of a column, one by one: each loop leaves what lies before its rows as it was, so that each row is made from what stood there at
 -- the start. Assumes nothing.
+use Rattle.std.specs.Prelude.{Option, Some}
 use mathlib.Core.Path.{◌≡◌, refl, sym, ap, ◌∙◌}
 use mathlib.Core.Bool.{Bool, true, false, ◌&&◌, and-eq-true_iff}
 use mathlib.Core.List.{List}
@@ -19,8 +20,6 @@ use Rattle.language.specs.Cases.{split}
 use Rattle.language.specs.Limits.{table_entries}
 use Rattle.members.specs.declared.Member.{Member}
 use Rattle.members.specs.declared.Member.TheVariants.{Gt, Eq}
-use Rattle.members.specs.declared.Found.{Found}
-use Rattle.members.specs.declared.Found.TheVariants.{Is}
 use Rattle.rules.specs.declared.Value.{Value}
 use Rattle.rules.specs.declared.Value.TheVariants.{Number}
 use Rattle.rules.specs.Values.{flag}
@@ -71,7 +70,7 @@ module _ {k : Column} {c : ℕ} {before : List ℕ} (asks : Asks k c before) whe
   pub asks-again : {buf : List ℕ} → length buf ≡ length before → Asks k c buf
   asks-again e = record { first = asks.first; second = asks.second; room = omega (arith, asks.room); few = omega (arith, asks.few) }
 
-  same_row : (buf : List ℕ) (f : Found) (two : Bool) (xs : List ℤ) (r : ℕ) → r < c → ((p : ℕ) → p < k.to → get_or buf p 0 ≡ get_or before p 0)
+  same_row : (buf : List ℕ) (f : Option Member) (two : Bool) (xs : List ℤ) (r : ℕ) → r < c → ((p : ℕ) → p < k.to → get_or buf p 0 ≡ get_or before p 0)
       → row_cell f two xs k buf r ≡ row_cell f two xs k before r
   same_row buf f two xs r h same = λ i. cell_of f xs two (same (first_place k r) (asks.first r h) i) (same (second_place k r) (asks.second r h) i)
 
@@ -86,24 +85,24 @@ row-set P buf to from r v room so h q l n =
 -- ---- the rows of a member on two numbers
 -- as the loops have them, whose column is in three locals
 abbrev pub Rows : Member → ℕ → ℕ → List ℕ → Operand → Operand → ℕ → List ℕ → ℕ → Type 0
-Rows m from c before first second to after r = Rowed (Is m) true (record { first = first; second = second; to = to }) c before from after r
+Rows m from c before first second to after r = Rowed (Some m) true (record { first = first; second = second; to = to }) c before from after r
 
-module _ (f : Found) (two : Bool) (k : Column) (c : ℕ) (before : List ℕ) (from : ℕ) where
+module _ (f : Option Member) (two : Bool) (k : Column) (c : ℕ) (before : List ℕ) (from : ℕ) where
   pub rowed-begin : from ≤ c → Rowed f two k c before from before from
   rowed-begin h = record { past = omega arith; most = h; size = refl; kept = λ p l. refl; made = λ q l n xs. absurd (omega arith) }
 
-module _ {m : Member} {k : Column} {c : ℕ} {before : List ℕ} {from : ℕ} {buf : List ℕ} {r : ℕ} (asks : Asks k c before) (so : Rowed (Is m) true k c before from buf r) (h : r < c) where
+module _ {m : Member} {k : Column} {c : ℕ} {before : List ℕ} {from : ℕ} {buf : List ℕ} {r : ℕ} (asks : Asks k c before) (so : Rowed (Some m) true k c before from buf r) (h : r < c) where
   pub rowed-again : (a b v : ℕ) → a ≡ get_or buf (first_place k r) 0 → b ≡ get_or buf (second_place k r) 0 → (a < window_cell) × (b < window_cell) → v ≡ numbers_cell m a b
-      → Rowed (Is m) true k c before from (set buf (k.to + r) v) (r + 1)
+      → Rowed (Some m) true k c before from (set buf (k.to + r) v) (r + 1)
   rowed-again a b v p q l o = record {
     past = omega (arith, so.past);
     most = omega arith;
     size = length-set buf (k.to + r) v ∙ so.size;
     kept = λ n low. get_or-set_other buf (k.to + r) n v 0 (λ e. omega (arith, so.past)) ∙ so.kept n low;
-    made = row-set (λ (n x : ℕ). (xs : List ℤ) → x ≡ row_cell (Is m) true xs k before n) buf k.to from r v (omega (arith, so.size, asks.room)) so.made
+    made = row-set (λ (n x : ℕ). (xs : List ℤ) → x ≡ row_cell (Some m) true xs k before n) buf k.to from r v (omega (arith, so.size, asks.room)) so.made
         (λ xs.
-        o ∙ sym (cell-numbers m xs a b l.0 l.1) ∙ (λ i. cell_of (Is m) xs true (p i) (q i))
-        ∙ same_row asks buf (Is m) true xs r h (λ n low. so.kept n (omega arith)));
+        o ∙ sym (cell-numbers m xs a b l.0 l.1) ∙ (λ i. cell_of (Some m) xs true (p i) (q i))
+        ∙ same_row asks buf (Some m) true xs r h (λ n low. so.kept n (omega arith)));
   }
 
 -- what reading a row asks
@@ -115,24 +114,24 @@ module _ {k : Column} {c : ℕ} {before : List ℕ} (asks : Asks k c before) {n 
   second-asks = (omega (arith, asks.second r h, asks.room, size), omega (arith, asks.few, size))
 
 -- of the member that a kind has
-pub rowed-of : {f r : Found} {m n : Member} {k : Column} {c : ℕ} {before : List ℕ} {from : ℕ} {after : List ℕ} {s : ℕ} → r ≡ f → r ≡ Is n → n ≡ m
-    → Rowed (Is m) true k c before from after s → Rowed f true k c before from after s
-rowed-of p q e so = rw (sym p ∙ q ∙ ap Is e) so
+pub rowed_of : {f r : Option Member} {m n : Member} {k : Column} {c : ℕ} {before : List ℕ} {from : ℕ} {after : List ℕ} {s : ℕ} → r ≡ f → r ≡ Some n → n ≡ m
+    → Rowed (Some m) true k c before from after s → Rowed f true k c before from after s
+rowed_of p q e so = rw (sym p ∙ q ∙ ap Some e) so
 
-pub rowed-two : {f : Found} {two : Bool} {k : Column} {c : ℕ} {before : List ℕ} {from : ℕ} {after : List ℕ} {s : ℕ} → two ≡ true → Rowed f true k c before from after s
+pub rowed-two : {f : Option Member} {two : Bool} {k : Column} {c : ℕ} {before : List ℕ} {from : ℕ} {after : List ℕ} {s : ℕ} → two ≡ true → Rowed f true k c before from after s
     → Rowed f two k c before from after s
 rowed-two e so = rw e so
 
 -- a row is put, whatever it has
-pub row_put_lem : (f : Found) (two : Bool) (xs : List ℤ) (k : Column) (r : ℕ) (buf : List ℕ) {a b v : ℕ} → a ≡ get_or buf (first_place k r) 0 → b ≡ get_or buf (second_place k r) 0
+pub row_put_lem : (f : Option Member) (two : Bool) (xs : List ℤ) (k : Column) (r : ℕ) (buf : List ℕ) {a b v : ℕ} → a ≡ get_or buf (first_place k r) 0 → b ≡ get_or buf (second_place k r) 0
     → v ≡ cell_of f xs two a b → set buf (k.to + r) v ≡ row_put f two xs k r buf
 row_put_lem f two xs k r buf p q o = ap (set buf (k.to + r)) (o ∙ (λ i. cell_of f xs two (p i) (q i)))
 
 -- ---- a column: so many of its rows are a column of so many
-pub columned-begin : (f : Found) (two : Bool) (xs : List ℤ) (k : Column) (before : List ℕ) → Columned f two xs k 0 before before
+pub columned-begin : (f : Option Member) (two : Bool) (xs : List ℤ) (k : Column) (before : List ℕ) → Columned f two xs k 0 before before
 columned-begin f two xs k before = record { size = refl; kept = λ p l. refl; made = λ q n. absurd (omega arith) }
 
-module _ {f : Found} {two : Bool} {xs : List ℤ} {k : Column} {c : ℕ} {before buf after : List ℕ} {r : ℕ} (asks : Asks k c before) (so : Columned f two xs k r before buf) where
+module _ {f : Option Member} {two : Bool} {xs : List ℤ} {k : Column} {c : ℕ} {before buf after : List ℕ} {r : ℕ} (asks : Asks k c before) (so : Columned f two xs k r before buf) where
   pub columned-next : {s : ℕ} → Rowed f two k c buf r after s → Columned f two xs k s before after
   columned-next {s} rows = record {
     size = rows.size ∙ so.size;
@@ -154,5 +153,7 @@ module _ {f : Found} {two : Bool} {xs : List ℤ} {k : Column} {c : ℕ} {before
             (same_row asks buf f two xs r h so.kept) q (omega arith);
       })
 
-pub columned-all : {f : Found} {two : Bool} {xs : List ℤ} {k : Column} {c r : ℕ} {before after : List ℕ} → r ≤ c → c ≤ r → Columned f two xs k r before after → Columned f two xs k c before after
+pub columned-all : {f : Option Member} {two : Bool} {xs : List ℤ} {k : Column} {c r : ℕ} {before after : List ℕ} → r ≤ c → c ≤ r → Columned f two xs k r before after → Columned f two xs k c before after
 columned-all {c} {r} h l so = let e : c ≡ r = omega arith in rw e so
+
+pub ruleset row_steps = (rules, both-cells, asks-again, rowed-begin, rowed-again, first-asks, second-asks, rowed-two, row_put_lem, columned-begin, columned-next, columned-put, columned-all)

@@ -1,2 +1,3 @@
 pub mod Calling
 pub mod Columns
+pub mod Leaves

@@ -1,19 +1,21 @@
 // A member on cells: with no argument, with one, and of those that run no function either.
+#![tactic(auto, using(crate::proofs::Calls::calls))]
+
 ghost use Rattle.std.specs.Prelude.{◌≡◌, List, ◌<◌, ℤ};
 ghost use Rattle.members.specs.declared.Member.{Member};
-ghost use Rattle.members.specs.declared.Found.TheVariants.{Is};
 ghost use Rattle.rules.specs.Apply.{apply0};
 ghost use Rattle.values.specs.declared.apply.Applied.TheVariants.{Done};
 ghost use Rattle.values.specs.Packing.{window_cell, unpack_of};
+ghost use Rattle.values.specs.Tallies.{finished};
 ghost use Rattle.layout.specs.Nodes.{member_of_kind};
-ghost use Rattle.columns.specs.Calling.{ask_of, call_of, settled_of, cell_of, Bounds};
+ghost use Rattle.columns.specs.Calling.{ask_of, call_of, conclude_of, settled_of, cell_of, Bounds};
 
 use layout::nodes::member_of;
-use members::Found;
-use rules::Value;
+use rules::{Reason, Value};
 use values::apply::{Applied, apply0, apply1};
 use values::numbers::on_numbers;
 use values::packing::{Packed, number_in, pack, unpack};
+use values::runs::{Tally, finish};
 use values::windows::on_window;
 
 // A receiver, which a start can move along.
@@ -21,35 +23,31 @@ fn bounded(v: Value) -> Value
     ensures { Bounds v result }
 {
     match v {
-        Value::Window { start, length } => {
-            if start as u32 + length as u32 <= 65535 {
-                return v;
-            }
-            Value::Missing(2)
+        Value::Window { start, length } if 65535 < start as u32 + length as u32 => {
+            Reason::WrongKind.into()
         }
-        Value::Number(_) => v,
-        Value::Function => v,
-        Value::Delayed => v,
-        Value::Missing(_) => v,
+        _ => v,
     }
 }
 
+// A member with no argument.
 pub fn ask(kind: u16, readings: &[i32], a: u64) -> u64
     ensures same { result ≡ ask_of (member_of_kind kind) readings.now a }
-    ensures back { (m : Member) → member_of_kind kind ≡ Is m → unpack_of result ≡ apply0 m readings.now (unpack_of a) }
+    ensures back { (m : Member) → member_of_kind kind ≡ Some m → unpack_of result ≡ apply0 m readings.now (unpack_of a) }
 {
     match member_of(kind) {
-        Found::Is(m) => pack(apply0(m, readings, unpack(a))),
-        Found::Unknown => Packed::WRONG,
+        Some(m) => pack(apply0(m, readings, unpack(a))),
+        None => Packed::WRONG,
     }
 }
 
+// A member with one argument, up to the runs of a function.
 pub fn call(kind: u16, readings: &[i32], a: u64, b: u64) -> Applied
     ensures { result ≡ call_of (member_of_kind kind) readings.now a b }
 {
     match member_of(kind) {
-        Found::Is(m) => apply1(m, readings, bounded(unpack(a)), unpack(b)),
-        Found::Unknown => Applied::Done(Value::Missing(2)),
+        Some(m) => apply1(m, readings, bounded(unpack(a)), unpack(b)),
+        None => Applied::Done(Reason::WrongKind.into()),
     }
 }
 
@@ -58,8 +56,19 @@ pub fn call_numbers(kind: u16, a: u64, b: u64) -> Value
     ensures { (xs : List ℤ) → a < window_cell → b < window_cell → Done result ≡ call_of (member_of_kind kind) xs a b }
 {
     match member_of(kind) {
-        Found::Is(m) => on_numbers(m, number_in(a), number_in(b)),
-        Found::Unknown => Value::Missing(2),
+        Some(m) => on_numbers(m, number_in(a), number_in(b)),
+        None => Reason::WrongKind.into(),
+    }
+}
+
+// What a member that runs a function comes to, from the tally of its runs.
+pub fn conclude(kind: u16, t: Tally) -> u64
+    ensures same { result ≡ conclude_of (member_of_kind kind) t }
+    ensures back { (m : Member) → member_of_kind kind ≡ Some m → unpack_of result ≡ finished m t }
+{
+    match member_of(kind) {
+        Some(m) => pack(finish(m, t)),
+        None => Packed::WRONG,
     }
 }
 
@@ -69,10 +78,7 @@ fn settled(a: Applied) -> u64
 {
     match a {
         Applied::Done(v) => pack(v),
-        Applied::Run {
-            start: _,
-            length: _,
-        } => Packed::WRONG,
+        Applied::Run { .. } => Packed::WRONG,
     }
 }
 
@@ -84,8 +90,8 @@ fn call_cell(kind: u16, readings: &[i32], a: u64, b: u64) -> u64
         let v = bounded(unpack(a));
         if let Value::Window { start, length } = v {
             return match member_of(kind) {
-                Found::Is(m) => pack(on_window(m, readings, start, length, number_in(b))),
-                Found::Unknown => Packed::WRONG,
+                Some(m) => pack(on_window(m, readings, start, length, number_in(b))),
+                None => Packed::WRONG,
             };
         }
     }

@@ -1,4 +1,6 @@
 // A column of a member that runs no function, from columns and constants that lie before it in the buffer.
+#![tactic(auto, using(crate::proofs::LoopLaws::row_steps))]
+
 ghost use Rattle.std.specs.Prelude.{◌≡◌, ◌<◌};
 ghost use Rattle.layout.specs.Nodes.{member_of_kind};
 ghost use Rattle.columns.specs.Columns.{Asks, row_put, Rowed, Columned};
@@ -36,6 +38,7 @@ pub fn column(kind: u16, two: bool, k: Column, c: usize, readings: &[i32], buf: 
     ensures { Columned (member_of_kind kind) two readings.now k c buf.old buf.new }
 {
     let mut r: usize = 0;
+    // No `for`: a step takes as many rows as there are of two numbers, and one more.
     while r < c {
         r = next(kind, two, k, r, c, buf);
         if r < c {

@@ -3,4 +3,5 @@
 
 pub mod calling;
 pub mod column;
+pub mod leaves;
 pub mod loops;

@@ -2,14 +2,14 @@
 // other than two numbers. Tests are numbers and not branches where their results vary from row to row.
 ghost use Rattle.std.specs.Prelude.{◌≡◌, true, ◌+◌, ◌*◌, ◌<◌, ◌≤◌, length, get_or};
 ghost use Rattle.language.specs.Limits.{table_entries};
+ghost use Rattle.members.specs.declared.Member.{Member};
 ghost use Rattle.members.specs.declared.Member.TheVariants as Members;
-ghost use Rattle.members.specs.declared.Found.TheVariants.{Is};
 ghost use Rattle.values.specs.Packing.{window_cell};
 ghost use Rattle.layout.specs.Nodes.{member_of_kind};
 ghost use Rattle.columns.specs.Columns.{numbers_cell, Asks, Numbered};
 
 use layout::nodes::member_of;
-use members::{Found, Member};
+use members::Member;
 use values::numbers::{add, div, mul, sub};
 use values::packing::{Packed, number_in, pack};
 
@@ -28,48 +28,82 @@ pub struct Column {
     pub to: usize,
 }
 
-// The members on two numbers, as cells.
-fn add_cell(a: u64, b: u64) -> u64
-    ensures { result ≡ numbers_cell Members.Add a b }
-{
-    pack(add(number_in(a), number_in(b)))
+// A member on two numbers, as cells: which one it is, and its work. Each is a type of its own, so that the loop over rows is compiled for each.
+trait OnNumbers {
+    ghost member: { Member };
+
+    fn cell(a: u64, b: u64) -> u64
+        ensures { result ≡ numbers_cell member a b };
 }
 
-fn sub_cell(a: u64, b: u64) -> u64
-    ensures { result ≡ numbers_cell Members.Sub a b }
-{
-    pack(sub(number_in(a), number_in(b)))
+struct Add;
+
+struct Sub;
+
+struct Mul;
+
+struct Div;
+
+struct Gt;
+
+struct Eq;
+
+impl OnNumbers for Add {
+    ghost member = { Members.Add };
+
+    fn cell(a: u64, b: u64) -> u64 {
+        pack(add(number_in(a), number_in(b)))
+    }
 }
 
-fn mul_cell(a: u64, b: u64) -> u64
-    ensures { result ≡ numbers_cell Members.Mul a b }
-{
-    pack(mul(number_in(a), number_in(b)))
+impl OnNumbers for Sub {
+    ghost member = { Members.Sub };
+
+    fn cell(a: u64, b: u64) -> u64 {
+        pack(sub(number_in(a), number_in(b)))
+    }
 }
 
-fn div_cell(a: u64, b: u64) -> u64
-    ensures { result ≡ numbers_cell Members.Div a b }
-{
-    pack(div(number_in(a), number_in(b)))
+impl OnNumbers for Mul {
+    ghost member = { Members.Mul };
+
+    fn cell(a: u64, b: u64) -> u64 {
+        pack(mul(number_in(a), number_in(b)))
+    }
 }
 
-fn gt_cell(a: u64, b: u64) -> u64
-    ensures { result ≡ numbers_cell Members.Gt a b }
-{
-    let p = number_in(a);
-    let q = number_in(b);
-    2147483649 + (q < p) as u64
+impl OnNumbers for Div {
+    ghost member = { Members.Div };
+
+    fn cell(a: u64, b: u64) -> u64 {
+        pack(div(number_in(a), number_in(b)))
+    }
 }
 
-fn eq_cell(a: u64, b: u64) -> u64
-    ensures { result ≡ numbers_cell Members.Eq a b }
-{
-    let p = number_in(a);
-    let q = number_in(b);
-    2147483649 + (p == q) as u64
+impl OnNumbers for Gt {
+    ghost member = { Members.Gt };
+
+    #[tactic(auto, using(crate::proofs::LoopLaws::cells))]
+    fn cell(a: u64, b: u64) -> u64 {
+        let p = number_in(a);
+        let q = number_in(b);
+        2147483649 + (q < p) as u64
+    }
+}
+
+impl OnNumbers for Eq {
+    ghost member = { Members.Eq };
+
+    #[tactic(auto, using(crate::proofs::LoopLaws::cells))]
+    fn cell(a: u64, b: u64) -> u64 {
+        let p = number_in(a);
+        let q = number_in(b);
+        2147483649 + (p == q) as u64
+    }
 }
 
 // Whether both are cells of numbers; 0 is left to the other way, so that a loop need not test for it again.
+#[tactic(auto, using(crate::proofs::LoopLaws::row_steps))]
 fn are_numbers(a: u64, b: u64) -> bool
     ensures { result ≡ true → (a < window_cell) × (b < window_cell) }
 {
@@ -87,147 +121,38 @@ pub fn cell_in(buf: &[u64], o: Operand, r: usize) -> u64
 }
 
 // The rows of a column from one on, up to one that has something other than two numbers: its number.
-fn add_rows(k: Column, from: usize, c: usize, buf: &mut [u64]) -> usize
+#[tactic(auto, using(crate::proofs::LoopLaws::row_steps))]
+fn rows<M: OnNumbers>(k: Column, from: usize, c: usize, buf: &mut [u64]) -> usize
     requires { Asks k c buf.old × (from ≤ c) }
-    ensures { Numbered (Is Members.Add) k c buf.old from buf.new result }
+    ensures { Numbered (Some M.member) k c buf.old from buf.new result }
 {
     let first = k.first;
     let second = k.second;
     let to = k.to;
-    let mut r = from;
-    while r < c {
+    for r in from..c {
         let a = cell_in(buf, first, r);
         let b = cell_in(buf, second, r);
-        if are_numbers(a, b) {
-            buf[to + r] = add_cell(a, b);
-            r += 1;
-        } else {
+        if !are_numbers(a, b) {
             return r;
         }
+        buf[to + r] = M::cell(a, b);
     }
-    r
-}
-
-fn sub_rows(k: Column, from: usize, c: usize, buf: &mut [u64]) -> usize
-    requires { Asks k c buf.old × (from ≤ c) }
-    ensures { Numbered (Is Members.Sub) k c buf.old from buf.new result }
-{
-    let first = k.first;
-    let second = k.second;
-    let to = k.to;
-    let mut r = from;
-    while r < c {
-        let a = cell_in(buf, first, r);
-        let b = cell_in(buf, second, r);
-        if are_numbers(a, b) {
-            buf[to + r] = sub_cell(a, b);
-            r += 1;
-        } else {
-            return r;
-        }
-    }
-    r
-}
-
-fn mul_rows(k: Column, from: usize, c: usize, buf: &mut [u64]) -> usize
-    requires { Asks k c buf.old × (from ≤ c) }
-    ensures { Numbered (Is Members.Mul) k c buf.old from buf.new result }
-{
-    let first = k.first;
-    let second = k.second;
-    let to = k.to;
-    let mut r = from;
-    while r < c {
-        let a = cell_in(buf, first, r);
-        let b = cell_in(buf, second, r);
-        if are_numbers(a, b) {
-            buf[to + r] = mul_cell(a, b);
-            r += 1;
-        } else {
-            return r;
-        }
-    }
-    r
-}
-
-fn div_rows(k: Column, from: usize, c: usize, buf: &mut [u64]) -> usize
-    requires { Asks k c buf.old × (from ≤ c) }
-    ensures { Numbered (Is Members.Div) k c buf.old from buf.new result }
-{
-    let first = k.first;
-    let second = k.second;
-    let to = k.to;
-    let mut r = from;
-    while r < c {
-        let a = cell_in(buf, first, r);
-        let b = cell_in(buf, second, r);
-        if are_numbers(a, b) {
-            buf[to + r] = div_cell(a, b);
-            r += 1;
-        } else {
-            return r;
-        }
-    }
-    r
-}
-
-fn gt_rows(k: Column, from: usize, c: usize, buf: &mut [u64]) -> usize
-    requires { Asks k c buf.old × (from ≤ c) }
-    ensures { Numbered (Is Members.Gt) k c buf.old from buf.new result }
-{
-    let first = k.first;
-    let second = k.second;
-    let to = k.to;
-    let mut r = from;
-    while r < c {
-        let a = cell_in(buf, first, r);
-        let b = cell_in(buf, second, r);
-        if are_numbers(a, b) {
-            buf[to + r] = gt_cell(a, b);
-            r += 1;
-        } else {
-            return r;
-        }
-    }
-    r
-}
-
-fn eq_rows(k: Column, from: usize, c: usize, buf: &mut [u64]) -> usize
-    requires { Asks k c buf.old × (from ≤ c) }
-    ensures { Numbered (Is Members.Eq) k c buf.old from buf.new result }
-{
-    let first = k.first;
-    let second = k.second;
-    let to = k.to;
-    let mut r = from;
-    while r < c {
-        let a = cell_in(buf, first, r);
-        let b = cell_in(buf, second, r);
-        if are_numbers(a, b) {
-            buf[to + r] = eq_cell(a, b);
-            r += 1;
-        } else {
-            return r;
-        }
-    }
-    r
+    c
 }
 
 // Those of the member of a kind: of one that is used on no two numbers, none.
+#[tactic(auto, using(crate::proofs::LoopLaws::rowed_of))]
 pub fn numbers(kind: u16, k: Column, from: usize, c: usize, buf: &mut [u64]) -> usize
     requires { Asks k c buf.old × (from ≤ c) }
     ensures { Numbered (member_of_kind kind) k c buf.old from buf.new result }
 {
     match member_of(kind) {
-        Found::Is(m) => match m {
-            Member::Add => add_rows(k, from, c, buf),
-            Member::Sub => sub_rows(k, from, c, buf),
-            Member::Mul => mul_rows(k, from, c, buf),
-            Member::Div => div_rows(k, from, c, buf),
-            Member::Gt => gt_rows(k, from, c, buf),
-            Member::Eq => eq_rows(k, from, c, buf),
-            _ => from,
-        },
-        Found::Unknown => from,
+        Some(Member::Add) => rows::<Add>(k, from, c, buf),
+        Some(Member::Sub) => rows::<Sub>(k, from, c, buf),
+        Some(Member::Mul) => rows::<Mul>(k, from, c, buf),
+        Some(Member::Div) => rows::<Div>(k, from, c, buf),
+        Some(Member::Gt) => rows::<Gt>(k, from, c, buf),
+        Some(Member::Eq) => rows::<Eq>(k, from, c, buf),
+        _ => from,
     }
 }

@@ -1,5 +1,6 @@
 -- A cache that was opened and kept passes every test of refusal 4. Assumes nothing.
 use Rattle.std.specs.Prelude.{◌≡◌, refl, Bool, not, ◌||◌, List, [], ◌∷◌, ◌++◌, map, ℕ, zero, suc, ◌+◌, ◌-◌, ◌<◌, ◌≤◌, ◌^◌, ltb, ℤ, pos}
+use Rattle.std.proofs.lemmas.Bool.{false≢true}
 use Rattle.std.proofs.Math.Path.{sym, ap}
 use Rattle.std.proofs.Common.{◌∙◌, subst, inl, inr, arith, leb→le, length-take, length-append}
 use Rattle.std.proofs.Math.Bool.{true, false, or-true}
@@ -9,7 +10,7 @@ use borrow.Author.Tests.{eq-eqb, le-leb, lt-ltb, ltb-true, ltb-false}
 use Rattle.std.proofs.Math.Dec.{eqb, leb}
 use Rattle.std.proofs.Math.ListN.{length, get_or, get_elem?, length-map}
 use Rattle.std.specs.Int.Signed.{mag}
-use Rattle.language.specs.Cases.{impossible, split}
+use Rattle.language.specs.Cases.{split}
 use Rattle.language.specs.Limits.{table_entries, table_readings, open_lambdas}
 use Rattle.members.specs.Members.{arguments}
 use Rattle.members.specs.MembersLaws.{number-below}
@@ -136,7 +137,7 @@ lower_by i _ (a_call m f a e) h =
 -- no node twice
 pub has-at : (n : Node) (ns : List Node) → has_node n ns ≡ true → (q : ℕ) × (get_elem? ns q ≡ some n)
 unfolding has_node
-has-at n [] h = impossible h
+has-at n [] h = absurd (false≢true h)
 has-at n (m ∷ ms) h =
     split (same_node m n)
     (λ e. (0, ap some (equality.equal m n e)))
@@ -191,7 +192,7 @@ awaited-after fs (n ∷ ns) p =
 joined-nth : (fs : List Form) (es : List Entry) (p : ℕ) (e : Entry) → length fs ≡ length es → get_elem? es p ≡ some e
     → get_elem? (with_marks fs es) p ≡ some (record { form = get_or fs p readings; mark = mark_of e.kept })
 unfolding with_marks
-joined-nth [] [] p e l h = impossible (cc)
+joined-nth [] [] p e l h = absurd (false≢true (cc))
 joined-nth [] (x ∷ es) p e l h = absurd (omega arith)
 joined-nth (f ∷ fs) [] p e l h = absurd (omega arith)
 joined-nth (f ∷ fs) (x ∷ es) zero e l h = let q : x ≡ e = cc in ap (λ (y : Entry). some (record { form = f; mark = mark_of y.kept })) q
@@ -210,12 +211,12 @@ works-kind φ (a_call m f a e) = sym (le-leb function_kind (member_kind m) (omeg
 
 member-proper : (g : Form) (fs : List Form) → is_in same g fs ≡ true → All Proper fs → Proper g
 unfolding is_in
-member-proper g [] h p = impossible h
+member-proper g [] h p = absurd (false≢true h)
 member-proper g (f ∷ fs) h p = split (same f g) (λ e. subst Proper (same-eq f g e) p.0) (λ e. member-proper g fs (rw e at h) p.1)
 
 nth-member : (fs : List Form) (p : ℕ) (f : Form) → get_elem? fs p ≡ some f → is_in same f fs ≡ true
 unfolding is_in
-nth-member [] p f h = impossible (cc)
+nth-member [] p f h = absurd (false≢true (cc))
 nth-member (g ∷ fs) zero f h = let q : g ≡ f = cc in rw (q, same_self f)
 nth-member (g ∷ fs) (suc p) f h = let i = nth-member fs p f h in split (same g f) (λ e. rw e) (λ e. rw (e, i))
 
@@ -233,17 +234,17 @@ all_done_lem es (k ∷ ks) h =
 
 done_at_lem : (es : List Entry) (j : ℕ) (e : Entry) → get_elem? es j ≡ some e → is_done e ≡ true → done_at es j ≡ true
 unfolding done_at
-done_at_lem [] j e h d = impossible (cc)
+done_at_lem [] j e h d = absurd (false≢true (cc))
 done_at_lem (x ∷ es) zero e h d = let q : x ≡ e = cc in rw q d
 done_at_lem (x ∷ es) (suc j) e h d = done_at_lem es j e h d
 
 not-zero : (k : ℕ) → eqb k 0 ≡ false → 1 ≤ k
-not-zero zero h = impossible (sym h)
+not-zero zero h = absurd (false≢true (sym h))
 not-zero (suc k) h = omega arith
 
 or-not : (a b : Bool) → (a || not b) ≡ true → (a ≡ true → ⊥) → b ≡ false
 or-not true b h n = absurd (n refl)
-or-not false true h n = impossible h
+or-not false true h n = absurd (false≢true h)
 or-not false false h n = refl
 
 module _ (m : Memory) (o : Ok m) (i : Invariant formulas formula-laws (holds m)) where
@@ -314,7 +315,7 @@ module _ (m : Memory) (o : Ok m) (i : Invariant formulas formula-laws (holds m))
       marked = ap mark_of w.1 ∙ w.2
 
       by : Inv.Kept formulas (recording_of m) (record { form = get_or fs p readings; mark = mark_of e.kept }) → kept_right (reading_count m) e ≡ true
-      by (Inv.bare q) = impossible (let z : none ≡ some w.0 = sym q ∙ marked in cc)
+      by (Inv.bare q) = absurd (false≢true (let z : none ≡ some w.0 = sym q ∙ marked in cc))
       by (Inv.holds x q) =
           let s : some w.0 ≡ some (shows (recording_of m) (get_or fs p readings)) = sym marked ∙ q in
           let v : w.0 ≡ shows (recording_of m) (get_or fs p readings) = cc in
@@ -328,12 +329,12 @@ module _ (m : Memory) (o : Ok m) (i : Invariant formulas formula-laws (holds m))
       split (works_kind x.node.kind)
       (λ e.
       split (eqb x.kept.value 0)
-      (λ z. impossible (let u : works_kind x.node.kind ≡ false = sym w ∙ (or-not _ _ h (λ y. never-some z y)) in sym u ∙ e))
+      (λ z. absurd (false≢true (let u : works_kind x.node.kind ≡ false = sym w ∙ (or-not _ _ h (λ y. never-some z y)) in sym u ∙ e)))
       (λ z. rw e (le-leb 1 x.kept.value (not-zero x.kept.value z))))
       (λ e. rw e)
     where
       never-some : eqb x.kept.value 0 ≡ true → Model.marked formulas (record { form = get_or fs j readings; mark = mark_of x.kept }) ≡ true → ⊥
-      never-some z y = absurd (impossible (rw z at y))
+      never-some z y = absurd (absurd (false≢true (rw z at y)))
 
   settled_at : (p : ℕ) (e : Entry) → At p e → settled es e ≡ true
   settled_at p e a =

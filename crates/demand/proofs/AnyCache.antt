@@ -2,6 +2,7 @@
 -- that it works out is kept as a packed value with the names of that value, and what the entry depends on was worked out before it.
 -- Assumes nothing.
 use Rattle.std.specs.Prelude.{◌≡◌, not, ◌&&◌, ◌||◌, List, ◌⊎◌, leb, ltb, ℤ, length, get_or, set, replicate}
+use Rattle.std.proofs.lemmas.Bool.{false≢true}
 use Rattle.std.proofs.Math.Path.{refl, sym, ap, subst}
 use Rattle.std.proofs.Common.{◌∙◌, length-set, length-take, get_or-set_same, get_or-set_other}
 use Rattle.std.proofs.Math.Bool.{true, false, or-true, and-eq-true_iff}
@@ -10,7 +11,7 @@ use Prim.Native.Nat.{ℕ, zero, suc, ◌+◌, ◌-◌, ◌<◌, ◌≤◌}
 use native.Mathlib.Omega.{arith}
 use borrow.Author.Tests.{eq-eqb, ne_eqb, eqb-true, eqb-false, le-leb, leb-true, lt-ltb, le-ltb, ltb-true}
 use Rattle.std.proofs.Math.Dec.{eqb}
-use Rattle.language.specs.Cases.{impossible, split}
+use Rattle.language.specs.Cases.{split}
 use Rattle.language.specs.Limits.{table_entries}
 use Rattle.values.specs.Packing.{is_packed}
 use Rattle.model.specs.Lists.{All, count_if}
@@ -195,7 +196,7 @@ module _ (m : Memory) (f : fits m ≡ true) (well : Well m) (sound : All IsReadi
 
       above : 1 ≤ v
       unfolding is_packed
-      above = split (eqb v 0) (λ e. let q = eqb-true v 0 e in impossible (rw q at right-value.packed)) (λ e. let q = eqb-false v 0 e in omega arith)
+      above = split (eqb v 0) (λ e. let q = eqb-true v 0 e in absurd (false≢true (rw q at right-value.packed))) (λ e. let q = eqb-false v 0 e in omega arith)
 
       works-here : works_kind (node_at links m.cells i).kind ≡ true
       unfolding node_at

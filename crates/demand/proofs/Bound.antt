@@ -1,7 +1,8 @@
 -- Binding over the table's nodes is the model's binding of records: the laws that it asks for, and that the two are one. Assumes nothing.
 use Rattle.std.specs.Prelude.{◌≡◌, refl, true, false, cond, List, [], ◌∷◌, ◌++◌, map, ℕ, zero, suc, ◌<◌, ltb, length, get_or}
+use Rattle.std.proofs.lemmas.Bool.{false≢true}
 use Rattle.std.proofs.Common.{sym, ap, ◌∙◌, subst, append-nil, append_assoc, arith, lt-ltb, le-ltb}
-use Rattle.language.specs.Cases.{impossible, split}
+use Rattle.language.specs.Cases.{split}
 use Rattle.meaning.specs.Forms.{Form}
 use Rattle.model.specs.Lists.{member, index}
 use Rattle.model.specs.Decoding.{decode_from}
@@ -41,10 +42,10 @@ among-by j l k e h = rw e h
 
 from-relinked : (n : Node) (ρ : ℕ → ℕ) (j : ℕ) → Fine n → among j (kids (relink_by n ρ)) ≡ true → (k : ℕ) × (among k (kids n) ≡ true) × (ρ k ≡ j)
 unfolding relink_by kids arity member_of_kind member
-from-relinked _ ρ j (a_number k) h = impossible h
-from-relinked _ ρ j (a_variable x k _) h = impossible h
-from-relinked _ ρ j (an_unbound x) h = impossible h
-from-relinked _ ρ j the_readings h = impossible h
+from-relinked _ ρ j (a_number k) h = absurd (false≢true h)
+from-relinked _ ρ j (a_variable x k _) h = absurd (false≢true h)
+from-relinked _ ρ j (an_unbound x) h = absurd (false≢true h)
+from-relinked _ ρ j the_readings h = absurd (false≢true h)
 from-relinked _ ρ j (a_function x b k _) h =
     (b, among-by b _ _ (kids-function x b k) (among_first b []), among_one j (ρ b) (subst (λ (l : List ℕ). among j l ≡ true) (kids-function x (ρ b) k) h))
 from-relinked _ ρ j (an_ask m f e) h = (f, among-by f _ _ (kids-ask m f e) (among_first f []), among_one j (ρ f) (subst (λ (l : List ℕ). among j l ≡ true) (kids-ask m (ρ f) e) h))
@@ -68,13 +69,13 @@ relink-same numbers n = λ i. node_with n.kind n.key (link-same numbers n.first 
 -- found: below the length; not found: the length
 found_below : (n : Node) (ns : List Node) → member same_node n ns ≡ true → index same_node n ns < length ns
 unfolding member index
-found_below n [] h = impossible h
+found_below n [] h = absurd (false≢true h)
 found_below n (m ∷ ns) h = split (same_node m n) (λ e. rw e (omega arith)) (λ e. let r = found_below n ns (rw e at h) in rw e (omega arith))
 
 not_found : (n : Node) (ns : List Node) → member same_node n ns ≡ false → index same_node n ns ≡ length ns
 unfolding member index
 not_found n [] h = refl
-not_found n (m ∷ ns) h = split (same_node m n) (λ e. impossible (sym (rw e at h))) (λ e. rw e (ap suc (not_found n ns (rw e at h))))
+not_found n (m ∷ ns) h = split (same_node m n) (λ e. absurd (false≢true (sym (rw e at h)))) (λ e. rw e (ap suc (not_found n ns (rw e at h))))
 
 -- the model's state of binding, from the table's
 abbrev pub as_bound : Bound → Binder.Bound formulas nodes relink_by

@@ -1,10 +1,11 @@
 -- The cells of what a form shows pass the tests of refusal 4, and show it again. Assumes nothing.
 use Rattle.std.specs.Prelude.{◌≡◌, Bool, true, false, ◌||◌, List, [], ◌∷◌, map, ℕ, ◌<◌, ◌≤◌, eqb, ℤ, pos, length, get_or}
+use Rattle.std.proofs.lemmas.Bool.{false≢true, cond_both}
 use Rattle.std.proofs.Math.Path.{refl}
 use Rattle.std.proofs.Common.{sym, ap, ◌∙◌, subst, arith, eq-eqb, ne_eqb}
 use Rattle.std.proofs.Math.Option.{some}
 use Rattle.std.specs.Int.Signed.{mag}
-use Rattle.language.specs.Cases.{impossible, split, by_cond}
+use Rattle.language.specs.Cases.{split}
 use Rattle.language.specs.Limits.{table_readings}
 use Rattle.members.specs.declared.Member.{Member}
 use Rattle.rules.specs.declared.Value.{Value}
@@ -76,15 +77,15 @@ is_fun (Missing r) = false
 plain-fun : (v : Value) → is_plain v ≡ true → is_fun v ≡ false
 plain-fun (Number z) h = refl
 plain-fun (Window s l) h = refl
-plain-fun Function h = impossible h
-plain-fun Delayed h = impossible h
+plain-fun Function h = absurd (false≢true h)
+plain-fun Delayed h = absurd (false≢true h)
 plain-fun (Missing r) h = refl
 
 missing-fun : (v : Value) → is_missing v ≡ true → is_fun v ≡ false
-missing-fun (Number z) h = impossible h
-missing-fun (Window s l) h = impossible h
-missing-fun Function h = impossible h
-missing-fun Delayed h = impossible h
+missing-fun (Number z) h = absurd (false≢true h)
+missing-fun (Window s l) h = absurd (false≢true h)
+missing-fun Function h = absurd (false≢true h)
+missing-fun Delayed h = absurd (false≢true h)
 missing-fun (Missing r) h = refl
 
 abbrev NoFun : Value → Type 0
@@ -93,38 +94,38 @@ NoFun v = is_fun v ≡ false
 fun0 : (m : Member) (xs : List ℤ) (v : Value) → NoFun (apply0 m xs v)
 unfolding apply0
 fun0 m xs v =
-    by_cond NoFun (is_missing v) v _ (missing-fun v)
-    (λ _. by_cond NoFun (is_delayed v) Delayed _ (λ e. refl)
+    cond_both (is_missing v) v _ NoFun (missing-fun v)
+    (λ _. cond_both (is_delayed v) Delayed _ NoFun (λ e. refl)
     (λ _. plain-fun (by_rule0 (rule m) xs v) (plain-rule0 m xs v)))
 
 fun1 : (m : Member) (xs : List ℤ) (v w : Value) (run : ℤ → Value) → NoFun (apply1 m xs v w run)
 unfolding apply1
 fun1 m xs v w run =
-    by_cond NoFun (is_missing v) v _ (missing-fun v)
-    (λ _. by_cond NoFun (is_missing w) w _ (missing-fun w)
-    (λ _. by_cond NoFun (is_delayed v || is_delayed w) Delayed _ (λ e. refl)
+    cond_both (is_missing v) v _ NoFun (missing-fun v)
+    (λ _. cond_both (is_missing w) w _ NoFun (missing-fun w)
+    (λ _. cond_both (is_delayed v || is_delayed w) Delayed _ NoFun (λ e. refl)
     (λ _. plain-fun (by_rule1 (rule m) xs v w run) (plain-rule1 m xs v w run))))
 
 function-name : (xs : List ℤ) (f : Form) → Deep f → is_fun (value_of (evaluate xs nowhere f)) ≡ true → is_name (name_in (name_of f)) ≡ true
 unfolding evaluate value_of lookup name_of
-function-name xs (number z) d h = impossible h
-function-name xs (variable x) d h = impossible h
-function-name xs (unbound x) d h = impossible h
-function-name xs readings d h = impossible h
-function-name xs (ask m f) d h = impossible (sym (fun0 m xs _) ∙ h)
-function-name xs (call m f a) d h = impossible (sym (fun1 m xs _ _ _) ∙ h)
+function-name xs (number z) d h = absurd (false≢true h)
+function-name xs (variable x) d h = absurd (false≢true h)
+function-name xs (unbound x) d h = absurd (false≢true h)
+function-name xs readings d h = absurd (false≢true h)
+function-name xs (ask m f) d h = absurd (false≢true (sym (fun0 m xs _) ∙ h))
+function-name xs (call m f a) d h = absurd (false≢true (sym (fun1 m xs _ _ _) ∙ h))
 function-name xs (function x b) d h = (d (function x b) (within-self (function x b))).shape
 
 -- a name is not 0
 pub name-some : (y : ℕ) → is_name y ≡ true → eqb y 0 ≡ false
 unfolding is_name word_number
-name-some y h = ne_eqb y 0 (λ e. impossible (rw e at h))
+name-some y h = ne_eqb y 0 (λ e. absurd (false≢true (rw e at h)))
 
 -- one name or two
 keeps-delay : (n : ℕ) (xs : List ℕ) → length xs ≤ 2 → (y : ℕ) → Has y xs → ((z : ℕ) → Has z xs → is_name (name_in z) ≡ true) → Keepable n Delayed
     → Keeps n (a_delay (map name_in xs))
 unfolding names_right has_name
-keeps-delay n [] l y h g k = impossible h
+keeps-delay n [] l y h g k = absurd (false≢true h)
 keeps-delay n (a ∷ []) l y h g k =
     let p = g a (rw (eq-eqb a a refl)) in
     let y = name-some (name_in a) p in

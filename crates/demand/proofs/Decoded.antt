@@ -4,9 +4,9 @@ use Rattle.std.proofs.Math.Path.{refl}
 use Rattle.std.proofs.Common.{sym, ap, ◌∙◌, arith}
 use Rattle.std.proofs.Math.Bool.{and-eq-true_iff}
 use Rattle.std.proofs.Math.Option.{some}
-use Rattle.std.proofs.lemmas.Bool.{not-true}
+use Rattle.std.proofs.lemmas.Bool.{not-true, false≢true}
 use Rattle.std.proofs.Math.ListN.{get_elem?}
-use Rattle.language.specs.Cases.{impossible, split}
+use Rattle.language.specs.Cases.{split}
 use Rattle.meaning.specs.Forms.{Form, readings, same}
 use Rattle.model.specs.Lists.{member, Distinct}
 use Rattle.model.specs.ListLaws.{nth-below, nth-has, getD-nth, Equality, nth-index, index-nth}
@@ -38,7 +38,7 @@ module _ (i : ℕ) (n : Node) (r : node_right i n ≡ true) where
       first u e = omega (arith, first-given i n r u, first-low i n r)
 
       by : (x : ℕ) → arity n.kind ≡ x → among j (listed x n) ≡ true → j < i
-      by zero e h = impossible h
+      by zero e h = absurd (false≢true h)
       by (suc zero) e h = first (λ z. omega arith) (among_one j (n.first - 1) h)
       by (suc (suc x)) e h = among_two j (n.first - 1) (n.second - 1) h (first (λ z. omega arith)) (λ q. omega (arith, a_second i n r (omega arith), second-low i n r))
 

@@ -1,7 +1,8 @@
 -- When a member is delayed: exactly where a dependency is and none is missing. So a form that is delayed awaits a name. Assumes nothing.
 use Rattle.std.specs.Prelude.{◌≡◌, refl, Bool, true, false, ◌||◌, List, ℤ}
+use Rattle.std.proofs.lemmas.Bool.{false≢true}
 use Rattle.std.proofs.Common.{sym, ◌∙◌}
-use Rattle.language.specs.Cases.{impossible, split}
+use Rattle.language.specs.Cases.{split}
 use Rattle.members.specs.declared.Member.{Member}
 use Rattle.rules.specs.declared.Value.{Value}
 use Rattle.rules.specs.declared.Value.TheVariants.{Number, Window, Function, Delayed, Missing}
@@ -41,15 +42,15 @@ plain-rule1 m xs v w run = closed-rule1 Plain plain m xs (λ i h. refl) run (λ 
 plain-not : (v : Value) → is_plain v ≡ true → is_delayed v ≡ false
 plain-not (Number z) h = refl
 plain-not (Window s l) h = refl
-plain-not Function h = impossible h
-plain-not Delayed h = impossible h
+plain-not Function h = absurd (false≢true h)
+plain-not Delayed h = absurd (false≢true h)
 plain-not (Missing r) h = refl
 
 missing-not : (v : Value) → is_missing v ≡ true → is_delayed v ≡ false
-missing-not (Number z) h = impossible h
-missing-not (Window s l) h = impossible h
-missing-not Function h = impossible h
-missing-not Delayed h = impossible h
+missing-not (Number z) h = absurd (false≢true h)
+missing-not (Window s l) h = absurd (false≢true h)
+missing-not Function h = absurd (false≢true h)
+missing-not Delayed h = absurd (false≢true h)
 missing-not (Missing r) h = refl
 
 -- delayed: only by a dependency
@@ -59,8 +60,8 @@ delayed0 m xs v h =
     split (is_delayed v) (λ e. e)
     (λ e.
     split (is_missing v)
-    (λ x. impossible (sym (missing-not v x) ∙ rw x at h))
-    (λ x. impossible (sym (plain-not (by_rule0 (rule m) xs v) (plain-rule0 m xs v)) ∙ rw (x, e) at h)))
+    (λ x. absurd (false≢true (sym (missing-not v x) ∙ rw x at h)))
+    (λ x. absurd (false≢true (sym (plain-not (by_rule0 (rule m) xs v) (plain-rule0 m xs v)) ∙ rw (x, e) at h))))
 
 pub delayed1 : (m : Member) (xs : List ℤ) (v w : Value) (run : ℤ → Value) → is_delayed (apply1 m xs v w run) ≡ true → (is_delayed v || is_delayed w) ≡ true
 unfolding apply1
@@ -68,8 +69,8 @@ delayed1 m xs v w run h =
     split (is_delayed v || is_delayed w) (λ e. e)
     (λ e.
     split (is_missing v)
-    (λ x. impossible (sym (missing-not v x) ∙ rw x at h))
+    (λ x. absurd (false≢true (sym (missing-not v x) ∙ rw x at h)))
     (λ x.
     split (is_missing w)
-    (λ y. impossible (sym (missing-not w y) ∙ rw (x, y) at h))
-    (λ y. impossible (sym (plain-not (by_rule1 (rule m) xs v w run) (plain-rule1 m xs v w run)) ∙ rw (x, y, e) at h))))
+    (λ y. absurd (false≢true (sym (missing-not w y) ∙ rw (x, y) at h)))
+    (λ y. absurd (false≢true (sym (plain-not (by_rule1 (rule m) xs v w run) (plain-rule1 m xs v w run)) ∙ rw (x, y, e) at h)))))

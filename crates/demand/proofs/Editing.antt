@@ -1,9 +1,10 @@
 -- An edit of a cache that was opened and kept answers as the model does and leaves what the model holds. Assumes nothing.
 use Rattle.std.specs.Prelude.{◌≡◌, refl, true, false, not, List, [], ◌∷◌, ◌++◌, map, ℕ, ◌-◌, ◌<◌, leb, ltb, length, get_or, drop, take}
+use Rattle.std.proofs.lemmas.Bool.{false≢true}
 use Rattle.std.proofs.Common.{sym, ap, ◌∙◌, subst, inl, arith, ltb-false, leb-true, leb-false, lt-ltb, le-ltb, length-append, drop_at}
 use Rattle.std.proofs.lemmas.List.{map-append, length-map}
 use Rattle.std.proofs.Math.Option.{some}
-use Rattle.language.specs.Cases.{impossible, split}
+use Rattle.language.specs.Cases.{split}
 use Rattle.language.specs.Limits.{text_bytes, text_parts, table_entries}
 use Rattle.grammar.specs.Grammar.{Expression}
 use Rattle.grammar.specs.KeptLimits.{KeepsLimits}
@@ -75,7 +76,7 @@ module _ (m : Memory) (placed : AllPlaced formulas nodes 0 (nodes_of (entries_of
         stands = decodes formulas nodes graph-laws ns placed;
         distinct = apart;
         size = refl;
-        numbered = λ j f h. impossible (let l = nth-below [] j f h in absurd (omega arith));
+        numbered = λ j f h. absurd (false≢true (let l = nth-below [] j f h in absurd (omega arith)));
       }
 
   record-forms : Binder.record_forms formulas nodes [] (map Binder.fresh R.records) ≡ forms_of R.records

@@ -4,9 +4,9 @@ use Rattle.std.specs.Prelude.{◌≡◌, refl, Bool, cond, ◌&&◌, List, ℕ, 
 use Rattle.std.proofs.Common.{sym, eqb-true, eq-eqb, leb→le}
 use Rattle.std.proofs.Math.Bool.{true, false}
 use native.Mathlib.Omega.{arith}
-use Rattle.std.proofs.lemmas.Bool.{not-false}
+use Rattle.std.proofs.lemmas.Bool.{not-false, false≢true, or_right}
 use Rattle.std.specs.Int.Signed.{mag}
-use Rattle.language.specs.Cases.{impossible, split, either, or_right}
+use Rattle.language.specs.Cases.{split, either}
 use Rattle.language.specs.Limits.{table_readings}
 use Rattle.members.specs.declared.Member.{Member}
 use Rattle.grammar.specs.KeptLimits.{InRange}
@@ -64,15 +64,15 @@ unfolding lookup awaited
 under x b ρ a =
     let u = a.unset in
     split (eqb x a.name)
-    (λ e. impossible (rw e at u))
+    (λ e. absurd (false≢true (rw e at u)))
     (λ e. record { name = a.name; free = has_kept a.name x (awaited b) a.free e; unset = rw e at u })
 
 unsettled : (f : Form) (ρ : Environment) → settled ρ f ≡ false → Awaits f ρ
 unfolding settled awaited has_name
-unsettled (number z) ρ h = impossible (sym h)
+unsettled (number z) ρ h = absurd (false≢true (sym h))
 unsettled (variable x) ρ h = record { name = x; free = rw (eq-eqb x x refl); unset = not-false (is_delayed (lookup ρ x)) h }
-unsettled (unbound x) ρ h = impossible (sym h)
-unsettled readings ρ h = impossible (sym h)
+unsettled (unbound x) ρ h = absurd (false≢true (sym h))
+unsettled readings ρ h = absurd (false≢true (sym h))
 unsettled (ask m f) ρ h = let a = unsettled f ρ h in record { name = a.name; free = a.free; unset = a.unset }
 unsettled (call m f a) ρ h =
     not-both (settled ρ f) (settled ρ a) h
@@ -82,23 +82,23 @@ unsettled (function x b) ρ h = under x b ρ (unsettled b (bind x (Number (pos 0
 
 function-delayed : (v : Value) (s : Bool) (g : ℤ → Result) → is_delayed (value_of (function_of v s g)) ≡ true → s ≡ false
 unfolding value_of
-function-delayed (Number z) true g h = impossible h
+function-delayed (Number z) true g h = absurd (false≢true h)
 function-delayed (Number z) false g h = refl
-function-delayed (Window i l) true g h = impossible h
+function-delayed (Window i l) true g h = absurd (false≢true h)
 function-delayed (Window i l) false g h = refl
-function-delayed Function true g h = impossible h
+function-delayed Function true g h = absurd (false≢true h)
 function-delayed Function false g h = refl
-function-delayed Delayed true g h = impossible h
+function-delayed Delayed true g h = absurd (false≢true h)
 function-delayed Delayed false g h = refl
-function-delayed (Missing r) s g h = impossible h
+function-delayed (Missing r) s g h = absurd (false≢true h)
 
 module _ (xs : List ℤ) where
   pub delayed-awaits : (f : Form) (ρ : Environment) → is_delayed (value_of (evaluate xs ρ f)) ≡ true → Awaits f ρ
   unfolding evaluate value_of awaited has_name
-  delayed-awaits (number z) ρ h = impossible h
+  delayed-awaits (number z) ρ h = absurd (false≢true h)
   delayed-awaits (variable x) ρ h = record { name = x; free = rw (eq-eqb x x refl); unset = h }
-  delayed-awaits (unbound x) ρ h = impossible h
-  delayed-awaits readings ρ h = impossible h
+  delayed-awaits (unbound x) ρ h = absurd (false≢true h)
+  delayed-awaits readings ρ h = absurd (false≢true h)
   delayed-awaits (ask m f) ρ h = let a = delayed-awaits f ρ (delayed0 m xs _ h) in record { name = a.name; free = a.free; unset = a.unset }
   delayed-awaits (call m f a) ρ h =
       either (is_delayed (value_of (evaluate xs ρ f))) (is_delayed (value_of (evaluate xs ρ a))) (delayed1 m xs _ _ _ h)
@@ -111,10 +111,10 @@ module _ (xs : List ℤ) where
 -- the awaited names are those of variables in the form
 awaited-within : (y : ℕ) (f : Form) → Has y (awaited f) → within (variable y) f ≡ true
 unfolding awaited within has_name
-awaited-within y (number z) h = impossible h
-awaited-within y (variable x) h = split (eqb y x) (λ e. rw (eqb-true y x e) (same_self (variable x))) (λ e. impossible (rw e at h))
-awaited-within y (unbound x) h = impossible h
-awaited-within y readings h = impossible h
+awaited-within y (number z) h = absurd (false≢true h)
+awaited-within y (variable x) h = split (eqb y x) (λ e. rw (eqb-true y x e) (same_self (variable x))) (λ e. absurd (false≢true (rw e at h)))
+awaited-within y (unbound x) h = absurd (false≢true h)
+awaited-within y readings h = absurd (false≢true h)
 awaited-within y (ask m f) h = or_right (same (variable y) (ask m f)) _ (awaited-within y f h)
 awaited-within y (call m f a) h =
     or_right (same (variable y) (call m f a)) _

@@ -1,5 +1,6 @@
 -- A preview of a cache that was opened and kept answers as the model does and leaves what the model holds. Assumes nothing.
 use Rattle.std.specs.Prelude.{◌≡◌, refl, Bool, false, ◌⊎◌, eqb, ltb, ℤ, pos, get_or, replicate}
+use Rattle.std.proofs.lemmas.Bool.{false≢true}
 use Rattle.std.proofs.Common.{sym, ◌∙◌, inl, inr, arith, eq-eqb, ne_eqb, lt-ltb, le-ltb, leb-true, leb-false, ltb-true, ltb-false, length-take}
 use Rattle.std.proofs.Math.Path.{ap}
 use Rattle.std.proofs.Math.Bool.{true}
@@ -11,7 +12,7 @@ use Rattle.std.proofs.Math.Nat.{sub-zero}
 use Rattle.std.proofs.Math.ListN.{length, get_elem?}
 use Rattle.std.proofs.lemmas.List.{length-map}
 use Rattle.std.specs.Int.Signed.{mag}
-use Rattle.language.specs.Cases.{impossible, split}
+use Rattle.language.specs.Cases.{split}
 use Rattle.language.specs.Limits.{table_entries}
 use Rattle.meaning.specs.Forms.{Form, readings, works, name_of, same, dependency, within, name_in, with_level}
 use Rattle.meaning.proofs.FormsLaws.{name_back}
@@ -46,6 +47,7 @@ use Rattle.bridge.specs.Graphs.{nodes, graph-laws, kids-function, kids-ask, kids
 use Rattle.table.specs.EntryForms.{forms_of}
 use Rattle.bridge.specs.Proper.{Proper}
 use Rattle.bridge.specs.FormulaLaws.{formula-laws}
+use Rattle.std.specs.Prelude
 use Rattle.interface.specs.Answers.{shown_of, preview_reply}
 use Rattle.interface.specs.Calls.{work_on, worked_memory, previewed_as, previewed, preview_answer, preview_memory}
 use Rattle.demand.specs.Holds.{with_marks, holds, mark_of, kept_for, Ok, Written}
@@ -110,7 +112,7 @@ nodes-same links cells now c h =
 
 count-zero : {A : Type 0} (p : A → Bool) (xs : List A) (i : ℕ) (x : A) → count_if p xs ≡ 0 → get_elem? xs i ≡ some x → p x ≡ false
 unfolding count_if
-count-zero p [] i x h e = impossible (cc)
+count-zero p [] i x h e = absurd (false≢true (cc))
 count-zero p (y ∷ xs) zero x h e = let q : y ≡ x = cc in split (p x) (λ t. absurd (let g = rw (q, t) at h in omega arith)) (λ t. t)
 count-zero p (y ∷ xs) (suc i) x h e = split (p y) (λ t. absurd (let g = rw t at h in omega arith)) (λ t. count-zero p xs i x (rw t at h) e)
 
@@ -255,7 +257,7 @@ module _ (m : Memory) (o : Ok m) (i : Invariant formulas formula-laws (holds m))
       by : (j : ℕ) → Written (entry_at m.links m.cells j) → Inv.Kept formulas xs (record { form = φ j; mark = mark_of (kept_at m.cells j) })
           → (kept_at m.cells j ≡ nothing_kept) ⊎ (kept_at m.cells j ≡ kept_for (shown_at xs fs j))
       by j (inl q) k = inl q
-      by j (inr w) (Inv.bare q) = impossible (let z : none ≡ some w.0 = sym q ∙ ap mark_of w.1 ∙ w.2 in cc)
+      by j (inr w) (Inv.bare q) = absurd (false≢true (let z : none ≡ some w.0 = sym q ∙ ap mark_of w.1 ∙ w.2 in cc))
       by j (inr w) (Inv.holds x q) =
           let z : some w.0 ≡ some (shown_at xs fs j) = sym (ap mark_of w.1 ∙ w.2) ∙ q in
           let v : w.0 ≡ shown_at xs fs j = cc in
@@ -361,7 +363,7 @@ module _ (m : Memory) (o : Ok m) (i : Invariant formulas formula-laws (holds m))
     unkept q k z =
         let x = ap (λ (l : List (Model.Entry formulas)). get_elem? l n) (sym left.entries) ∙ held-nth m.links fs (entry_count m) w.cells n size inside in
         let p = count-zero (Model.pending formulas f) after n _ z x in
-        impossible (sym (rw (q, ready.works n inside ∙ k, formula-laws.tests.reach-self f) at p))
+        absurd (false≢true (sym (rw (q, ready.works n inside ∙ k, formula-laws.tests.reach-self f) at p)))
 
     shown : Model.left formulas f after ≡ 0 → shown_of (show_of (reading_count m) m.links w.cells n) ≡ shows xs f
     shown z =
@@ -375,7 +377,7 @@ module _ (m : Memory) (o : Ok m) (i : Invariant formulas formula-laws (holds m))
         let low = leb-false function_kind (kind_at m.links n) k in
         ap shown_of (leaf-stays (reading_count m) m.links m.cells w.cells n low (left.stored.keys n)) ∙ leaf-view m o i n inside low)
 
-    answered : preview_reply (previewed_as m n w) ≡ (Model.previewed formulas (holds m) a f).answer
+    answered : preview_reply (Prelude.Ok (previewed_as m n w)) ≡ (Model.previewed formulas (holds m) a f).answer
     answered =
         split (ltb a (Model.left formulas f es))
         (λ q.
@@ -387,7 +389,7 @@ module _ (m : Memory) (o : Ok m) (i : Invariant formulas formula-laws (holds m))
         let y : Model.left formulas f after ≡ 0 = left_after ∙ omega arith in
         rw (left_is ∙ q, eq-eqb (Model.left formulas f after) 0 y, count-is, shown y))
 
-    done : Done m' (Model.previewed formulas (holds m) a f) (preview_reply (previewed_as m n w))
+    done : Done m' (Model.previewed formulas (holds m) a f) (preview_reply (Prelude.Ok (previewed_as m n w)))
     done =
         record {
           answer = answered;

@@ -1,11 +1,12 @@
 -- A table stands for one list of forms, the one that it decodes to; binding only appends; and what a cache holds has its forms.
 -- Assumes nothing.
 use Rattle.std.specs.Prelude.{◌≡◌, refl, Bool, true, false, cond, List, [], ◌∷◌, ◌++◌, map, ℕ, zero, suc, ◌+◌, ◌<◌, ◌≤◌, ltb, length}
+use Rattle.std.proofs.lemmas.Bool.{false≢true}
 use Rattle.std.proofs.Common.{sym, ap, ◌∙◌, append-nil, append_assoc, arith, ltb-true, ltb-false}
 use Rattle.std.proofs.Math.Option.{none, some}
 use Rattle.std.proofs.Math.ListN.{get_elem?}
 use Rattle.std.proofs.lemmas.List.{length-map}
-use Rattle.language.specs.Cases.{impossible, split}
+use Rattle.language.specs.Cases.{split}
 use Rattle.meaning.specs.Forms.{Form, readings}
 use Rattle.model.specs.ListLaws.{nth-has, getD-nth}
 use Rattle.model.specs.Graph.{form_at, Placed, AllPlaced, Stands, decodes}
@@ -25,8 +26,8 @@ use Rattle.demand.proofs.Appended.{entries-length}
 -- lists that are equal number by number
 same-nth : {A : Type 0} (xs ys : List A) → ((i : ℕ) → get_elem? xs i ≡ get_elem? ys i) → xs ≡ ys
 same-nth [] [] h = refl
-same-nth [] (y ∷ ys) h = impossible (let e = h 0 in cc)
-same-nth (x ∷ xs) [] h = impossible (let e = h 0 in cc)
+same-nth [] (y ∷ ys) h = absurd (false≢true (let e = h 0 in cc))
+same-nth (x ∷ xs) [] h = absurd (false≢true (let e = h 0 in cc))
 same-nth (x ∷ xs) (y ∷ ys) h = let e = h 0 in let q : x ≡ y = cc in λ i. q i ∷ same-nth xs ys (λ j. h (suc j)) i
 
 pub beyond : {A : Type 0} (xs : List A) (i : ℕ) → length xs ≤ i → get_elem? xs i ≡ none

@@ -1,6 +1,7 @@
 -- The frame that a preview begins with, the cells that it keeps for a value, and what an entry shows from its cells: of a leaf from the
 -- entry itself, of a member or a function from what is kept. Assumes nothing.
 use Rattle.std.specs.Prelude.{◌≡◌, true, false, cond, List, map, leb, ltb, eqb, ℤ, get_or, set, replicate}
+use Rattle.std.proofs.lemmas.Bool.{false≢true}
 use Rattle.std.proofs.Math.Path.{refl, sym}
 use Rattle.std.proofs.Common.{ap, ◌∙◌, ne_eqb, lt-ltb, le-ltb, ltb-true}
 use Rattle.std.proofs.Math.Bool.{and-eq-true_iff}
@@ -11,7 +12,7 @@ use Rattle.std.proofs.Math.Decide.{dec_lt}
 use Rattle.std.proofs.Math.ListN.{length, length-set, length-take}
 use Rattle.std.proofs.lemmas.List.{length-replicate}
 use Rattle.std.proofs.Math.Seq.{get_or-set_same, get_or-set_other}
-use Rattle.language.specs.Cases.{impossible, split}
+use Rattle.language.specs.Cases.{split}
 use Rattle.language.specs.Limits.{table_entries, table_readings}
 use Rattle.rules.specs.declared.Value.{Value}
 use Rattle.rules.specs.declared.Value.TheVariants.{Number, Window, Function, Delayed, Missing}
@@ -139,7 +140,7 @@ shown_by k (Missing r) = refl
 
 -- cells with a mark show it
 shown-mark : (k : Kept) (v : Shown) → mark_of k ≡ some v → shown_in k ≡ v
-shown-mark k v h = split (eqb k.value 0) (λ e. impossible (let z : none ≡ some v = rw e at h in cc)) (λ e. let z : some (shown_in k) ≡ some v = rw e at h in cc)
+shown-mark k v h = split (eqb k.value 0) (λ e. absurd (false≢true (let z : none ≡ some v = rw e at h in cc))) (λ e. let z : some (shown_in k) ≡ some v = rw e at h in cc)
 
 -- what a member or a function shows, from its kept cells
 pub kept-view : (size : ℕ) (links cells : List ℕ) (n : ℕ) (v : Shown) → function_kind ≤ kind_at links n → kept_at cells n ≡ kept_for v

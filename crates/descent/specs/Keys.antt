@@ -1,10 +1,10 @@
 -- The keys of the records of a text that is read are below 2^64: a number's is below 2^32, and a name has at most 8 bytes.
 -- Assumes nothing.
 use Rattle.std.specs.Prelude.{◌≡◌, List, [], ◌∷◌, ◌++◌, ℕ, zero, suc, ◌^◌, ◌≤◌, ◌<◌, ℤ, pos, negsuc, length}
+use Rattle.std.proofs.lemmas.Bool.{cond_both}
 use Rattle.std.proofs.Common.{arith, leb→le, lit<, le-ltb}
 use Rattle.language.specs.Names.{packed, same_name, is_data}
 use Rattle.language.specs.NamesLaws.{each_map, packed-word}
-use Rattle.language.specs.Cases.{by_cond}
 use Rattle.grammar.specs.Grammar.{Expression, Calls, Arguments, More, let_in, lambda, name, literal, bracket, done, call, none, first, last, next}
 use Rattle.grammar.specs.Faults.{Around, outermost, opened, in_lambda}
 use Rattle.grammar.specs.KeptLimits.{InRange, EverywhereE, EverywhereC, EverywhereA, EverywhereM}
@@ -48,12 +48,12 @@ small-scoped : (x : List ℕ) (Σ : List Named) (t : List Node) → packed x < 2
 unfolding record_scoped
 small-scoped x [] t l h = small-more t _ h l
 small-scoped x (e ∷ Σ) t l h =
-    by_cond (λ (R : Recorded). SmallKeys R.records) (same_name x e.0) _ _ (λ _. small-linked e.1 x (lambdas_of Σ) t l h) (λ _. small-scoped x Σ t l h)
+    cond_both (same_name x e.0) _ _ (λ (R : Recorded). SmallKeys R.records) (λ _. small-linked e.1 x (lambdas_of Σ) t l h) (λ _. small-scoped x Σ t l h)
 
 small-name : (x : List ℕ) (Σ : List Named) (t : List Node) → packed x < 2 ^ 64 → SmallKeys t → SmallKeys (record_name x Σ t).records
 unfolding record_name
 small-name x Σ t l h =
-    by_cond (λ (R : Recorded). SmallKeys R.records) (is_data x) (new_record (node readings_kind 0 0 0) t (length t ∷ [])) (record_scoped x Σ t)
+    cond_both (is_data x) (new_record (node readings_kind 0 0 0) t (length t ∷ [])) (record_scoped x Σ t) (λ (R : Recorded). SmallKeys R.records)
     (λ _. small-more t _ h (lit< tt)) (λ _. small-scoped x Σ t l h)
 
 -- the keys of a tree whose names are words

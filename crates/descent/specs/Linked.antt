@@ -1,9 +1,9 @@
 -- The records of a tree lead to earlier ones, and their kinds are below 32. Assumes nothing.
 use Rattle.std.specs.Prelude.{◌≡◌, List, [], ◌∷◌, ◌++◌, ℕ, zero, suc, ◌+◌, ◌≤◌, ◌<◌, length}
+use Rattle.std.proofs.lemmas.Bool.{cond_both}
 use Rattle.std.proofs.Common.{arith, lit<, length-append}
 use Rattle.language.specs.Names.{same_name, is_data}
 use Rattle.members.specs.MembersLaws.{number-below}
-use Rattle.language.specs.Cases.{by_cond}
 use Rattle.grammar.specs.Grammar.{Expression, Calls, Arguments, More, let_in, lambda, name, literal, bracket, done, call, none, first, last, next}
 use Rattle.meaning.specs.Binding.{member}
 use Rattle.layout.specs.Memory.{Node, node}
@@ -55,13 +55,13 @@ good-scoped : (x : List ℕ) (Σ : List Named) (t : List Node) → Below Σ (len
 unfolding record_scoped
 good-scoped x [] t b h = good_new t _ _ h (lit< tt) (omega arith) (omega arith)
 good-scoped x (e ∷ Σ) t b h =
-    by_cond (Good t) (same_name x e.0) (linked e.1 x (lambdas_of Σ) t) (record_scoped x Σ t) (λ _. good-linked e.1 x (lambdas_of Σ) t h b.0)
+    cond_both (same_name x e.0) (linked e.1 x (lambdas_of Σ) t) (record_scoped x Σ t) (Good t) (λ _. good-linked e.1 x (lambdas_of Σ) t h b.0)
     (λ _. good-scoped x Σ t b.1 h)
 
 good-name : (x : List ℕ) (Σ : List Named) (t : List Node) → Below Σ (length t) → Earlier 0 t → Good t (record_name x Σ t)
 unfolding record_name
 good-name x Σ t b h =
-    by_cond (Good t) (is_data x) (new_record (node readings_kind 0 0 0) t (length t ∷ [])) (record_scoped x Σ t)
+    cond_both (is_data x) (new_record (node readings_kind 0 0 0) t (length t ∷ [])) (record_scoped x Σ t) (Good t)
     (λ _. good_new t _ _ h (lit< tt) (omega arith) (omega arith)) (λ _. good-scoped x Σ t b h)
 
 member-kind : (m : List ℕ) → member_kind (member m) < 32

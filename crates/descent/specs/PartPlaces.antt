@@ -1,8 +1,8 @@
 -- A tree has a place for each of its parts. Assumes nothing.
 use Rattle.std.specs.Prelude.{◌≡◌, refl, List, [], ◌∷◌, ◌++◌, ℕ, zero, suc, ◌+◌, length}
+use Rattle.std.proofs.lemmas.Bool.{cond_both}
 use Rattle.std.proofs.Common.{arith, length-append}
 use Rattle.language.specs.Names.{same_name, is_data}
-use Rattle.language.specs.Cases.{by_cond}
 use Rattle.grammar.specs.Grammar.{Expression, Calls, Arguments, More, let_in, lambda, name, literal, bracket, done, call, none, first, last, next}
 use Rattle.grammar.specs.KeptLimits.{parts_e, parts_c, parts_a, parts_m}
 use Rattle.meaning.specs.Binding.{member}
@@ -18,13 +18,13 @@ scoped-place : (x : List ℕ) (Σ : List Named) (t : List Node) → length (reco
 unfolding record_scoped
 scoped-place x [] t = refl
 scoped-place x (e ∷ Σ) t =
-    by_cond (λ (R : Recorded). length R.places ≡ 1) (same_name x e.0) (linked e.1 x (lambdas_of Σ) t) (record_scoped x Σ t)
+    cond_both (same_name x e.0) (linked e.1 x (lambdas_of Σ) t) (record_scoped x Σ t) (λ (R : Recorded). length R.places ≡ 1)
     (λ _. linked-place e.1 x (lambdas_of Σ) t) (λ _. scoped-place x Σ t)
 
 name-place : (x : List ℕ) (Σ : List Named) (t : List Node) → length (record_name x Σ t).places ≡ 1
 unfolding record_name
 name-place x Σ t =
-    by_cond (λ (R : Recorded). length R.places ≡ 1) (is_data x) (new_record (node readings_kind 0 0 0) t (length t ∷ [])) (record_scoped x Σ t)
+    cond_both (is_data x) (new_record (node readings_kind 0 0 0) t (length t ∷ [])) (record_scoped x Σ t) (λ (R : Recorded). length R.places ≡ 1)
     (λ _. refl) (λ _. scoped-place x Σ t)
 
 mutual

@@ -2,11 +2,12 @@
 -- lambda has as its level the number of lambdas around it, and at most two are open: so each variable is the only one of its level, and no level
 -- is above 1. Assumes nothing.
 use Rattle.std.specs.Prelude.{◌≡◌, refl, ℕ, suc, ◌<◌, eqb, ℤ}
+use Rattle.std.proofs.lemmas.Bool.{false≢true, or_right}
 use Rattle.std.proofs.Common.{sym, ap, ◌∙◌, arith}
 use mathlib.Core.List.{List, [], ◌∷◌}
 use borrow.Author.Tests.{eqb-true, eq-eqb}
 use Rattle.language.specs.Limits.{open_lambdas}
-use Rattle.language.specs.Cases.{impossible, either, or_right}
+use Rattle.language.specs.Cases.{either}
 use Rattle.members.specs.declared.Member.{Member}
 use Rattle.grammar.specs.Grammar.{Expression, Calls, Arguments, More, let_in, lambda, name, literal, bracket, done, call, none, first, last, next}
 use Rattle.grammar.specs.Faults.{Around, outermost, opened, in_lambda}
@@ -62,15 +63,15 @@ record Scope (ns : List ℕ) (Γ : List Meaning) (k : ℕ) : Type 0 where
 module _ (ns : List ℕ) where
   good-number : (z : ℤ) → InRange z → Good ns (number z)
   unfolding awaited has_name
-  good-number z h = record { bindable = h; within = λ y. impossible }
+  good-number z h = record { bindable = h; within = λ y h. absurd (false≢true h) }
 
   good-variable : (v : ℕ) → level_in v < open_lambdas → Has v ns → Good ns (variable v)
   unfolding awaited has_name
-  good-variable v l i = record { bindable = l; within = λ y h. has-cases y v [] h (λ e. rw e i) impossible }
+  good-variable v l i = record { bindable = l; within = λ y h. has-cases y v [] h (λ e. rw e i) (λ e. absurd (false≢true e)) }
 
   good-named : (x : List ℕ) (Γ : List Meaning) → Forms (Good ns) Γ → Good ns (named x Γ)
   unfolding awaited has_name
-  good-named x Γ h = of-name (Good ns) x Γ record { bindable = tt; within = λ y. impossible } record { bindable = tt; within = λ y. impossible } h
+  good-named x Γ h = of-name (Good ns) x Γ record { bindable = tt; within = λ y h. absurd (false≢true h) } record { bindable = tt; within = λ y h. absurd (false≢true h) } h
 
   good-ask : (m : Member) (f : Form) → Good ns f → Good ns (ask m f)
   unfolding awaited
@@ -89,7 +90,7 @@ module _ (ns : List ℕ) where
         bindable = (l, one-among (v ∷ awaited b) (v ∷ ns) (λ y h. has-cases y v (awaited b) h (has_first y v ns) (g.within y)) one, g.bindable);
         within = λ y h.
             let r = has-without y v (awaited b) h in
-            has-cases y v ns (g.within y r.0) (λ e. impossible (sym r.1 ∙ eq-eqb v y (sym e))) (λ i. i);
+            has-cases y v ns (g.within y r.0) (λ e. absurd (false≢true (sym r.1 ∙ eq-eqb v y (sym e)))) (λ i. i);
       }
 
 -- and also with a variable of a level above theirs
@@ -182,4 +183,4 @@ unfolding lambdas has_name
 text-bindable e h =
     let k = keeps-each e h in
     (right-E e outermost [] [] (both e FewLambdas SmallNumbers k.lambdas k.numbers)
-    record { counts = refl; low = λ y. impossible; one = λ x y p. impossible p; forms = tt }).places [] tt
+    record { counts = refl; low = λ y h. absurd (false≢true h); one = λ x y p. absurd (false≢true p); forms = tt }).places [] tt

@@ -4,8 +4,8 @@
 use Rattle.std.specs.Prelude.{◌≡◌, refl, true, false, cond, not, ◌||◌, List, [], ◌∷◌, ◌++◌, map, ℕ, ◌<◌, eqb, ℤ, pos}
 use Rattle.std.proofs.Common.{sym, ap, ◌∙◌, arith, eq-eqb, ne_eqb, eqb-true}
 use Rattle.std.proofs.lemmas.List.{map-append}
-use Rattle.std.proofs.lemmas.Bool.{eqb-false}
-use Rattle.language.specs.Cases.{impossible, split, or_right}
+use Rattle.std.proofs.lemmas.Bool.{eqb-false, false≢true, or_right}
+use Rattle.language.specs.Cases.{split}
 use Rattle.language.specs.Limits.{open_lambdas}
 use Rattle.members.specs.declared.Member.{Member}
 use Rattle.rules.specs.declared.Value.{Value}
@@ -87,10 +87,10 @@ levels-awaited (function v b) h = rw (levels-awaited b h.2) (sym (levels-without
 -- each is 0 or 1
 level-below : (y : ℕ) (f : Form) → Bindable f → free y f ≡ true → level_in y < open_lambdas
 unfolding awaited has_name
-level-below y (number z) h e = impossible e
+level-below y (number z) h e = absurd (false≢true e)
 level-below y (variable v) h e = rw (eqb-true y v (sym (free-variable y v) ∙ e)) h
-level-below y (unbound x) h e = impossible e
-level-below y readings h e = impossible e
+level-below y (unbound x) h e = absurd (false≢true e)
+level-below y readings h e = absurd (false≢true e)
 level-below y (ask m f) h e = level-below y f h e
 level-below y (call m f a) h e = joined-cases y (awaited f) (awaited a) e (level-below y f h.0) (level-below y a h.1)
 level-below y (function v b) h e = level-below y b h.2 (has-without y v (awaited b) e).0
@@ -135,7 +135,7 @@ agree-nothing f y e = split (eqb (level_in y) 0) (λ p. rw p) (λ p. rw p)
 -- ---- a form awaits a variable where one of its levels stands for nothing
 open-yes : (s : Scope) (vs : List ℕ) (y : ℕ) → has_name y vs ≡ true → is_delayed (stands_for s (level_in y)) ≡ true → is_open s (map level_in vs) ≡ true
 unfolding is_open has_name
-open-yes s [] y e d = impossible e
+open-yes s [] y e d = absurd (false≢true e)
 open-yes s (v ∷ vs) y e d =
     split (eqb y v)
     (λ p. rw (← eqb-true y v p, d))
@@ -153,7 +153,7 @@ open-settled ρ s f h g =
     (split (settled ρ f)
     (λ p. rw p (open_no s (awaited f) (λ y e.
     split (is_delayed (stands_for s (level_in y)))
-    (λ d. impossible (sym (settled-no ρ f y e (rw (g y e) d)) ∙ p))
+    (λ d. absurd (false≢true (sym (settled-no ρ f y e (rw (g y e) d)) ∙ p)))
     (λ d. d))))
     (λ p. let w = settled-find ρ f p in rw p (open-yes s (awaited f) w.name w.is_free (rw (g w.name w.is_free) at w.unset))))
 
@@ -193,8 +193,8 @@ module _ (xs : List ℤ) (ρ : Environment) (v : ℕ) (b : Form) where
   unfolding evaluate value_of run_of
   run_is e z =
       split (is_missing (value_of (evaluate xs (bind v Delayed ρ) b)))
-      (λ p. impossible (sym (ap is_missing (rw p at e)) ∙ p))
-      (λ p. split (settled (bind v (Number (pos 0)) ρ) b) (λ q. rw (p, q)) (λ q. impossible (sym (ap is_delayed (rw (p, q) at e)))))
+      (λ p. absurd (false≢true (sym (ap is_missing (rw p at e)) ∙ p)))
+      (λ p. split (settled (bind v (Number (pos 0)) ρ) b) (λ q. rw (p, q)) (λ q. absurd (false≢true (sym (ap is_delayed (rw (p, q) at e))))))
 
 -- ---- interpretation is evaluation, and a run gives what evaluation has for it
 mutual
@@ -234,10 +234,10 @@ interpret-evaluates xs f h = interpret-is f xs nowhere nothing h (agree-nothing 
 -- ---- and so is what is shown: a level's variable is the awaited one
 variable-at : (y : ℕ) (f : Form) → Bindable f → free y f ≡ true → variable_at (level_in y) f ≡ y
 unfolding variable_at awaited has_name
-variable-at y (number z) h e = impossible e
+variable-at y (number z) h e = absurd (false≢true e)
 variable-at y (variable v) h e = sym (eqb-true y v (sym (free-variable y v) ∙ e))
-variable-at y (unbound x) h e = impossible e
-variable-at y readings h e = impossible e
+variable-at y (unbound x) h e = absurd (false≢true e)
+variable-at y readings h e = absurd (false≢true e)
 variable-at y (ask m f) h e = variable-at y f h e
 variable-at y (call m f a) h e =
     let k = has-level y (awaited f) (λ x i. h.2 x y (joined-left x (awaited f) (awaited a) i) e) in

@@ -1,10 +1,10 @@
 -- A record of a text shows what its form does. Assumes nothing.
-use Rattle.std.specs.Prelude.{◌≡◌, true, false, List, map, ℕ, zero, suc, ◌+◌, ◌*◌, ◌<◌, eqb, ℤ, length, get_or, replicate}
+use Rattle.std.specs.Prelude.{◌≡◌, List, map, ℕ, zero, suc, ◌+◌, ◌*◌, eqb, ℤ, length, get_or, replicate}
+use Rattle.std.proofs.lemmas.Bool.{false≢true}
 use Rattle.std.proofs.Math.Path.{refl, sym}
-use Rattle.std.proofs.Common.{ap, ◌∙◌, subst, arith}
+use Rattle.std.proofs.Common.{ap, ◌∙◌, arith}
 use Rattle.std.proofs.lemmas.List.{length-replicate}
-use Rattle.language.specs.Cases.{impossible, split}
-use Rattle.language.specs.Limits.{text_parts, table_readings}
+use Rattle.language.specs.Cases.{split}
 use Rattle.rules.specs.declared.Value.{Value}
 use Rattle.rules.specs.declared.Value.TheVariants.{Number, Window, Function, Delayed, Missing}
 use Rattle.values.specs.declared.shown.Shown.{Shown}
@@ -18,6 +18,7 @@ use Rattle.layout.specs.Held.{shaped, record_at}
 use Rattle.layout.specs.declared.nodes.Shape.{Shape}
 use Rattle.schedule.specs.declared.View.{View}
 use Rattle.interface.specs.Views.{view_of}
+use Rattle.interpreter.specs.declared.orders.Order.{Order}
 use Rattle.interpreter.specs.declared.bindings.Bindings.{Bindings}
 use Rattle.levels.specs.Interpreting.{Scope, nothing, stands_for, interpret, levels, variable_at, shown_by}
 use Rattle.interpreter.specs.Standing.{Stands, a_number, a_variable, an_unbound, the_readings, a_function, an_ask, a_call}
@@ -35,9 +36,9 @@ getD-zero zero k = refl
 getD-zero (suc n) zero = refl
 getD-zero (suc n) (suc k) = getD-zero n k
 
-nothing_known : (xs : List ℤ) (ν : ℕ → Node) (orders : List ℕ) → Remembers xs ν orders (replicate memo_cells 0)
+nothing_known : (xs : List ℤ) (ν : ℕ → Node) (orders : List Order) → Remembers xs ν orders (replicate memo_cells 0)
 unfolding is_known
-nothing_known xs ν orders i F h s t k = impossible (rw (getD-zero memo_cells (3 * i)) at k)
+nothing_known xs ν orders i F h s t k = absurd (false≢true (rw (getD-zero memo_cells (3 * i)) at k))
 
 delayed-inside : (n : ℕ) (v : Value) → v ≡ Delayed → Inside n v
 delayed-inside n v e = rw e tt
@@ -49,7 +50,7 @@ nothing_bound xs t e =
       inner = delayed-inside (length xs) _ (ap (λ (s : Scope). s.inner) e);
     }
 
-module _ (xs : List ℤ) (R : List ℕ) (i : ℕ) (show : Showable xs R i) (orders : List ℕ) (ordered : Ordered (record_at R) (i + 1) orders) where
+module _ (xs : List ℤ) (R : List ℕ) (i : ℕ) (show : Showable xs R i) (orders : List Order) (ordered : Ordered (record_at R) (i + 1) orders) where
   pub begins : (t : Bindings) → scope_of t ≡ nothing → (memo : List ℕ) → memo ≡ replicate memo_cells 0 → Ready xs R orders t i memo
   begins t e memo z =
       record {
@@ -86,7 +87,7 @@ module _ (name : ℕ) (names : List ℕ) where
   view-delay Delayed e = refl
   view-delay (Missing r) e = absurd (omega arith)
 
-  view-other : (u : Value) → ((shown_numbers u).kind ≡ 3 → ⊥) → ((shown_numbers u).kind ≡ 4 → ⊥) → view_with (shown_numbers u) 0 0 ≡ view_of (shown_as name names u)
+  view-other : (u : Value) → (u ≡ Function → ⊥) → (u ≡ Delayed → ⊥) → view_with (shown_numbers u) 0 0 ≡ view_of (shown_as name names u)
   unfolding view_of
   view-other (Number z) e d = refl
   view-other (Window s l) e d = refl
@@ -111,7 +112,7 @@ key-name xs R i x q _ (a_call _ m f a F A e g d s c t) k = ap (λ (m : Node). m.
 
 -- ---- what is shown, from the value
 
-module _ (xs : List ℤ) (R orders : List ℕ) (t : Bindings) (i : ℕ) (memo : List ℕ) (cell : ℕ) (comes : Comes xs R orders t i memo cell) (e : scope_of t ≡ nothing)
+module _ (xs : List ℤ) (R : List ℕ) (orders : List Order) (t : Bindings) (i : ℕ) (memo : List ℕ) (cell : ℕ) (comes : Comes xs R orders t i memo cell) (e : scope_of t ≡ nothing)
     (u : Value) (p : u ≡ unpack_of cell) (v : Shown) (q : v ≡ shown_numbers u) where
   is : (F : Form) → Stands (record_at R) i F → u ≡ interpret xs nothing F
   is F s = p ∙ comes.right F s ∙ ap (λ (x : Scope). interpret xs x F) e
@@ -122,21 +123,22 @@ module _ (xs : List ℤ) (R orders : List ℕ) (t : Bindings) (i : ℕ) (memo : 
   kind-are : (F : Form) → Stands (record_at R) i F → v.kind ≡ (shown_numbers (interpret xs nothing F)).kind
   kind-are F s = ap (λ (x : Shown). x.kind) (numbers-are F s)
 
-  pub shows-function : v.kind ≡ 3 → (x : Shape) → shaped x ≡ record_at R i → (r : View) → r ≡ view_with v x.key 0 → ShownAs xs R i r
+  pub shows-function : u ≡ Function → (x : Shape) → shaped x ≡ record_at R i → (r : View) → r ≡ view_with v x.key 0 → ShownAs xs R i r
   unfolding shown_by
-  shows-function k x z r b F s =
-      let d = sym (kind-are F s) ∙ k in
+  shows-function h x z r b F s =
+      let d = sym (kind-are F s) ∙ ap (λ (x : Shown). x.kind) (q ∙ ap shown_numbers h) in
       b ∙ (λ j. view_with (numbers-are F s j) (key-name xs R i x z F s d j) 0)
       ∙ view-function (name_in (name_of F)) (map (λ k. name_in (variable_at k F)) (levels F)) (interpret xs nothing F) d
 
-  pub shows-delay : v.kind ≡ 4 → (name other : ℕ) → Named R i name other → (r : View) → r ≡ view_with v name other → ShownAs xs R i r
+  pub shows-delay : u ≡ Delayed → (name other : ℕ) → Named R i name other → (r : View) → r ≡ view_with v name other → ShownAs xs R i r
   unfolding shown_by
-  shows-delay k name other n r b F s =
+  shows-delay h name other n r b F s =
+      let k = ap (λ (x : Shown). x.kind) (q ∙ ap shown_numbers h) in
       b ∙ (λ j. view_with (numbers-are F s j) (n.first F s j) (n.second F s j))
       ∙ view-delay (name_in (name_of F)) (map (λ k. name_in (variable_at k F)) (levels F)) (interpret xs nothing F) (sym (kind-are F s) ∙ k)
 
-  pub shows-other : (v.kind ≡ 3 → ⊥) → (v.kind ≡ 4 → ⊥) → (r : View) → r ≡ view_with v 0 0 → ShownAs xs R i r
+  pub shows-other : (u ≡ Function → ⊥) → (u ≡ Delayed → ⊥) → (r : View) → r ≡ view_with v 0 0 → ShownAs xs R i r
   unfolding shown_by
   shows-other g h r b F s =
       b ∙ (λ j. view_with (numbers-are F s j) 0 0)
-      ∙ view-other (name_in (name_of F)) (map (λ k. name_in (variable_at k F)) (levels F)) (interpret xs nothing F) (λ z. g (kind-are F s ∙ z)) (λ z. h (kind-are F s ∙ z))
+      ∙ view-other (name_in (name_of F)) (map (λ k. name_in (variable_at k F)) (levels F)) (interpret xs nothing F) (λ z. g (is F s ∙ z)) (λ z. h (is F s ∙ z))

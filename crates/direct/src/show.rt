@@ -5,10 +5,11 @@ ghost use Rattle.direct.specs.Showing.{view_with, Showable, ShownAs};
 use interpreter::bindings::unset;
 use interpreter::memo::MEMO_CELLS;
 use interpreter::names::{Names, names_of};
-use interpreter::orders::order_all;
-use interpreter::walk::value;
+use interpreter::orders::{Order, order_all};
+use interpreter::walk::{Source, value};
 use language::limits::Text;
 use layout::nodes::{TEXT_WORDS, record_at};
+use rules::Value;
 use schedule::View;
 use values::packing::unpack;
 use values::shown::{Shown, numbers};
@@ -30,18 +31,22 @@ pub fn show(recording: &[i32], records: &[u64; TEXT_WORDS], i: u16) -> View
     requires { Showable recording.now records.now i }
     ensures { ShownAs recording.now records.now i result }
 {
-    let mut orders = [0u8; Text::PARTS];
+    let mut orders = [Order::Empty; Text::PARTS];
     order_all(records, i + 1, &mut orders);
     let mut memo = [0u64; MEMO_CELLS];
-    let cell = value(recording, records, &orders, unset(), i, &mut memo);
-    let v = numbers(unpack(cell));
-    if v.kind == 3 {
-        let n = record_at(records, i);
-        return view(v, n.key, 0);
+    let source = Source {
+        readings: recording,
+        records,
+        orders: &orders,
+    };
+    let found = unpack(value(&source, unset(), i, &mut memo));
+    let v = numbers(found);
+    match found {
+        Value::Function => view(v, record_at(records, i).key, 0),
+        Value::Delayed => {
+            let awaited = names_of(records, &orders, i);
+            view(v, awaited.name, awaited.other)
+        }
+        _ => view(v, 0, 0),
     }
-    if v.kind == 4 {
-        let awaited = names_of(records, &orders, i);
-        return view(v, awaited.name, awaited.other);
-    }
-    view(v, 0, 0)
 }

@@ -1,11 +1,10 @@
 -- What the proofs of the calls for C cite: the numbers of each case of an answer, and that a call's promise for C is its promise in numbers.
 -- Assumes nothing.
-use mathlib.Core.Path.{◌≡◌, refl, sym, ap, ◌∙◌, subst}
+use mathlib.Core.Path.{◌≡◌, refl, sym, ap, subst}
 use mathlib.Core.Bool.{◌&&◌}
 use mathlib.Core.List.{List}
 use Prim.Native.Nat.{ℕ, ◌≤◌, ◌<◌}
 use native.Mathlib.Omega.{arith}
-use borrow.Author.Rules.{rules}
 use borrow.Author.Tests.{ltb-false}
 use lib.Dec.{leb, ltb}
 use lib.IntN.{ℤ}
@@ -17,78 +16,24 @@ use Rattle.grammar.specs.Machine.{read_text}
 use Rattle.model.specs.Model.{refused, opened, edited, not_yet, finished, printed}
 use Rattle.layout.specs.Memory.{Memory, fits}
 use Rattle.table.specs.WellFormed.{well_formed}
-use Rattle.schedule.specs.declared.View.{View}
 use Rattle.records.specs.Records.{records_of}
 use Rattle.formulas.specs.Formulas.{parsed}
 use Rattle.bridge.specs.FormulaLaws.{formula-laws}
-use Rattle.interface.specs.declared.answers.Opened.{Opened}
+use Rattle.std.specs.Prelude.{Result, Ok, Err}
+use Rattle.language.specs.declared.refusals.Refusal.{Refusal}
+use Rattle.language.specs.declared.refusals.Refused.{Refused}
 use Rattle.interface.specs.declared.answers.Edited.{Edited}
-use Rattle.interface.specs.declared.answers.Edited.TheVariants as E
 use Rattle.interface.specs.declared.answers.Previewed.{Previewed}
-use Rattle.interface.specs.declared.answers.Previewed.TheVariants as P
-use Rattle.interface.specs.declared.answers.Printed.{Printed}
-use Rattle.interface.specs.declared.answers.Printed.TheVariants as R
 use Rattle.interface.specs.declared.answers.Evaluated.{Evaluated}
-use Rattle.interface.specs.declared.answers.Evaluated.TheVariants as Evaluate
 use Rattle.interface.specs.declared.answers.EditAnswer.{EditAnswer}
 use Rattle.interface.specs.declared.answers.PreviewAnswer.{PreviewAnswer}
 use Rattle.interface.specs.declared.answers.PrintAnswer.{PrintAnswer}
 use Rattle.interface.specs.declared.answers.EvaluateAnswer.{EvaluateAnswer}
-use Rattle.interface.specs.Answers.{Reply, open_number, edit_numbers, preview_numbers, print_numbers, evaluate_numbers}
+use Rattle.interface.specs.Answers.{Reply, Opened, open_number, edit_numbers, preview_numbers, print_numbers, evaluate_numbers}
 use Rattle.interface.specs.Calls.{too_many, bound_to, read_answer, edit_answer, evaluated}
 use Rattle.interface.proofs.Outcomes.{EvaluateOutcome, evaluate-outcome}
 use Rattle.interface.proofs.AcceptanceLaws.{unread-range}
-use Rattle.interface.specs.Effects.{Opens, Edits, Previews, Prints, OpensForC, EditsForC, PreviewsForC, PrintsForC, EvaluatesForC, PlaceFits, EvaluatedFits}
-
-module _ (x : Edited) where
-  pub edit-done : (w p a : ℕ) → x ≡ E.Done w p a → edit_numbers (E.Done w p a) ≡ edit_numbers x
-  edit-done w p a e = ap edit_numbers (sym e)
-
-  pub edit-refused : (n at : ℕ) → x ≡ E.Refused n at → edit_numbers (E.Refused n at) ≡ edit_numbers x
-  edit-refused n at e = ap edit_numbers (sym e)
-
-  pub place-small : (n at : ℕ) → x ≡ E.Refused n at → PlaceFits x → at < 4294967296
-  place-small n at e h = subst PlaceFits e h
-
-module _ (x : Previewed) where
-  pub preview-not-yet : (k : ℕ) → x ≡ P.NotYet k → preview_numbers (P.NotYet k) ≡ preview_numbers x
-  preview-not-yet k e = ap preview_numbers (sym e)
-
-  pub preview-refused : (n : ℕ) → x ≡ P.Refused n → preview_numbers (P.Refused n) ≡ preview_numbers x
-  preview-refused n e = ap preview_numbers (sym e)
-
-  pub preview-finished : (k : ℕ) (v : View) (r : PreviewAnswer) → r ≡ preview_numbers (P.Finished k v) → x ≡ P.Finished k v → r ≡ preview_numbers x
-  preview-finished k v r h e = h ∙ ap preview_numbers (sym e)
-
-module _ (x : Printed) where
-  pub print-done : (l : ℕ) → x ≡ R.Done l → print_numbers (R.Done l) ≡ print_numbers x
-  print-done l e = ap print_numbers (sym e)
-
-  pub print-refused : (n : ℕ) → x ≡ R.Refused n → print_numbers (R.Refused n) ≡ print_numbers x
-  print-refused n e = ap print_numbers (sym e)
-
-module _ (x : Evaluated) where
-  pub evaluate-done : (parts : ℕ) (v : View) → x ≡ Evaluate.Done parts v → evaluate_numbers (Evaluate.Done parts v) ≡ evaluate_numbers x
-  evaluate-done parts v e = ap evaluate_numbers (sym e)
-
-  pub evaluate-refused : (n at : ℕ) → x ≡ Evaluate.Refused n at → evaluate_numbers (Evaluate.Refused n at) ≡ evaluate_numbers x
-  evaluate-refused n at e = ap evaluate_numbers (sym e)
-
-  pub evaluated-small : (n at : ℕ) → x ≡ Evaluate.Refused n at → EvaluatedFits x → at < 4294967296
-  evaluated-small n at e h = subst EvaluatedFits e h
-
-pub ruleset numbers = (
-  rules,
-  edit-done,
-  edit-refused,
-  preview-not-yet,
-  preview-finished,
-  preview-refused,
-  print-done,
-  print-refused,
-  evaluate-done,
-  evaluate-refused,
-)
+use Rattle.interface.specs.Effects.{Opens, Edits, Previews, Prints, OpensForC, EditsForC, PreviewsForC, PrintsForC, EvaluatesForC, PlaceFits}
 
 -- the place of a refusal is one of the text's, or its end
 abbrev ReplyFits : Reply → Type 0
@@ -112,35 +57,37 @@ answer-place m places text =
     (λ q. split (well_formed m) (λ w. rw (p, q, w) (read-place m text (read_text text) refl (ltb-false text_bytes (length text) p))) (λ w. rw (p, q, w) (omega arith)))
     (λ q. rw (p, q) (omega arith)))
 
-pub place-fits : (m : Memory) (places text : List ℕ) (m' : Memory) (places' : List ℕ) (x : Edited) → Edits m places text m' places' x → PlaceFits x
-place-fits m places text m' places' (E.Done whole parts added) h = tt
-place-fits m places text m' places' (E.Refused n at) h = subst ReplyFits (sym h.answer) (answer-place m places text)
+pub place-fits : (m : Memory) (places text : List ℕ) (m' : Memory) (places' : List ℕ) (x : Result Edited Refused) → Edits m places text m' places' x → PlaceFits x
+place-fits m places text m' places' (Ok x) h = tt
+place-fits m places text m' places' (Err e) h = subst ReplyFits (sym h.answer) (answer-place m places text)
 
-evaluated-place : (text : List ℕ) (r : List ℤ) (p : ℕ) → EvaluateOutcome text r p → EvaluatedFits (evaluated text r p)
-evaluated-place text r p (EvaluateOutcome.long l e) = subst EvaluatedFits (sym e) (omega arith)
-evaluated-place text r p (EvaluateOutcome.many l q e) = subst EvaluatedFits (sym e) (omega arith)
-evaluated-place text r p (EvaluateOutcome.unread n at s u e) = let i = (unread-range text n at u).1 in subst EvaluatedFits (sym e) (omega (arith, s.short))
-evaluated-place text r p (EvaluateOutcome.none t s u l e) = subst EvaluatedFits (sym e) (omega arith)
-evaluated-place text r p (EvaluateOutcome.taken t s u l e) = subst EvaluatedFits (sym e) tt
-
-pub evaluated-fits : (text : List ℕ) (r : List ℤ) (p : ℕ) (x : Evaluated) → x ≡ evaluated text r p → EvaluatedFits x
-evaluated-fits text r p x e = subst EvaluatedFits (sym e) (evaluated-place text r p (evaluate-outcome text r p))
+pub evaluated-fits : (text : List ℕ) (r : List ℤ) (p : ℕ) (x : Result Evaluated Refused) → x ≡ evaluated text r p → PlaceFits x
+evaluated-fits text r p x e = subst PlaceFits (sym e) (by (evaluate-outcome text r p))
+  where
+    by : EvaluateOutcome text r p → PlaceFits (evaluated text r p)
+    by (EvaluateOutcome.long l e) = subst PlaceFits (sym e) (omega arith)
+    by (EvaluateOutcome.many l q e) = subst PlaceFits (sym e) (omega arith)
+    by (EvaluateOutcome.unread n at s u e) = let i = (unread-range text n at u).1 in subst PlaceFits (sym e) (omega (arith, s.short))
+    by (EvaluateOutcome.none t s u l e) = subst PlaceFits (sym e) (omega arith)
+    by (EvaluateOutcome.taken t s u l e) = subst PlaceFits (sym e) tt
 
 -- the promises
 pub opens-for-c : (m : Memory) (recording : List ℤ) (m' : Memory) (x : Opened) (r : ℕ) → Opens m recording m' x → r ≡ open_number x → OpensForC m recording m' r
 opens-for-c m recording m' x r h e = record { answer = x; opens = h; numbers = e }
 
-pub edits-for-c : (m : Memory) (places text : List ℕ) (m' : Memory) (places' : List ℕ) (x : Edited) (r : EditAnswer)
+pub edits-for-c : (m : Memory) (places text : List ℕ) (m' : Memory) (places' : List ℕ) (x : Result Edited Refused) (r : EditAnswer)
     → Edits m places text m' places' x → r ≡ edit_numbers x → EditsForC m places text m' places' r
 edits-for-c m places text m' places' x r h e = record { answer = x; edits = h; numbers = e }
 
-pub previews-for-c : (m : Memory) (n a : ℕ) (m' : Memory) (x : Previewed) (r : PreviewAnswer) → Previews m n a m' x → r ≡ preview_numbers x → PreviewsForC m n a m' r
+pub previews-for-c : (m : Memory) (n a : ℕ) (m' : Memory) (x : Result Previewed Refusal) (r : PreviewAnswer) → Previews m n a m' x → r ≡ preview_numbers x → PreviewsForC m n a m' r
 previews-for-c m n a m' x r h e = record { answer = x; previews = h; numbers = e }
 
-pub prints-for-c : (m : Memory) (n : ℕ) (bytes bytes' : List ℕ) (x : Printed) (r : PrintAnswer) → Prints m n bytes bytes' x → r ≡ print_numbers x
+pub prints-for-c : (m : Memory) (n : ℕ) (bytes bytes' : List ℕ) (x : Result ℕ Refusal) (r : PrintAnswer) → Prints m n bytes bytes' x → r ≡ print_numbers x
     → PrintsForC m n bytes bytes' r
 prints-for-c m n bytes bytes' x r h e = record { answer = x; prints = h; numbers = e }
 
-pub evaluates-for-c : (text : List ℕ) (recording : List ℤ) (p : ℕ) (x : Evaluated) (r : EvaluateAnswer) → x ≡ evaluated text recording p → r ≡ evaluate_numbers x
+pub evaluates-for-c : (text : List ℕ) (recording : List ℤ) (p : ℕ) (x : Result Evaluated Refused) (r : EvaluateAnswer) → x ≡ evaluated text recording p → r ≡ evaluate_numbers x
     → EvaluatesForC text recording p r
 evaluates-for-c text recording p x r h e = record { answer = x; evaluates = h; numbers = e }
+
+pub ruleset exports = (evaluated-fits, opens-for-c, edits-for-c, previews-for-c, prints-for-c, evaluates-for-c)

@@ -1,138 +1,110 @@
 // The calls for programs in C: the same calls under names of their own, with the answers as plain numbers.
+#![tactic(auto, using(crate::proofs::ExportRules::exports))]
+
 ghost use Rattle.std.specs.Prelude.{◌≡◌};
 ghost use Rattle.layout.specs.Memory.{memory};
-ghost use Rattle.interface.specs.declared.answers.Previewed.TheVariants.{Finished};
 ghost use Rattle.interface.specs.Answers.{open_number, edit_numbers, preview_numbers, print_numbers, evaluate_numbers};
-ghost use Rattle.interface.specs.Effects.{PlaceFits, EvaluatedFits, OpensForC, EditsForC, PreviewsForC, PrintsForC, EvaluatesForC};
+ghost use Rattle.interface.specs.Effects.{PlaceFits, OpensForC, EditsForC, PreviewsForC, PrintsForC, EvaluatesForC};
 
 use calls::edit::edit;
 use calls::open::open;
 use calls::preview::preview;
 use direct::evaluate::evaluate;
 use interface::answers::{
-    EditAnswer, Edited, EvaluateAnswer, Evaluated, Opened, PreviewAnswer, Previewed, PrintAnswer,
-    Printed,
+    EditAnswer, Edited, EvaluateAnswer, Evaluated, PreviewAnswer, Previewed, PrintAnswer,
 };
+use language::refusals::{Refusal, Refused};
 use printer::print::print;
-use schedule::View;
 
-fn open_number(x: Opened) -> u32
+// The structs for C and their numbers: a refusal is 0 where the call was accepted, and a field that has no value is 0. A From would have to take
+// every place, and C's is a number of 32 bits.
+fn open_number(x: Result<(), Refusal>) -> u32
     ensures { result ≡ open_number x }
 {
     match x {
-        Opened::Done => 0,
-        Opened::Refused { number } => number as u32,
+        Ok(()) => 0,
+        Err(e) => e.into(),
     }
 }
 
-fn edit_numbers(x: Edited) -> EditAnswer
+fn edit_numbers(x: Result<Edited, Refused>) -> EditAnswer
     requires { PlaceFits x }
     ensures { result ≡ edit_numbers x }
 {
     match x {
-        Edited::Done {
-            whole,
-            parts,
-            added,
-        } => EditAnswer {
-            refusal: 0,
-            place: 0,
-            whole: whole as u32,
-            parts: parts as u32,
-            added: added as u32,
+        Ok(done) => EditAnswer {
+            whole: done.whole as u32,
+            parts: done.parts as u32,
+            added: done.added as u32,
+            ..EditAnswer::default()
         },
-        Edited::Refused { number, place } => EditAnswer {
-            refusal: number as u32,
-            place: place as u32,
-            whole: 0,
-            parts: 0,
-            added: 0,
+        Err(e) => EditAnswer {
+            refusal: e.refusal.into(),
+            place: e.place as u32,
+            ..EditAnswer::default()
         },
     }
 }
 
-fn shown_numbers(worked: u32, shown: View) -> PreviewAnswer
-    ensures { result ≡ preview_numbers (Finished worked shown) }
-{
-    PreviewAnswer {
-        refusal: 0,
-        finished: 1,
-        worked,
-        kind: shown.kind,
-        first: shown.first,
-        second: shown.second,
-        name: shown.name,
-        other: shown.other,
-    }
-}
-
-fn preview_numbers(x: Previewed) -> PreviewAnswer
+fn preview_numbers(x: Result<Previewed, Refusal>) -> PreviewAnswer
     ensures { result ≡ preview_numbers x }
 {
     match x {
-        Previewed::NotYet { worked } => PreviewAnswer {
-            refusal: 0,
-            finished: 0,
+        Ok(Previewed::NotYet { worked }) => PreviewAnswer {
             worked,
-            kind: 0,
-            first: 0,
-            second: 0,
-            name: 0,
-            other: 0,
+            ..PreviewAnswer::default()
         },
-        Previewed::Finished { worked, shown } => shown_numbers(worked, shown),
-        Previewed::Refused { number } => PreviewAnswer {
-            refusal: number as u32,
-            finished: 0,
-            worked: 0,
-            kind: 0,
-            first: 0,
-            second: 0,
-            name: 0,
-            other: 0,
-        },
-    }
-}
-
-fn print_numbers(x: Printed) -> PrintAnswer
-    ensures { result ≡ print_numbers x }
-{
-    match x {
-        Printed::Done { length } => PrintAnswer {
+        Ok(Previewed::Finished { worked, shown }) => PreviewAnswer {
             refusal: 0,
-            length: length as u32,
-        },
-        Printed::Refused { number } => PrintAnswer {
-            refusal: number as u32,
-            length: 0,
-        },
-    }
-}
-
-fn evaluate_numbers(x: Evaluated) -> EvaluateAnswer
-    requires { EvaluatedFits x }
-    ensures { result ≡ evaluate_numbers x }
-{
-    match x {
-        Evaluated::Done { parts, shown } => EvaluateAnswer {
-            refusal: 0,
-            place: 0,
-            parts: parts as u32,
+            finished: 1,
+            worked,
             kind: shown.kind,
             first: shown.first,
             second: shown.second,
             name: shown.name,
             other: shown.other,
         },
-        Evaluated::Refused { number, place } => EvaluateAnswer {
-            refusal: number as u32,
-            place: place as u32,
-            parts: 0,
-            kind: 0,
-            first: 0,
-            second: 0,
-            name: 0,
-            other: 0,
+        Err(e) => PreviewAnswer {
+            refusal: e.into(),
+            ..PreviewAnswer::default()
+        },
+    }
+}
+
+fn print_numbers(x: Result<u16, Refusal>) -> PrintAnswer
+    ensures { result ≡ print_numbers x }
+{
+    match x {
+        Ok(length) => PrintAnswer {
+            refusal: 0,
+            length: length as u32,
+        },
+        Err(e) => PrintAnswer {
+            refusal: e.into(),
+            length: 0,
+        },
+    }
+}
+
+fn evaluate_numbers(x: Result<Evaluated, Refused>) -> EvaluateAnswer
+    requires { PlaceFits x }
+    ensures { result ≡ evaluate_numbers x }
+{
+    match x {
+        Ok(done) => EvaluateAnswer {
+            refusal: 0,
+            place: 0,
+            parts: done.parts as u32,
+            kind: done.shown.kind,
+            first: done.shown.first,
+            second: done.shown.second,
+            name: done.shown.name,
+            other: done.shown.other,
+        },
+        Err(e) => EvaluateAnswer {
+            refusal: e.refusal.into(),
+            place: e.place as u32,
+            ..EvaluateAnswer::default()
         },
     }
 }

@@ -6,41 +6,23 @@ use Prim.Native.Nat.{ℕ, suc, ◌+◌, ◌-◌, ◌/◌, ◌%◌, ◌≤◌, �
 use native.Mathlib.Omega.{arith}
 use native.Mathlib.Numerals.{add-one}
 use borrow.Author.Rules.{rules}
-use borrow.Author.Tests.{lt-ltb, le-ltb, le-leb, lt-leb, ne_eqb}
+use borrow.Author.Tests.{lt-ltb, le-ltb, le-leb, lt-leb}
 use lib.Dec.{eqb}
 use lib.ListN.{length, get_or, set, get_or-eq_default}
 use Rattle.language.specs.Limits.{table_entries}
-use Rattle.rules.specs.Values.{unbound_name}
-use Rattle.values.specs.Packing.{window_cell, function_cell, delayed_cell, missing_cell}
+use Rattle.values.specs.Packing.{delayed_cell}
 use Rattle.layout.specs.Links.{kind_at, key_at, value_at}
-use Rattle.layout.specs.Nodes.{number_kind, variable_kind, unbound_kind, function_kind}
+use Rattle.layout.specs.Nodes.{function_kind}
 use Rattle.chunks.specs.Rows.{bound}
+use Rattle.columns.specs.Leaves as Leaves
 use Rattle.evaluator.specs.Frames.{leaf_of, start_at, start_from, is_unset, is_open, function_of}
 
 pub past : (l : List ℕ) (k : ℕ) → length l ≤ k → 0 ≡ get_or l k 0
 past l k h = sym (get_or-eq_default l 0 {n = k} h)
 
-module _ (size kind key : ℕ) where
-  pub leaf-number : kind ≡ number_kind → key % 4294967296 + 1 ≡ leaf_of size kind key
-  unfolding leaf_of
-  leaf-number h = rw h
-
-  pub leaf-variable : (kind ≡ number_kind → ⊥) → kind ≡ variable_kind → delayed_cell ≡ leaf_of size kind key
-  unfolding leaf_of
-  leaf-variable n h = rw h
-
-  module _ (n : kind ≡ number_kind → ⊥) (m : kind ≡ variable_kind → ⊥) where
-    pub leaf-unbound : kind ≡ unbound_kind → missing_cell + unbound_name ≡ leaf_of size kind key
-    unfolding leaf_of
-    leaf-unbound h = rw h
-
-    pub leaf-readings : (kind ≡ unbound_kind → ⊥) → window_cell + size ≡ leaf_of size kind key
-    unfolding leaf_of
-    leaf-readings h = rw (ne_eqb _ _ n, ne_eqb _ _ m, ne_eqb _ _ h)
-
 module _ (size : ℕ) (links cells : List ℕ) (i kind : ℕ) (e : kind ≡ kind_at links i) where
-  pub start-leaf : kind < function_kind → (key r : ℕ) → key ≡ key_at cells i → r ≡ leaf_of size kind key → r ≡ start_at size links cells i
-  unfolding start_at
+  pub start-leaf : kind < function_kind → (key r : ℕ) → key ≡ key_at cells i → r ≡ Leaves.leaf_of size kind key delayed_cell → r ≡ start_at size links cells i
+  unfolding start_at leaf_of Leaves.leaf_of
   start-leaf h key r k d = rw (← e, lt-ltb _ _ h, ← k) d
 
   pub start-kept : function_kind ≤ kind → (r : ℕ) → r ≡ value_at cells i → r ≡ start_at size links cells i
@@ -84,27 +66,13 @@ module _ (frame : List ℕ) (w : ℕ) (r : Bool) (e : r ≡ is_unset frame (w / 
   pub open-second : r ≡ false → (s : Bool) → s ≡ is_unset frame (w % 65536) → s ≡ is_open frame w
   open-second t s d = rw (sym e ∙ t) d
 
-module _ (frame : List ℕ) (w base : ℕ) where
-  pub function-missing : missing_cell ≤ base → base ≡ function_of frame w base
-  unfolding function_of
-  function-missing h = rw (le-leb _ _ h)
-
-  module _ (h : base < missing_cell) (r : Bool) (e : r ≡ is_open frame w) where
-    pub function-open : r ≡ true → delayed_cell ≡ function_of frame w base
-    unfolding function_of
-    function-open t = rw (lt-leb _ _ h, ← e, t)
-
-    pub function-closed : r ≡ false → function_cell ≡ function_of frame w base
-    unfolding function_of
-    function-closed t = rw (lt-leb _ _ h, ← e, t)
+pub function-waits : (frame : List ℕ) (w base : ℕ) (r : Bool) (c : ℕ) → r ≡ is_open frame w → c ≡ Leaves.function_of r base → c ≡ function_of frame w base
+unfolding function_of Leaves.function_of
+function-waits frame w base r c e d = rw e at d
 
 pub ruleset framing = (
   rules,
   past,
-  leaf-number,
-  leaf-variable,
-  leaf-unbound,
-  leaf-readings,
   start-leaf,
   start-kept,
   bound-yes,
@@ -114,7 +82,7 @@ pub ruleset framing = (
   unset-none,
   open-first,
   open-second,
-  function-missing,
-  function-open,
-  function-closed,
+  function-waits,
+  start-turn,
+  start-end,
 )

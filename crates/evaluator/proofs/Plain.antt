@@ -1,19 +1,18 @@
 -- Where every entry of a list is a member that runs no function, working it out asks for no run: the runs over such a list are the plain ones.
 -- Assumes nothing.
+use Rattle.std.specs.Prelude.{Option, Some, None}
 use mathlib.Core.Path.{◌≡◌, refl, sym, ap, ◌∙◌}
 use mathlib.Core.Bool.{Bool, true, false, cond, ◌&&◌, and-eq-true_iff, false≢true}
 use mathlib.Core.List.{List, [], ◌∷◌}
 use Prim.Native.Nat.{ℕ, zero, suc, ◌+◌, ◌-◌, ◌≤◌, ◌<◌}
 use native.Mathlib.Omega.{arith}
-use borrow.Author.Tests.{ltb-false, le-ltb, lt-ltb, le-leb, lt-leb, ne_eqb, leb-true}
+use borrow.Author.Tests.{ltb-false, le-ltb, le-leb, ne_eqb, leb-true}
 use lib.Dec.{leb, ltb}
 use lib.IntN.{ℤ}
 use lib.ListN.{get_or, set}
 use Rattle.language.specs.Cases.{split}
 use Rattle.members.specs.Members.{if_member}
 use Rattle.members.specs.declared.Member.{Member}
-use Rattle.members.specs.declared.Found.{Found}
-use Rattle.members.specs.declared.Found.TheVariants.{Is, Unknown}
 use Rattle.rules.specs.declared.Value.{Value}
 use Rattle.rules.specs.declared.Value.TheVariants.{Number, Window, Function, Delayed, Missing}
 use Rattle.rules.specs.Values.{wrong_kind, if_window, if_function}
@@ -27,10 +26,11 @@ use Rattle.values.specs.Tallies.{stepped}
 use Rattle.values.specs.Packing.{pack_of, unpack_of}
 use Rattle.layout.specs.Nodes.{function_kind, first_member, member_of_kind}
 use Rattle.layout.specs.Links.{kind_at, first_at, second_at, is_below}
-use Rattle.columns.specs.Calling.{bounded_of, ask_of, call_of, settled_of, cell_of}
+use Rattle.columns.specs.Calling.{bounded_of, call_of, settled_of, cell_of}
 use Rattle.chunks.proofs.Filling.{linking}
 use Rattle.chunks.specs.Rows.{bound, fill_of, set_of, over_of, plain_of, settles, is_plain, are_plain}
-use Rattle.evaluator.specs.Applying.{graph, plan_of, done_of, follow_of, finish_of, apply_at, Applies}
+use Rattle.evaluator.specs.declared.working.Task.TheVariants.{Known}
+use Rattle.evaluator.specs.Applying.{graph, plan_of, follow_of, finish_of, apply_at, Applies}
 
 -- a member that runs no function is done
 same-window : {A : Type 0} (d : A) (v : Value) (g : ℕ → ℕ → A) → ((s l : ℕ) → g s l ≡ d) → if_window d v g ≡ d
@@ -60,11 +60,11 @@ settles-done m xs v w h =
     same-window done v _ (λ s l. ap (λ (d : Applied). if_function done w d) (same-rule (rule m) done (Run s l) h) ∙ same-function done w)
 
 -- and asks for no run
-call-done : (f : Found) (xs : List ℤ) (a b : ℕ) → if_member false f (λ m. if_runs true (rule m) (λ g. false)) ≡ true
-    → (links waits : List ℕ) (at kind : ℕ) → follow_of links waits at kind (call_of f xs a b) ≡ done_of (settled_of (call_of f xs a b))
+call-done : (f : Option Member) (xs : List ℤ) (a b : ℕ) → if_member false f (λ m. if_runs true (rule m) (λ g. false)) ≡ true
+    → (links waits : List ℕ) (at kind : ℕ) → follow_of links waits at kind (call_of f xs a b) ≡ Known (settled_of (call_of f xs a b))
 unfolding call_of settled_of follow_of
-call-done Unknown xs a b h links waits at kind = absurd (false≢true h)
-call-done (Is m) xs a b h links waits at kind = rw (settles-done m xs (bounded_of (unpack_of a)) (unpack_of b) h)
+call-done None xs a b h links waits at kind = absurd (false≢true h)
+call-done (Some m) xs a b h links waits at kind = rw (settles-done m xs (bounded_of (unpack_of a)) (unpack_of b) h)
 
 -- such a kind is above that of a function
 settles-above : (kind : ℕ) → settles kind ≡ true → function_kind < kind
@@ -82,7 +82,7 @@ module _ (links waits : List ℕ) (xs : List ℤ) (body : ℕ) where
     plain-first : is_below (first_at links j) j ≡ true
     plain-first = ((and-eq-true_iff (settles (kind_at links j)) (is_below (first_at links j) j)).0 ((and-eq-true_iff (leb j body) _).0 p).1).1
 
-    plan-plain : (frame : List ℕ) → plan_of (graph links waits xs) frame j ≡ done_of (plain_of links xs frame j)
+    plan-plain : (frame : List ℕ) → plan_of (graph links waits xs) frame j ≡ Known (plain_of links xs frame j)
     unfolding plan_of plain_of cell_of settles
     plan-plain frame =
         let high : function_kind < kind_at links j = settles-above (kind_at links j) plain-member in
@@ -131,9 +131,6 @@ module _ (links : List ℕ) (j k : ℕ) (p : k ≡ kind_at links j) where
     pub plain-one : b ≡ false → c ≡ cell_of (member_of_kind k) xs false (get_or frame (f - 1) 0) 0 → c ≡ plain_of links xs frame j
     unfolding plain_of cell_of
     plain-one t h = rw (← p, ← q, ← r, sym o ∙ t) h
-
-pub plain-below : (links : List ℕ) (j : ℕ) (b : Bool) → b ≡ (settles (kind_at links j) && is_below (first_at links j) j) → b ≡ true → is_below (first_at links j) j ≡ true
-plain-below links j b e t = ((and-eq-true_iff (settles (kind_at links j)) (is_below (first_at links j) j)).0 (sym e ∙ t)).1
 
 pub plain-is : (links waits : List ℕ) (xs : List ℤ) (frame : List ℕ) (j v r : ℕ) (b : Bool) → b ≡ (settles (kind_at links j) && is_below (first_at links j) j) → b ≡ true
     → r ≡ plain_of links xs frame j → v ≡ r → Applies (graph links waits xs) frame j v

@@ -1,4 +1,5 @@
 -- The steps of the falling sweep, each over plain numbers and lists. Assumes nothing.
+use Rattle.std.proofs.lemmas.Bool.{cond_both}
 use mathlib.Core.Path.{◌≡◌, sym, ap, ◌∙◌}
 use mathlib.Core.Bool.{Bool, true, false, cond, not, ◌&&◌}
 use mathlib.Core.List.{List, ◌∷◌}
@@ -10,10 +11,11 @@ use borrow.Author.Tests.{eq-eqb, ne_eqb, eqb-true, eqb-false, ltb-true, ltb-fals
 use lib.Dec.{eqb, ltb}
 use lib.ListN.{length, get_or, set, replicate, drop, length-set, drop_of_length-le, length-replicate, get_or-replicate, get_or-eq_default}
 use lib.Seq.{drop-cons, drop-set-lt, get_or-set_same, get_or-set_other}
-use Rattle.language.specs.Cases.{split, by_cond}
+use Rattle.language.specs.Cases.{split}
 use Rattle.language.specs.Limits.{table_entries}
 use Rattle.layout.specs.Links.{first_at, second_at, is_below}
 use Rattle.table.specs.Waits.{awaits}
+use Rattle.table.proofs.Waiting.{below_one, below-most}
 use Rattle.chunks.specs.Chunks.{Marks}
 use Rattle.evaluator.specs.Reach.{moves, flagged, spread, gather_from, gathered}
 
@@ -143,9 +145,9 @@ unfolding spread flagged
 marks-spread links waits v j flags m = one (second_at links j) _ (one (first_at links j) flags m)
   where
     one : (link : ℕ) (flags : List ℕ) → Marks flags → Marks (cond (is_below link j && moves waits v (link - 1)) (set flags (link - 1) 1) flags)
-    one link flags m = by_cond Marks (is_below link j && moves waits v (link - 1)) (set flags (link - 1) 1) flags (λ e. marks-set flags (link - 1) m) (λ e. m)
+    one link flags m = cond_both (is_below link j && moves waits v (link - 1)) (set flags (link - 1) 1) flags Marks (λ e. marks-set flags (link - 1) m) (λ e. m)
 
 pub length-kept : (l : List ℕ) (k v n : ℕ) → length l ≡ n → length (set l k v) ≡ n
 length-kept l k v n e = length-set l k v ∙ e
 
-pub ruleset reaching = (rules, moves-yes, moves-no, flag-far, flag-yes, flag-no, spread-is)
+pub ruleset reaching = (rules, below_one, below-most, moves-yes, moves-no, flag-far, flag-yes, flag-no, spread-is)

@@ -1,28 +1,21 @@
 -- An entry's value from a frame, in the code's shape: what the entry asks for, and the runs of a function over a window. Inside a run only
 -- what awaits its variable is worked out again. A function's body is judged with its own variable delayed, whatever a run around it has set.
 -- Assumes nothing: these are definitions. What they come to is in refine's Meaning.
-use Rattle.std.specs.Prelude.{◌≡◌, true, false, cond, ◌&&◌, List, [], ◌∷◌, ℕ, zero, suc, ◌+◌, ◌-◌, ◌≤◌, ◌<◌, leb, ltb, eqb, ℤ, length, get_or, set}
+use Rattle.std.specs.Prelude.{◌≡◌, cond, ◌&&◌, List, ℕ, zero, suc, ◌+◌, ◌-◌, ◌≤◌, ◌<◌, leb, ltb, eqb, ℤ, get_or, ⊤}
 use Rattle.language.specs.Limits.{table_entries}
-use Rattle.members.specs.Members.{if_member}
-use Rattle.members.specs.declared.Found.{Found}
-use Rattle.rules.specs.declared.Value.{Value}
-use Rattle.rules.specs.declared.Value.TheVariants.{Number, Missing}
 use Rattle.values.specs.declared.apply.Applied.{Applied}
 use Rattle.values.specs.declared.apply.Applied.TheVariants.{Done, Run}
-use Rattle.values.specs.declared.runs.Tally.{Tally}
-use Rattle.rules.specs.Values.{wrong_kind, if_window}
 use Rattle.rules.specs.Windows.{readings_in}
-use Rattle.rules.specs.Apply.{apply0}
-use Rattle.values.specs.Applied.{applied1}
-use Rattle.values.specs.Tallies.{begun, stepped, finished, Within}
-use Rattle.values.specs.Keepable.{Bounded}
-use Rattle.values.specs.Packing.{pack_of, unpack_of, delayed_cell, wrong_cell}
-use Rattle.layout.specs.Nodes.{number_kind, function_kind, member_of_kind}
+use Rattle.values.specs.Tallies.{begun}
+use Rattle.values.specs.Packing.{pack_of, delayed_cell, wrong_cell}
+use Rattle.layout.specs.Nodes.{function_kind, member_of_kind}
 use Rattle.evaluator.specs.declared.working.Task.{Task}
+use Rattle.evaluator.specs.declared.working.Task.TheVariants.{Known, Body}
+use Rattle.evaluator.specs.declared.working.Purpose.TheVariants.{Judge, Over}
 use Rattle.layout.specs.Links.{kind_at, first_at, second_at, is_below}
 use Rattle.table.specs.Waits.{own_of}
 use Rattle.evaluator.specs.Reach.{gathered}
-use Rattle.columns.specs.Calling.{ask_of, call_of}
+use Rattle.columns.specs.Calling.{ask_of, call_of, conclude_of}
 use Rattle.chunks.specs.Rows.{Go, set_of, over_of}
 use Rattle.evaluator.specs.Frames.{function_of}
 
@@ -35,31 +28,23 @@ pub record Graph : Type 0 where
 abbrev pub graph : List ℕ → List ℕ → List ℤ → Graph
 graph links waits xs = record { links = links; waits = waits; xs = xs }
 
--- what an entry asks for: it is done, with a value; or a body is to be worked out with a variable set, to judge a function (whose kind it
--- has then) or to run it over a window
-abbrev pub done_of : ℕ → Task
-done_of c = record { done = true; value = c; kind = number_kind; start = 0; length = 0; body = 0; variable = 0 }
-
-abbrev pub task_of : ℕ → ℕ → ℕ → ℕ → ℕ → Task
-task_of kind s l body v = record { done = false; value = 0; kind = kind; start = s; length = l; body = body; variable = v }
-
 -- a function: its body is judged with its own variable delayed, where the body awaits that
 unfoldable pub judge_of : List ℕ → List ℕ → ℕ → ℕ → ℕ → Task
 judge_of waits frame i body a =
     cond (leb 1 (own_of (get_or waits body 0) (get_or waits i 0)))
-    (cond (leb (own_of (get_or waits body 0) (get_or waits i 0)) table_entries) (task_of function_kind 0 0 body (own_of (get_or waits body 0) (get_or waits i 0))) (done_of wrong_cell))
-    (done_of (function_of frame (get_or waits i 0) a))
+    (cond (leb (own_of (get_or waits body 0) (get_or waits i 0)) table_entries) (Body body (own_of (get_or waits body 0) (get_or waits i 0)) Judge) (Known wrong_cell))
+    (Known (function_of frame (get_or waits i 0) a))
 
 -- the runs of the function that entry f is
 unfoldable pub run_of : List ℕ → List ℕ → ℕ → ℕ → ℕ → ℕ → Task
 run_of links waits f kind s l =
     let body : ℕ = first_at links f - 1 in
     let own : ℕ = own_of (get_or waits body 0) (get_or waits f 0) in
-    cond (eqb (kind_at links f) function_kind && (is_below (first_at links f) f && leb own table_entries)) (task_of kind s l body own) (done_of wrong_cell)
+    cond (eqb (kind_at links f) function_kind && (is_below (first_at links f) f && leb own table_entries)) (Body body own (Over kind s l)) (Known wrong_cell)
 
 -- what a member with one argument asks for
 unfoldable pub follow_of : List ℕ → List ℕ → ℕ → ℕ → Applied → Task
-follow_of links waits f kind (Done v) = done_of (pack_of v)
+follow_of links waits f kind (Done v) = Known (pack_of v)
 follow_of links waits f kind (Run s l) = run_of links waits f kind s l
 
 -- what entry i asks for, by its kind and what its dependencies have in the frame
@@ -68,31 +53,26 @@ plan_of g frame i =
     let kind : ℕ = kind_at g.links i in
     let first : ℕ = first_at g.links i in
     let second : ℕ = second_at g.links i in
-    cond (ltb kind function_kind) (done_of (get_or frame i 0))
+    cond (ltb kind function_kind) (Known (get_or frame i 0))
     (cond (is_below first i)
     (cond (eqb kind function_kind) (judge_of g.waits frame i (first - 1) (get_or frame (first - 1) 0))
     (cond (is_below second i)
     (follow_of g.links g.waits (second - 1) kind (call_of (member_of_kind kind) g.xs (get_or frame (first - 1) 0) (get_or frame (second - 1) 0)))
-    (done_of (ask_of (member_of_kind kind) g.xs (get_or frame (first - 1) 0)))))
-    (done_of wrong_cell))
+    (Known (ask_of (member_of_kind kind) g.xs (get_or frame (first - 1) 0)))))
+    (Known wrong_cell))
 
--- a task that is not done lies below its entry
-pub record Planned (i : ℕ) (p : Task) : Type 0 where
-  pub below : p.body < i
-  pub variable : p.variable ≤ table_entries
-
--- what the runs come to, by the member
-unfoldable pub conclude_of : Found → Tally → ℕ
-conclude_of f t = if_member wrong_cell f (λ m. pack_of (finished m t))
+-- a body that an entry asks for lies below it
+unfoldable pub Planned : ℕ → Task → Type 0
+Planned i (Known c) = ⊤
+Planned i (Body body v p) = (body < i) × (v ≤ table_entries)
 
 -- what entry i comes to, once what it asks for is worked out
 unfoldable pub finish_of : Graph → Go → List ℕ → ℕ → Task → ℕ
-finish_of g go frame i p =
-    let list : List ℕ = gathered g.links g.waits p.variable p.body in
-    cond p.done p.value
-    (cond (eqb p.kind function_kind)
-    (function_of frame (get_or g.waits i 0) (get_or (set_of go (p.body + 1) list p.variable delayed_cell frame) p.body 0))
-    (conclude_of (member_of_kind p.kind) (over_of go p.body list p.variable frame begun (readings_in g.xs p.start p.length))))
+finish_of g go frame i (Known c) = c
+finish_of g go frame i (Body body v Judge) =
+    function_of frame (get_or g.waits i 0) (get_or (set_of go (body + 1) (gathered g.links g.waits v body) v delayed_cell frame) body 0)
+finish_of g go frame i (Body body v (Over kind s l)) =
+    conclude_of (member_of_kind kind) (over_of go body (gathered g.links g.waits v body) v frame begun (readings_in g.xs s l))
 
 -- entries fall, so a fuel above the entry's number is enough
 unfoldable pub apply_at : Graph → ℕ → Go

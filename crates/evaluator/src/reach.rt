@@ -1,4 +1,6 @@
 // What a run works out again: a falling sweep from the body that follows the entries that await the variable.
+#![tactic(auto, using(crate::proofs::Reaching::reaching))]
+
 ghost use Rattle.std.specs.Prelude.{◌≡◌, ◌<◌, length, replicate};
 ghost use Rattle.language.specs.Limits.{table_entries};
 ghost use Rattle.evaluator.specs.Reach.{moves as moves_of, flagged, spread as spread_of, Gathers};
@@ -12,13 +14,10 @@ fn moves(waits: &[u32; Table::ENTRIES], v: u32, d: usize) -> bool
     requires { d < table_entries }
     ensures { result ≡ moves_of waits.now v d }
 {
-    if awaits(waits[d], v) {
-        return (d + 1) as u32 != v;
-    }
-    false
+    awaits(waits[d], v) && (d + 1) as u32 != v
 }
 
-// Flags a dependency of entry j where it moves.
+// Flags a dependency of entry j where it moves. A flag is a number: it becomes the mark of a column.
 fn flag(
     waits: &[u32; Table::ENTRIES],
     v: u32,
@@ -29,10 +28,8 @@ fn flag(
     requires { j < table_entries }
     ensures { flags.new ≡ flagged waits.now v j link flags.old }
 {
-    if is_below(link, j) {
-        if moves(waits, v, link - 1) {
-            flags[link - 1] = 1;
-        }
+    if is_below(link, j) && moves(waits, v, link - 1) {
+        flags[link - 1] = 1;
     }
 }
 
@@ -65,9 +62,7 @@ pub fn gather(
     let mut at: usize = Table::ENTRIES;
     if moves(waits, v, body) {
         flags[body] = 1;
-        let mut j = body + 1;
-        while 0 < j {
-            j -= 1;
+        for j in (0..body + 1).rev() {
             if flags[j] == 1 {
                 at -= 1;
                 list[at] = j as u16;

@@ -1,8 +1,9 @@
 -- The forms of a text in the order of binding: dependencies come first, and every part is among them. Assumes nothing.
 use Rattle.std.specs.Prelude.{◌≡◌, refl, Bool, true, false, cond, List, [], ◌∷◌, ℕ, ℤ}
+use Rattle.std.proofs.lemmas.Bool.{false≢true, cond_both}
 use Rattle.std.proofs.Common.{sym, ◌∙◌}
 use Rattle.language.specs.Names.{packed, same_name, is_data}
-use Rattle.language.specs.Cases.{impossible, split, either, by_cond}
+use Rattle.language.specs.Cases.{split, either}
 use Rattle.grammar.specs.Grammar.{Expression, Calls, Arguments, More, let_in, lambda, name, literal, bracket, done, call, none, first, last, next}
 use Rattle.meaning.specs.Forms.{Form, number, variable, unbound, readings, ask, function, same, dependency}
 use Rattle.meaning.proofs.FormsLaws.{same-eq, same_self}
@@ -39,7 +40,7 @@ based-more g f fs h d e = in-more g fs d (h d e)
 
 -- forms with no dependency
 based-leaf : (f : Form) (fs : List Form) → ((d : Form) → dependency d f ≡ false) → Based f fs
-based-leaf f fs h d e = impossible (sym (h d) ∙ e)
+based-leaf f fs h d e = absurd (false≢true (sym (h d) ∙ e))
 
 -- every name stands for a form whose dependencies are in the list
 abbrev Grounded : List Meaning → List Form → Type 0
@@ -53,12 +54,12 @@ based-lookup : (x : List ℕ) (Γ : List Meaning) (fs : List Form) → Grounded 
 unfolding look_up dependency
 based-lookup x [] fs h = based-leaf (unbound (packed x)) fs (λ d. refl)
 based-lookup x (e ∷ Γ) fs h =
-    by_cond (λ (f : Form). Based f fs) (same_name x e.0) e.1 (look_up x Γ) (λ _. h.0) (λ _. based-lookup x Γ fs h.1)
+    cond_both (same_name x e.0) e.1 (look_up x Γ) (λ (f : Form). Based f fs) (λ _. h.0) (λ _. based-lookup x Γ fs h.1)
 
 based-named : (x : List ℕ) (Γ : List Meaning) (fs : List Form) → Grounded Γ fs → Based (named x Γ) fs
 unfolding named dependency
 based-named x Γ fs h =
-    by_cond (λ (f : Form). Based f fs) (is_data x) readings (look_up x Γ) (λ _. based-leaf readings fs (λ d. refl)) (λ _. based-lookup x Γ fs h)
+    cond_both (is_data x) readings (look_up x Γ) (λ (f : Form). Based f fs) (λ _. based-leaf readings fs (λ d. refl)) (λ _. based-lookup x Γ fs h)
 
 grounded-lambda : (x : List ℕ) (Γ : List Meaning) (fs : List Form) → Grounded Γ fs → Grounded (as_lambda x Γ) fs
 unfolding dependency
@@ -225,7 +226,7 @@ mutual
 
 all_among : (fs l : List Form) → AllIn l fs → Among formulas fs l
 unfolding is_in
-all_among [] l h f i = impossible i
+all_among [] l h f i = absurd (false≢true i)
 all_among (g ∷ fs) l h f i = split (same g f) (λ e. rw (← same-eq g f e) h.0) (λ e. all_among fs l h.1 f (rw e at i))
 
 -- the whole and every part are bound

@@ -1,8 +1,9 @@
 -- The words of a text's tokens are words: a letter, then letters and digits, and neither let nor in. So the names in use and the names of
 -- lambdas of a text that is read are words. Assumes nothing.
 use Rattle.std.specs.Prelude.{◌≡◌, refl, true, false, List, [], ◌∷◌, map, ℕ, zero, suc, ◌-◌, eqb, take}
+use Rattle.std.proofs.lemmas.Bool.{cond_both}
 use Rattle.std.proofs.Common.{sym, subst}
-use Rattle.language.specs.Cases.{split, by_cond}
+use Rattle.language.specs.Cases.{split}
 use Rattle.language.specs.Names.{is_letter, is_digit, in_word, is_blank, let_word, word_in}
 use Rattle.language.specs.NamesLaws.{Each, NameByte, each_map, word_byte}
 use Rattle.members.specs.Members.{same_bytes}
@@ -68,9 +69,9 @@ word-at b bs h =
 mark-token : (b : ℕ) → WordToken (mark_token b)
 unfolding mark_token
 mark-token b =
-    by_cond WordToken (eqb b 61) k_equals _ (λ _. tt) (λ _. by_cond WordToken (eqb b 92) k_lambda _ (λ _. tt)
-    (λ _. by_cond WordToken (eqb b 46) k_dot _ (λ _. tt) (λ _. by_cond WordToken (eqb b 40) k_open _ (λ _. tt)
-    (λ _. by_cond WordToken (eqb b 41) k_shut _ (λ _. tt) (λ _. by_cond WordToken (eqb b 44) k_comma (other b) (λ _. tt) (λ _. tt))))))
+    cond_both (eqb b 61) k_equals _ WordToken (λ _. tt) (λ _. cond_both (eqb b 92) k_lambda _ WordToken (λ _. tt)
+    (λ _. cond_both (eqb b 46) k_dot _ WordToken (λ _. tt) (λ _. cond_both (eqb b 40) k_open _ WordToken (λ _. tt)
+    (λ _. cond_both (eqb b 41) k_shut _ WordToken (λ _. tt) (λ _. cond_both (eqb b 44) k_comma (other b) WordToken (λ _. tt) (λ _. tt))))))
 
 minus-at : (bs : List ℕ) → WordToken (minus_at bs).0
 unfolding minus_at

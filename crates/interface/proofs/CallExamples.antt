@@ -35,7 +35,10 @@ use Rattle.schedule.specs.Works
 use Rattle.schedule.proofs.Examples.{entry}
 use Rattle.schedule.specs.declared.View.{View}
 use Rattle.interface.specs.declared.answers.Previewed.{Previewed}
-use Rattle.interface.specs.declared.answers.Previewed.TheVariants.{NotYet, Finished, Refused}
+use Rattle.std.specs.Prelude.{Result, Ok, Err}
+use Rattle.language.specs.declared.refusals.Refusal.{Refusal}
+use Rattle.language.specs.declared.refusals.Refusal.TheVariants.{NoSuchEntry}
+use Rattle.interface.specs.declared.answers.Previewed.TheVariants.{NotYet, Finished}
 use Rattle.interface.specs.Answers.{Reply}
 use Rattle.interface.specs.Calls
 use Rattle.interface.specs.Calls.{open_memory, previewed, preview_memory, fetched, print_answer, print_bytes}
@@ -69,7 +72,7 @@ shown_number n = record { kind = 1; first = pos n; second = 0; name = 0; other =
 
 -- what a preview answers, and the kept values that it leaves; the readings that are fetched after it; what an open leaves of it
 pub record Outcome : Type 0 where
-  pub answer : Previewed
+  pub answer : Result Previewed Refusal
   pub marked : List ℕ
   pub fetched : List ℤ
   pub opened : List ℕ × List ℤ
@@ -95,17 +98,17 @@ outcome m n a =
       opened = (anew.heads, take 3 anew.readings);
     }
 
-abbrev pub expected : Previewed → List ℕ → List ℤ → Outcome
+abbrev pub expected : Result Previewed Refusal → List ℕ → List ℤ → Outcome
 expected p ks rs = record { answer = p; marked = ks; fetched = rs; opened = (0 ∷ 2 ∷ [], pos 7 ∷ pos 8 ∷ pos 160 ∷ []) }
 
 -- of the take with an allowance of 1 and of 9; of the sum, which is over the recording alone; of the take with none; of an entry that is not held
 pub outcomes-hold :
     outcome cache 4 1 ∷ outcome cache 4 9 ∷ outcome cache 5 9 ∷ outcome cache 4 0 ∷ outcome cache 6 9 ∷ []
-    ≡ expected (NotYet 1) (window 1 4 ∷ 0 ∷ 0 ∷ []) []
-    ∷ expected (Finished 2 (shown_window 1 2)) (window 1 4 ∷ window 1 2 ∷ 0 ∷ []) (pos 152 ∷ pos 160 ∷ [])
-    ∷ expected (Finished 1 (shown_number 755)) (0 ∷ 0 ∷ 2147484404 ∷ []) []
-    ∷ expected (NotYet 0) (0 ∷ 0 ∷ 0 ∷ []) []
-    ∷ expected (Refused 14) (0 ∷ 0 ∷ 0 ∷ []) []
+    ≡ expected (Ok (NotYet 1)) (window 1 4 ∷ 0 ∷ 0 ∷ []) []
+    ∷ expected (Ok (Finished 2 (shown_window 1 2))) (window 1 4 ∷ window 1 2 ∷ 0 ∷ []) (pos 152 ∷ pos 160 ∷ [])
+    ∷ expected (Ok (Finished 1 (shown_number 755))) (0 ∷ 0 ∷ 2147484404 ∷ []) []
+    ∷ expected (Ok (NotYet 0)) (0 ∷ 0 ∷ 0 ∷ []) []
+    ∷ expected (Err NoSuchEntry) (0 ∷ 0 ∷ 0 ∷ []) []
     ∷ []
 unfolding outcome
 outcomes-hold = refl

@@ -1,11 +1,12 @@
 -- Laws of the calls' definitions: the part that fetch hands out, and what a well-formed cache keeps. Assumes nothing.
 use Rattle.std.specs.Prelude.{◌≡◌, Bool, false, ◌&&◌, cond, List, ℕ, ◌+◌, ◌<◌, leb}
+use Rattle.std.proofs.lemmas.Bool.{false≢true}
 use Rattle.std.proofs.Math.Path.{refl}
 use Rattle.std.proofs.Common.{sym, ◌∙◌, arith}
 use Rattle.std.proofs.Math.Bool.{true, and-eq-true_iff}
 use borrow.Author.Tests.{le-leb, lt-leb, leb-false, ltb-true, ltb-false}
 use Rattle.std.proofs.Math.Dec.{ltb}
-use Rattle.language.specs.Cases.{impossible, split}
+use Rattle.language.specs.Cases.{split}
 use Rattle.language.specs.Limits.{table_entries, table_readings}
 use Rattle.layout.specs.Memory.{Memory, fits, entry_count, reading_count, kept_at, entry_at, entries_from, entries_of}
 use Rattle.table.specs.WellFormed.{distinct, awaits_few, done_at, settled, names_right, kept_right, well_formed}
@@ -33,9 +34,9 @@ module _ (m : Memory) (n : ℕ) where
   unworked d h =
       let e = done-is m.links m.cells (entry_count m) n (kind_at m.links n) (value_at m.cells n) refl refl ∙ d in
       split (ltb (kind_at m.links n) function_kind)
-      (λ t. impossible (sym e ∙ rw (h, lt-leb function_kind (kind_at m.links n) (ltb-true (kind_at m.links n) function_kind t))))
+      (λ t. absurd (false≢true (sym e ∙ rw (h, lt-leb function_kind (kind_at m.links n) (ltb-true (kind_at m.links n) function_kind t)))))
       (λ t. split (leb 1 (value_at m.cells n))
-      (λ v. impossible (sym e ∙ rw (h, le-leb function_kind (kind_at m.links n) (ltb-false (kind_at m.links n) function_kind t), v)))
+      (λ v. absurd (false≢true (sym e ∙ rw (h, le-leb function_kind (kind_at m.links n) (ltb-false (kind_at m.links n) function_kind t), v))))
       (λ v. let z = leb-false 1 (value_at m.cells n) v in rw t (rw (unpack-number (value_at m.cells n) (omega arith)))))
 
   pub part_held : part_of m n ≡ cond (fits m && (well_formed m && ltb n (entry_count m))) shown_part no_part

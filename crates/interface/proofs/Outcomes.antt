@@ -1,11 +1,12 @@
 -- Each call's answer, case by case, with what is known in each: the tests of Calls in their order. Assumes nothing.
 use Rattle.std.specs.Prelude.{◌≡◌, true, false, cond, ◌&&◌, leb, ltb, ℤ, length, get_or}
+use Rattle.std.proofs.lemmas.Bool.{false≢true}
 use Rattle.std.proofs.Math.Path.{refl}
 use Rattle.std.proofs.Common.{sym, ◌∙◌, leb-true, ltb-true, ltb-false}
 use Rattle.std.proofs.Math.Bool.{and-eq-true_iff}
 use mathlib.Core.List.{List}
 use Prim.Native.Nat.{ℕ, ◌≤◌, ◌<◌}
-use Rattle.language.specs.Cases.{impossible, split}
+use Rattle.language.specs.Cases.{split}
 use Rattle.language.specs.Limits.{text_bytes, text_parts, table_entries, table_readings}
 use Rattle.grammar.specs.Grammar.{Expression}
 use Rattle.grammar.specs.Reading.{Reading, tree, refused as refused_at}
@@ -21,9 +22,11 @@ use Rattle.records.specs.Records.{records_of}
 use Rattle.formulas.specs.Formulas.{formulas, parsed}
 use Rattle.schedule.specs.declared.View.{View}
 use Rattle.schedule.specs.Works.{show_of}
-use Rattle.interface.specs.declared.answers.Previewed.TheVariants.{NotYet, Finished, Refused}
-use Rattle.interface.specs.declared.answers.Evaluated.TheVariants as Evaluate
-use Rattle.interface.specs.Answers.{Reply}
+use Rattle.std.specs.Prelude.{Ok, Err}
+use Rattle.language.specs.declared.refusals.Refusal.TheVariants.{TextTooLong, RecordingTooLong, MemoryTooSmall, CacheIllFormed, NoSuchEntry}
+use Rattle.language.specs.Refusals.{text_refusal}
+use Rattle.interface.specs.declared.answers.Previewed.TheVariants.{NotYet, Finished}
+use Rattle.interface.specs.Answers.{Reply, declined}
 use Rattle.interface.specs.Views.{view_of}
 use Rattle.interface.specs.Acceptance.{IsEdited, Ready, Held, text_at}
 use Rattle.interface.specs.Calls.{bound_to, read_answer, open_answer, edit_answer, work_on, previewed, form_at, print_answer, read_evaluated, evaluated}
@@ -84,11 +87,11 @@ edit-outcome m places text =
 -- ---- preview
 
 pub data PreviewOutcome (m : Memory) (n a : ℕ) : Type 0 where
-  little : fits m ≡ false → previewed m n a ≡ Refused 3 → PreviewOutcome m n a
-  ill : well_formed m ≡ false → previewed m n a ≡ Refused 4 → PreviewOutcome m n a
-  none : entry_count m ≤ n → previewed m n a ≡ Refused 14 → PreviewOutcome m n a
-  unfinished : fits m ≡ true → well_formed m ≡ true → n < entry_count m → (k : ℕ) → previewed m n a ≡ NotYet k → PreviewOutcome m n a
-  finished : fits m ≡ true → well_formed m ≡ true → n < entry_count m → (k : ℕ) (v : View) → previewed m n a ≡ Finished k v → PreviewOutcome m n a
+  little : fits m ≡ false → previewed m n a ≡ Err MemoryTooSmall → PreviewOutcome m n a
+  ill : well_formed m ≡ false → previewed m n a ≡ Err CacheIllFormed → PreviewOutcome m n a
+  none : entry_count m ≤ n → previewed m n a ≡ Err NoSuchEntry → PreviewOutcome m n a
+  unfinished : fits m ≡ true → well_formed m ≡ true → n < entry_count m → (k : ℕ) → previewed m n a ≡ Ok (NotYet k) → PreviewOutcome m n a
+  finished : fits m ≡ true → well_formed m ≡ true → n < entry_count m → (k : ℕ) (v : View) → previewed m n a ≡ Ok (Finished k v) → PreviewOutcome m n a
 
 pub preview-outcome : (m : Memory) (n a : ℕ) → PreviewOutcome m n a
 unfolding previewed
@@ -136,7 +139,7 @@ module _ (m : Memory) (n : ℕ) (bytes : List ℕ) (h : Held m n) where
       let b : ReadsBack m n bytes = record { held = h; room = room; short = short; expression = t; read = r } in
       split (same (form_of t) (form_at m n))
       (λ s. taken b ((same-exactly (form_of t) (form_at m n)).0 s) (rw s at e))
-      (λ s. other b (λ q. impossible (sym s ∙ (same-exactly (form_of t) (form_at m n)).1 q)) (rw s at e))
+      (λ s. other b (λ q. absurd (false≢true (sym s ∙ (same-exactly (form_of t) (form_at m n)).1 q))) (rw s at e))
 
   held-outcome : print_answer m n bytes ≡ printing formulas (form_at m n) (length bytes) → PrintOutcome m n bytes
   unfolding printing
@@ -165,13 +168,13 @@ pub record Sized (text : List ℕ) (r : List ℤ) : Type 0 where
   pub few : length r ≤ table_readings
 
 pub data EvaluateOutcome (text : List ℕ) (r : List ℤ) (p : ℕ) : Type 0 where
-  long : text_bytes < length text → evaluated text r p ≡ Evaluate.Refused 1 0 → EvaluateOutcome text r p
-  many : length text ≤ text_bytes → table_readings < length r → evaluated text r p ≡ Evaluate.Refused 2 0 → EvaluateOutcome text r p
-  unread : (n at : ℕ) → Sized text r → read_text text ≡ refused_at n at → evaluated text r p ≡ Evaluate.Refused n at → EvaluateOutcome text r p
-  none : (e : Expression) → Sized text r → read_text text ≡ tree e → length (forms_by_place e) ≤ p → evaluated text r p ≡ Evaluate.Refused 14 0
+  long : text_bytes < length text → evaluated text r p ≡ Err (declined TextTooLong 0) → EvaluateOutcome text r p
+  many : length text ≤ text_bytes → table_readings < length r → evaluated text r p ≡ Err (declined RecordingTooLong 0) → EvaluateOutcome text r p
+  unread : (n at : ℕ) → Sized text r → read_text text ≡ refused_at n at → evaluated text r p ≡ Err (declined (text_refusal n) at) → EvaluateOutcome text r p
+  none : (e : Expression) → Sized text r → read_text text ≡ tree e → length (forms_by_place e) ≤ p → evaluated text r p ≡ Err (declined NoSuchEntry 0)
       → EvaluateOutcome text r p
   taken : (e : Expression) → Sized text r → read_text text ≡ tree e → p < length (forms_by_place e)
-      → evaluated text r p ≡ Evaluate.Done (length (forms_by_place e)) (view_of (shows r (get_or (forms_by_place e) p readings))) → EvaluateOutcome text r p
+      → evaluated text r p ≡ Ok (record { parts = length (forms_by_place e); shown = view_of (shows r (get_or (forms_by_place e) p readings)) }) → EvaluateOutcome text r p
 
 -- once the text is read
 part-outcome : (text : List ℕ) (r : List ℤ) (p : ℕ) → Sized text r → (x : Reading) → read_text text ≡ x → evaluated text r p ≡ read_evaluated r p x

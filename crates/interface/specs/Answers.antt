@@ -1,19 +1,16 @@
--- 01's number and values of each case of the enums that the calls answer, and of what is shown. Assumes nothing: these are definitions.
-use Rattle.std.specs.Prelude.{cond, List, [], ◌∷◌, ℕ, eqb, ℤ, pos, negsuc, length, take}
+-- 01's number and values of each answer of the calls, and of what is shown. Assumes nothing: these are definitions.
+use Rattle.std.specs.Prelude.{◌≡◌, cond, List, [], ◌∷◌, ℕ, eqb, ℤ, pos, negsuc, length, take, Result, Ok, Err}
 use Rattle.meaning.specs.Evaluation.{Shown, a_number, a_window, a_function, a_delay, a_reason}
 use Rattle.model.specs.Model.{Answer, refused, opened, edited, not_yet, finished, printed}
 use Rattle.formulas.specs.Formulas.{formulas}
 use Rattle.schedule.specs.declared.View.{View}
-use Rattle.interface.specs.declared.answers.Opened.{Opened}
-use Rattle.interface.specs.declared.answers.Opened.TheVariants as O
+use Rattle.language.specs.declared.refusals.Refusal.{Refusal}
+use Rattle.language.specs.Refusals.{refusal_number}
+use Rattle.language.specs.declared.refusals.Refused.{Refused}
 use Rattle.interface.specs.declared.answers.Edited.{Edited}
-use Rattle.interface.specs.declared.answers.Edited.TheVariants as E
 use Rattle.interface.specs.declared.answers.Previewed.{Previewed}
 use Rattle.interface.specs.declared.answers.Previewed.TheVariants as P
-use Rattle.interface.specs.declared.answers.Printed.{Printed}
-use Rattle.interface.specs.declared.answers.Printed.TheVariants as R
 use Rattle.interface.specs.declared.answers.Evaluated.{Evaluated}
-use Rattle.interface.specs.declared.answers.Evaluated.TheVariants as Evaluate
 use Rattle.interface.specs.declared.answers.EditAnswer.{EditAnswer}
 use Rattle.interface.specs.declared.answers.PreviewAnswer.{PreviewAnswer}
 use Rattle.interface.specs.declared.answers.PrintAnswer.{PrintAnswer}
@@ -23,15 +20,22 @@ use Rattle.interface.specs.declared.answers.EvaluateAnswer.{EvaluateAnswer}
 abbrev pub Reply : Type 0
 Reply = Answer formulas
 
--- an open is done, or refused with a number
+-- a text that is declined, with the place of the byte where that was found
+abbrev pub declined : Refusal → (place : ℕ) → Refused
+declined e at = record { refusal = e; place = at }
+
+-- an open is done, or refused
+abbrev pub Opened : Type 0
+Opened = Result (Unit {0}) Refusal
+
 abbrev pub open_reply : Opened → Reply
-open_reply O.Done = opened
-open_reply (O.Refused n) = refused n 0
+open_reply (Ok done) = opened
+open_reply (Err e) = refused (refusal_number e) 0
 
 -- an accepted edit has written each part's number to the lent places
-abbrev pub edit_reply : Edited → (places : List ℕ) → Reply
-edit_reply (E.Done whole parts added) places = edited whole parts added (take parts places)
-edit_reply (E.Refused n at) places = refused n at
+abbrev pub edit_reply : Result Edited Refused → (places : List ℕ) → Reply
+edit_reply (Ok x) places = edited x.whole x.parts x.added (take x.parts places)
+edit_reply (Err e) places = refused (refusal_number e.refusal) e.place
 
 -- the names of a delay, up to the first that is 0
 abbrev pub names_of : ℕ → ℕ → List ℕ
@@ -53,40 +57,48 @@ shown_of v =
     (a_reason 0)))))
 
 -- a preview says 'not yet' or what the entry shows, each with how many entries it worked out
-abbrev pub preview_reply : Previewed → Reply
-preview_reply (P.NotYet k) = not_yet k
-preview_reply (P.Finished k v) = finished k (shown_of v)
-preview_reply (P.Refused n) = refused n 0
+abbrev pub preview_reply : Result Previewed Refusal → Reply
+preview_reply (Ok (P.NotYet k)) = not_yet k
+preview_reply (Ok (P.Finished k v)) = finished k (shown_of v)
+preview_reply (Err e) = refused (refusal_number e) 0
 
--- a print answers the length of its text; the answers of other calls are none of a print's, and there is no refusal 0
-abbrev pub printed_as : Reply → Printed
-printed_as (printed text) = R.Done (length text)
-printed_as (refused n at) = R.Refused n
-printed_as opened = R.Refused 0
-printed_as (edited whole parts added numbers) = R.Refused 0
-printed_as (not_yet k) = R.Refused 0
-printed_as (finished k v) = R.Refused 0
+-- a print answers the length of its text
+abbrev pub PrintReply : Result ℕ Refusal → Reply → Type 0
+PrintReply (Ok n) x = (text : List ℕ) × (x ≡ printed text) × (n ≡ length text)
+PrintReply (Err e) x = x ≡ refused (refusal_number e) 0
 
 -- the answers as plain numbers, for callers in C: a refusal's number, 0 for an accepted call, and then its values
 abbrev pub open_number : Opened → ℕ
-open_number O.Done = 0
-open_number (O.Refused n) = n
+open_number (Ok done) = 0
+open_number (Err e) = refusal_number e
 
-abbrev pub edit_numbers : Edited → EditAnswer
-edit_numbers (E.Done whole parts added) = record { refusal = 0; place = 0; whole = whole; parts = parts; added = added }
-edit_numbers (E.Refused n at) = record { refusal = n; place = at; whole = 0; parts = 0; added = 0 }
+abbrev pub edit_numbers : Result Edited Refused → EditAnswer
+edit_numbers (Ok x) = record { refusal = 0; place = 0; whole = x.whole; parts = x.parts; added = x.added }
+edit_numbers (Err e) = record { refusal = refusal_number e.refusal; place = e.place; whole = 0; parts = 0; added = 0 }
 
-abbrev pub preview_numbers : Previewed → PreviewAnswer
-preview_numbers (P.NotYet k) = record { refusal = 0; finished = 0; worked = k; kind = 0; first = pos 0; second = 0; name = 0; other = 0 }
-preview_numbers (P.Finished k v) =
+abbrev pub preview_numbers : Result Previewed Refusal → PreviewAnswer
+preview_numbers (Ok (P.NotYet k)) =
+    record { refusal = 0; finished = 0; worked = k; kind = 0; first = pos 0; second = 0; name = 0; other = 0 }
+preview_numbers (Ok (P.Finished k v)) =
     record { refusal = 0; finished = 1; worked = k; kind = v.kind; first = v.first; second = v.second; name = v.name; other = v.other }
-preview_numbers (P.Refused n) = record { refusal = n; finished = 0; worked = 0; kind = 0; first = pos 0; second = 0; name = 0; other = 0 }
+preview_numbers (Err e) =
+    record { refusal = refusal_number e; finished = 0; worked = 0; kind = 0; first = pos 0; second = 0; name = 0; other = 0 }
 
-abbrev pub print_numbers : Printed → PrintAnswer
-print_numbers (R.Done length) = record { refusal = 0; length = length }
-print_numbers (R.Refused n) = record { refusal = n; length = 0 }
+abbrev pub print_numbers : Result ℕ Refusal → PrintAnswer
+print_numbers (Ok n) = record { refusal = 0; length = n }
+print_numbers (Err e) = record { refusal = refusal_number e; length = 0 }
 
-abbrev pub evaluate_numbers : Evaluated → EvaluateAnswer
-evaluate_numbers (Evaluate.Done parts v) =
-    record { refusal = 0; place = 0; parts = parts; kind = v.kind; first = v.first; second = v.second; name = v.name; other = v.other }
-evaluate_numbers (Evaluate.Refused n at) = record { refusal = n; place = at; parts = 0; kind = 0; first = pos 0; second = 0; name = 0; other = 0 }
+abbrev pub evaluate_numbers : Result Evaluated Refused → EvaluateAnswer
+evaluate_numbers (Ok x) =
+    record {
+      refusal = 0;
+      place = 0;
+      parts = x.parts;
+      kind = x.shown.kind;
+      first = x.shown.first;
+      second = x.shown.second;
+      name = x.shown.name;
+      other = x.shown.other;
+    }
+evaluate_numbers (Err e) =
+    record { refusal = refusal_number e.refusal; place = e.place; parts = 0; kind = 0; first = pos 0; second = 0; name = 0; other = 0 }

@@ -1,6 +1,6 @@
 -- 01, "Four calls" and "When a call is declined", and 02, T-04 and T-07: what open, edit, preview and print answer and what they leave in the lent
 -- memory, what fetch hands out, and what evaluate answers, for every text, recording, number and memory. Assumes nothing: these are definitions.
-use Rattle.std.specs.Prelude.{Bool, cond, not, ◌&&◌, ◌||◌, List, [], ◌++◌, map, ℕ, ◌-◌, leb, ltb, ℤ, length, get_or, set, take, drop}
+use Rattle.std.specs.Prelude.{Bool, cond, not, ◌&&◌, ◌||◌, List, [], ◌++◌, map, ℕ, ◌-◌, leb, ltb, ℤ, length, get_or, set, take, drop, Result, Ok, Err}
 use Rattle.language.specs.Limits.{text_bytes, text_parts, table_entries, table_readings}
 use Rattle.grammar.specs.Grammar.{Expression}
 use Rattle.grammar.specs.Reading.{Reading, tree, refused as refused_at}
@@ -20,12 +20,14 @@ use Rattle.table.specs.WellFormed.{done_at, well_formed}
 use Rattle.table.specs.Bind.{Bound, bind_all, append_all}
 use Rattle.evaluator.specs.Frames.{start_at}
 use Rattle.schedule.specs.Works.{Work, worked, show_of}
+use Rattle.language.specs.declared.refusals.Refusal.{Refusal}
+use Rattle.language.specs.declared.refusals.Refusal.TheVariants.{TextTooLong, RecordingTooLong, MemoryTooSmall, CacheIllFormed, NoSuchEntry}
+use Rattle.language.specs.declared.refusals.Refused.{Refused}
+use Rattle.language.specs.Refusals.{text_refusal}
 use Rattle.interface.specs.declared.answers.Previewed.{Previewed}
-use Rattle.interface.specs.declared.answers.Previewed.TheVariants.{NotYet, Finished, Refused}
+use Rattle.interface.specs.declared.answers.Previewed.TheVariants.{NotYet, Finished}
 use Rattle.interface.specs.declared.answers.Evaluated.{Evaluated}
-use Rattle.interface.specs.declared.answers.Evaluated.TheVariants.{Done}
-use Rattle.interface.specs.declared.answers.Evaluated.TheVariants as E
-use Rattle.interface.specs.Answers.{Reply, preview_reply}
+use Rattle.interface.specs.Answers.{Reply, declined, preview_reply}
 use Rattle.interface.specs.Views.{view_of}
 
 -- Open: the counts and the recording are written, and nothing else.
@@ -96,12 +98,12 @@ abbrev pub previewed_as : Memory → ℕ → Work → Previewed
 previewed_as m n w = cond w.left (NotYet w.count) (Finished w.count (show_of (reading_count m) m.links w.cells n))
 
 -- 01: 1 to 4 are tested by number; then 14
-unfoldable pub previewed : Memory → (number allowance : ℕ) → Previewed
+unfoldable pub previewed : Memory → (number allowance : ℕ) → Result Previewed Refusal
 previewed m n a =
-    cond (not (fits m)) (Refused 3)
-    (cond (not (well_formed m)) (Refused 4)
-    (cond (not (ltb n (entry_count m))) (Refused 14)
-    (previewed_as m n (work_on m n a))))
+    cond (not (fits m)) (Err MemoryTooSmall)
+    (cond (not (well_formed m)) (Err CacheIllFormed)
+    (cond (not (ltb n (entry_count m))) (Err NoSuchEntry)
+    (Ok (previewed_as m n (work_on m n a)))))
 
 abbrev pub preview_answer : Memory → (number allowance : ℕ) → Reply
 preview_answer m n a = preview_reply (previewed m n a)
@@ -145,18 +147,19 @@ abbrev pub print_bytes : Memory → (number : ℕ) (bytes : List ℕ) → List �
 print_bytes m n bytes = filled formulas (print_answer m n bytes) bytes
 
 -- Evaluate: what the part at a place of a text shows over a recording, without a cache. Nothing is lent.
-abbrev pub part_shown : List ℤ → Expression → (place : ℕ) → Evaluated
+abbrev pub part_shown : List ℤ → Expression → (place : ℕ) → Result Evaluated Refused
 part_shown r e p =
-    cond (ltb p (length (forms_by_place e))) (Done (length (forms_by_place e)) (view_of (shows r (get_or (forms_by_place e) p readings))))
-    (E.Refused 14 0)
+    cond (ltb p (length (forms_by_place e)))
+    (Ok (record { parts = length (forms_by_place e); shown = view_of (shows r (get_or (forms_by_place e) p readings)) }))
+    (Err (declined NoSuchEntry 0))
 
-unfoldable pub read_evaluated : List ℤ → (place : ℕ) → Reading → Evaluated
-read_evaluated r p (refused_at n at) = E.Refused n at
+unfoldable pub read_evaluated : List ℤ → (place : ℕ) → Reading → Result Evaluated Refused
+read_evaluated r p (refused_at n at) = Err (declined (text_refusal n) at)
 read_evaluated r p (tree e) = part_shown r e p
 
 -- 02, T-07: 1, then 2; then 5 to 12; and last 14
-unfoldable pub evaluated : (text : List ℕ) → List ℤ → (place : ℕ) → Evaluated
+unfoldable pub evaluated : (text : List ℕ) → List ℤ → (place : ℕ) → Result Evaluated Refused
 evaluated text r p =
-    cond (ltb text_bytes (length text)) (E.Refused 1 0)
-    (cond (ltb table_readings (length r)) (E.Refused 2 0)
+    cond (ltb text_bytes (length text)) (Err (declined TextTooLong 0))
+    (cond (ltb table_readings (length r)) (Err (declined RecordingTooLong 0))
     (read_evaluated r p (read_text text)))

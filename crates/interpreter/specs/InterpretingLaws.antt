@@ -1,7 +1,8 @@
 -- What a form comes to depends on the levels that it awaits alone, and no window leaves the recording. Assumes nothing.
-use Rattle.std.specs.Prelude.{◌≡◌, refl, Bool, true, false, cond, ◌||◌, List, [], ◌∷◌, ℕ, ◌+◌, ◌≤◌, ◌<◌, eqb, ℤ, length}
-use Rattle.std.proofs.Common.{sym, ap, ◌∙◌, arith, eq-eqb, eqb-true}
-use Rattle.language.specs.Cases.{split, or_right}
+use Rattle.std.specs.Prelude.{◌≡◌, refl, Bool, true, false, cond, ◌||◌, List, [], ◌∷◌, ℕ, eqb, ℤ, length}
+use Rattle.std.proofs.lemmas.Bool.{or_right}
+use Rattle.std.proofs.Common.{sym, ◌∙◌, arith, eq-eqb, eqb-true}
+use Rattle.language.specs.Cases.{split}
 use Rattle.rules.specs.declared.Value.{Value}
 use Rattle.rules.specs.declared.Value.TheVariants.{Number, Window, Function, Delayed, Missing}
 use Rattle.rules.specs.Apply.{is_delayed, apply1}
@@ -11,7 +12,7 @@ use Rattle.values.specs.KeepableApply.{closed-apply0, closed-apply1}
 use Rattle.meaning.specs.Forms.{Form, number, variable, unbound, readings, ask, call, function, level_in}
 use Rattle.meaning.specs.Evaluation.{has_name, without}
 use Rattle.meaning.proofs.HasLaws.{joined-left, joined-right, has_kept}
-use Rattle.levels.specs.Interpreting.{Scope, scope, stands_for, with, levels, is_open, judged, interpret, ran}
+use Rattle.levels.specs.Interpreting.{Scope, stands_for, with, levels, is_open, judged, interpret, ran}
 
 -- ---- scopes that agree at some levels
 

@@ -5,7 +5,6 @@ pub mod Cells
 pub mod Orders
 pub mod OrdersLaws
 pub mod Memo
-pub mod Outcomes
 pub mod Walking
 pub mod WalkingLaws
 pub mod OverLaws

@@ -5,6 +5,8 @@ use Rattle.language.specs.Limits.{text_parts}
 use Rattle.values.specs.Packing.{unpack_of}
 use Rattle.meaning.specs.Forms.{Form}
 use Rattle.layout.specs.Memory.{Node}
+use Rattle.interpreter.specs.declared.orders.Order.{Order}
+use Rattle.interpreter.specs.declared.orders.Order.TheVariants.{Empty}
 use Rattle.interpreter.specs.declared.bindings.Bindings.{Bindings}
 use Rattle.levels.specs.Interpreting.{interpret}
 use Rattle.interpreter.specs.Standing.{Stands}
@@ -14,7 +16,7 @@ use Rattle.interpreter.specs.Orders.{has_level}
 abbrev pub memo_cells : ℕ
 memo_cells = 3 * text_parts
 
-unfoldable pub seen_by : Bindings → ℕ → Bindings
+unfoldable pub seen_by : Bindings → Order → Bindings
 seen_by s w = bindings (cond (has_level w 0) s.outer 0) (cond (has_level w 1) s.inner 0)
 
 unfoldable pub is_known : List ℕ → ℕ → Bindings → Bool
@@ -25,7 +27,7 @@ unfoldable pub kept : List ℕ → ℕ → Bindings → ℕ → List ℕ
 kept memo i seen cell = set (set (set memo (3 * i) cell) (3 * i + 1) seen.outer) (3 * i + 2) seen.inner
 
 -- what is known is right: of each record and any bindings for which it is known
-abbrev pub Remembers : List ℤ → (ℕ → Node) → (orders : List ℕ) → List ℕ → Type 0
+abbrev pub Remembers : List ℤ → (ℕ → Node) → (orders : List Order) → List ℕ → Type 0
 Remembers xs ν orders memo =
-    (i : ℕ) (F : Form) → i < text_parts → Stands ν i F → (s : Bindings) → is_known memo i (seen_by s (get_or orders i 0)) ≡ true
+    (i : ℕ) (F : Form) → i < text_parts → Stands ν i F → (s : Bindings) → is_known memo i (seen_by s (get_or orders i Empty)) ≡ true
     → unpack_of (get_or memo (3 * i) 0) ≡ interpret xs (scope_of s) F

@@ -1,5 +1,5 @@
 -- The names of the variables that a record awaits, as the code finds them. Assumes nothing: these are definitions.
-use Rattle.std.specs.Prelude.{◌≡◌, true, cond, ◌&&◌, ◌||◌, List, map, ℕ, ◌-◌, ◌<◌, leb, eqb, get_or}
+use Rattle.std.specs.Prelude.{◌≡◌, true, cond, ◌||◌, List, map, ℕ, ◌<◌, eqb, get_or}
 use Rattle.language.specs.Limits.{text_parts}
 use Rattle.meaning.specs.Forms.{Form, name_in}
 use Rattle.meaning.specs.Evaluation.{has_name}
@@ -7,16 +7,17 @@ use Rattle.layout.specs.Nodes.{function_kind}
 use Rattle.layout.specs.Held.{record_at}
 use Rattle.layout.specs.declared.nodes.Shape.{Shape}
 use Rattle.levels.specs.Interpreting.{levels, variable_at}
+use Rattle.interpreter.specs.declared.orders.Order.{Order}
 use Rattle.interpreter.specs.Standing.{Stands}
 use Rattle.interpreter.specs.Orders.{has_level, linked_of, Ordered}
 
 -- the link to follow to where the variable of the level first occurs
-unfoldable pub next_of : List ℕ → (level : ℕ) → Shape → ℕ
+unfoldable pub next_of : List Order → (level : ℕ) → Shape → ℕ
 next_of orders k n =
     cond ((eqb n.kind function_kind || eqb n.second 0) || has_level (linked_of orders n.first) k) n.first n.second
 
 -- record i stands for a form that awaits the level
-pub record Awaits (R orders : List ℕ) (i k : ℕ) : Type 0 where
+pub record Awaits (R : List ℕ) (orders : List Order) (i k : ℕ) : Type 0 where
   pub form : Form
   pub stands : Stands (record_at R) i form
   pub has : has_name k (levels form) ≡ true
@@ -30,12 +31,8 @@ pub record Awaits (R orders : List ℕ) (i k : ℕ) : Type 0 where
 abbrev pub NamedBy : List ℕ → ℕ → ℕ → ℕ → Type 0
 NamedBy R i k r = (F : Form) → Stands (record_at R) i F → has_name k (levels F) ≡ true → r ≡ name_in (variable_at k F)
 
--- the level that comes first
-unfoldable pub first_level : ℕ → ℕ
-first_level w = cond (eqb w 2 || eqb w 4) 1 0
-
 -- record i stands for a form, and it and the records before it have their orders
-pub record Nameable (R orders : List ℕ) (i : ℕ) : Type 0 where
+pub record Nameable (R : List ℕ) (orders : List Order) (i : ℕ) : Type 0 where
   pub form : Form
   pub stands : Stands (record_at R) i form
   pub small : i < text_parts

@@ -1,26 +1,28 @@
 -- Following the link to a level's variable comes to that variable. Assumes nothing.
-use Rattle.std.specs.Prelude.{◌≡◌, Bool, cond, ◌&&◌, ◌||◌, List, [], ◌∷◌, map, eqb, get_or}
+use Rattle.std.specs.Prelude.{◌≡◌, Bool, cond, List, [], ◌∷◌, map, eqb, get_or}
+use Rattle.std.proofs.lemmas.Bool.{false≢true}
 use Rattle.std.proofs.Math.Path.{refl, ap}
 use Rattle.std.proofs.Common.{sym, ◌∙◌, subst}
 use Rattle.std.proofs.Math.Bool.{true, false}
-use Prim.Native.Nat.{ℕ, suc, ◌+◌, ◌-◌, ◌≤◌, ◌<◌}
+use Prim.Native.Nat.{ℕ, suc, ◌-◌, ◌≤◌, ◌<◌}
 use native.Mathlib.Omega.{arith}
-use borrow.Author.Tests.{eq-eqb, ne_eqb, le-leb, eqb-true}
-use Rattle.language.specs.Cases.{impossible, split}
+use borrow.Author.Tests.{eq-eqb, ne_eqb, le-leb}
+use Rattle.language.specs.Cases.{split}
 use Rattle.language.specs.Limits.{text_parts}
-use Rattle.members.specs.declared.Member.{Member}
 use Rattle.meaning.specs.Forms.{Form, with_level, level_in, name_in}
 use Rattle.meaning.specs.Evaluation.{has_name}
 use Rattle.meaning.proofs.HasLaws.{joined-cases, has-without}
 use Rattle.layout.specs.Memory.{Node}
-use Rattle.layout.specs.Nodes.{variable_kind, function_kind, member_kind}
+use Rattle.layout.specs.Nodes.{variable_kind, function_kind}
 use Rattle.layout.specs.Held.{shaped, record_at}
 use Rattle.layout.specs.declared.nodes.Shape.{Shape}
 use Rattle.levels.specs.Interpreting.{levels, variable_at}
+use Rattle.interpreter.specs.declared.orders.Order.{Order}
+use Rattle.interpreter.specs.declared.orders.Order.TheVariants.{Empty}
 use Rattle.interpreter.specs.Standing.{Stands, a_number, a_variable, an_unbound, the_readings, a_function, an_ask, a_call}
-use Rattle.interpreter.specs.Orders.{listed, has_level, linked_of, Ordered}
-use Rattle.interpreter.specs.OrdersLaws.{five, has_listed}
-use Rattle.interpreter.specs.Naming.{next_of, Awaits, NamedBy, first_level, Nameable, Named}
+use Rattle.interpreter.specs.Orders.{listed, has_level, linked_of}
+use Rattle.interpreter.specs.OrdersLaws.{has_listed}
+use Rattle.interpreter.specs.Naming.{next_of, Awaits, NamedBy, Nameable, Named}
 
 -- a form that awaits the level, its variable of that level the other form's
 pub record Leads (R : List ℕ) (at k : ℕ) (F : Form) : Type 0 where
@@ -30,14 +32,14 @@ pub record Leads (R : List ℕ) (at k : ℕ) (F : Form) : Type 0 where
   pub same : variable_at k F ≡ variable_at k form
 
 -- record `at`, on the way from record i
-pub record Way (R orders : List ℕ) (i k at : ℕ) : Type 0 where
+pub record Way (R : List ℕ) (orders : List Order) (i k at : ℕ) : Type 0 where
   pub here : Awaits R orders at k
   pub leads : (F : Form) → Stands (record_at R) i F → has_name k (levels F) ≡ true → Leads R at k F
 
-pub way-begin : (R orders : List ℕ) (i k : ℕ) → Awaits R orders i k → Way R orders i k i
+pub way-begin : (R : List ℕ) (orders : List Order) (i k : ℕ) → Awaits R orders i k → Way R orders i k i
 way-begin R orders i k a = record { here = a; leads = λ F s h. record { form = F; stands = s; has = h; same = refl } }
 
-module _ (R orders : List ℕ) (i k at : ℕ) (way : Way R orders i k at) (x : Shape) (q : shaped x ≡ record_at R at) where
+module _ (R : List ℕ) (orders : List Order) (i k at : ℕ) (way : Way R orders i k at) (x : Shape) (q : shaped x ≡ record_at R at) where
   abbrev ν : ℕ → Node
   ν = record_at R
 
@@ -68,7 +70,7 @@ module _ (R orders : List ℕ) (i k at : ℕ) (way : Way R orders i k at) (x : S
       let b : d < way.here.count = omega (arith, way.here.below) in
       let z : suc d - 1 ≡ d = omega arith in
       rw (le-leb 1 (suc d) (omega arith), le-leb (suc d) text_parts (omega (arith, way.here.small)), z)
-      (has_listed (get_or orders d 0) k (o.low d F b s) way.here.low ∙ ap (has_name k) (o.right d F b s))
+      (has_listed (get_or orders d Empty) k way.here.low ∙ ap (has_name k) (o.right d F b s))
 
   next-function : x.kind ≡ function_kind → next_of orders k x ≡ x.first
   unfolding next_of
@@ -84,10 +86,10 @@ module _ (R orders : List ℕ) (i k at : ℕ) (way : Way R orders i k at) (x : S
 
   step : (x.kind ≡ variable_kind → ⊥) → (F : Form) → Stands ν at F → has_name k (levels F) ≡ true → Next F
   unfolding levels variable_at has_name
-  step u _ (a_number _ key e l) h = impossible h
+  step u _ (a_number _ key e l) h = absurd (false≢true h)
   step u _ (a_variable _ y l e g) h = absurd (u (kind-of _ e))
-  step u _ (an_unbound _ y e) h = impossible h
-  step u _ (the_readings _ e) h = impossible h
+  step u _ (an_unbound _ y e) h = absurd (false≢true h)
+  step u _ (the_readings _ e) h = absurd (false≢true h)
   step u _ (a_function _ y b l B e g d s) h =
       next-to _ B x.first b (next-function (kind-of _ e)) (first_of _ e) d s (has-without k (level_in (with_level y l)) (levels B) h).0 refl
   step u _ (an_ask _ m f F e a d s) h = next-to _ F x.first f (next-alone (second-of _ e)) (first_of _ e) d s h refl
@@ -99,7 +101,7 @@ module _ (R orders : List ℕ) (i k at : ℕ) (way : Way R orders i k at) (x : S
       (λ p. next-to _ F x.first f (next_both (λ z. omega arith) (λ z. omega arith) true (lh ∙ p)) (first_of _ e) d s p (rw p))
       (λ p.
       next-to _ A x.second a (next_both (λ z. omega arith) (λ z. omega arith) false (lh ∙ p)) ss c t
-      (joined-cases k (levels F) (levels A) h (λ v. impossible (sym p ∙ v)) (λ v. v)) (rw p))
+      (joined-cases k (levels F) (levels A) h (λ v. absurd (false≢true (sym p ∙ v))) (λ v. v)) (rw p))
 
   module _ (u : x.kind ≡ variable_kind → ⊥) where
     own : Next way.here.form
@@ -138,15 +140,15 @@ module _ (R orders : List ℕ) (i k at : ℕ) (way : Way R orders i k at) (x : S
       no m g u = absurd (u (sym (kind-of m g) ∙ e))
 
       by : (G : Form) → Stands ν at G → has_name k (levels G) ≡ true → x.key ≡ name_in (variable_at k G)
-      by _ (a_number _ key g l) h = impossible h
+      by _ (a_number _ key g l) h = absurd (false≢true h)
       by _ (a_variable _ y l g b) h = let z : x.key ≡ y = ap (λ (m : Node). m.key) (q ∙ g) in let n : name_in (with_level y l) ≡ y = omega arith in z ∙ sym n
-      by _ (an_unbound _ y g) h = impossible h
-      by _ (the_readings _ g) h = impossible h
+      by _ (an_unbound _ y g) h = absurd (false≢true h)
+      by _ (the_readings _ g) h = absurd (false≢true h)
       by _ (a_function _ y b l B g c d t) h = no _ g (λ z. omega arith)
       by _ (an_ask _ m f G g a d t) h = no _ g (λ z. omega arith)
       by _ (a_call _ m f a G A g b d t c v) h = no _ g (λ z. omega arith)
 
--- ---- the names of the orders, by their number
+-- ---- the names of an order
 
 abbrev name_for : Form → ℕ → ℕ
 name_for F k = name_in (variable_at k F)
@@ -154,95 +156,49 @@ name_for F k = name_in (variable_at k F)
 abbrev at_names : Form → List ℕ → ℕ → ℕ
 at_names F ks j = get_or (map (λ k. name_in (variable_at k F)) ks) j 0
 
-pub first-low : (w : ℕ) → first_level w < 2
-unfolding first_level
-first-low w = split (eqb w 2 || eqb w 4) (λ e. rw e (omega arith)) (λ e. rw e (omega arith))
-
-first-has : (w : ℕ) → w ≤ 4 → (w ≡ 0 → ⊥) → has_name (first_level w) (listed w) ≡ true
-unfolding first_level listed has_name
-first-has w h u = five (λ w. (w ≡ 0 → ⊥) → has_name (first_level w) (listed w) ≡ true) (λ u. absurd (u refl)) (λ _. refl) (λ _. refl) (λ _. refl) (λ _. refl) w h u
-
-second-has : (w : ℕ) → w ≤ 4 → 3 ≤ w → has_name (1 - first_level w) (listed w) ≡ true
-unfolding first_level listed has_name
-second-has w h l =
-    five (λ w. 3 ≤ w → has_name (1 - first_level w) (listed w) ≡ true)
-    (λ l. absurd (omega arith)) (λ l. absurd (omega arith)) (λ l. absurd (omega arith)) (λ _. refl) (λ _. refl) w h l
-
-first-name : (F : Form) (w : ℕ) → w ≤ 4 → (w ≡ 0 → ⊥) → at_names F (listed w) 0 ≡ name_for F (first_level w)
-unfolding first_level listed
-first-name F w h u =
-    five (λ w. (w ≡ 0 → ⊥) → at_names F (listed w) 0 ≡ name_for F (first_level w)) (λ u. absurd (u refl)) (λ _. refl) (λ _. refl) (λ _. refl) (λ _. refl) w h u
-
-no_name : (F : Form) (w : ℕ) → w ≡ 0 → at_names F (listed w) 0 ≡ 0
-unfolding listed
-no_name F w e = rw e
-
-no_second : (F : Form) (w : ℕ) → w < 3 → at_names F (listed w) 1 ≡ 0
-unfolding listed
-no_second F w l =
-    five (λ w. w < 3 → at_names F (listed w) 1 ≡ 0) (λ _. refl) (λ _. refl) (λ _. refl) (λ l. absurd (omega arith)) (λ l. absurd (omega arith)) w (omega arith) l
-
-second-name : (F : Form) (w : ℕ) → w ≤ 4 → 3 ≤ w → at_names F (listed w) 1 ≡ name_for F (1 - first_level w)
-unfolding first_level listed
-second-name F w h l =
-    five (λ w. 3 ≤ w → at_names F (listed w) 1 ≡ name_for F (1 - first_level w))
-    (λ l. absurd (omega arith)) (λ l. absurd (omega arith)) (λ l. absurd (omega arith)) (λ _. refl) (λ _. refl) w h l
-
-module _ (R orders : List ℕ) (i : ℕ) (nameable : Nameable R orders i) where
-  abbrev w : ℕ
-  w = get_or orders i 0
-
-  low_of : w ≤ 4
-  low_of = nameable.ordered.low i nameable.form nameable.below nameable.stands
+module _ (R : List ℕ) (orders : List Order) (i : ℕ) (nameable : Nameable R orders i) where
+  abbrev w : Order
+  w = get_or orders i Empty
 
   are : (F : Form) → Stands (record_at R) i F → listed w ≡ levels F
   are F s = nameable.ordered.right i F nameable.below s
 
-  awaits : (k : ℕ) → k < 2 → has_name k (listed w) ≡ true → Awaits R orders i k
-  awaits k l h =
+  -- of an order whose levels are told
+  module _ (ks : List ℕ) (e : listed w ≡ ks) where
+    pub awaits-level : (k : ℕ) → k < 2 → has_name k ks ≡ true → Awaits R orders i k
+    awaits-level k l h =
+        record {
+          form = nameable.form;
+          stands = nameable.stands;
+          has = subst (λ (js : List ℕ). has_name k js ≡ true) (sym e ∙ are nameable.form nameable.stands) h;
+          low = l;
+          small = nameable.small;
+          count = nameable.count;
+          below = nameable.below;
+          ordered = nameable.ordered;
+        }
+
+    -- the name at place j of the names of the form
+    named-at : (j r : ℕ) → ((F : Form) → Stands (record_at R) i F → r ≡ at_names F ks j) → (F : Form) → Stands (record_at R) i F → r ≡ at_names F (levels F) j
+    named-at j r h F s = h F s ∙ ap (λ (js : List ℕ). at_names F js j) (sym e ∙ are F s)
+
+    of-level : (k r : ℕ) → has_name k ks ≡ true → NamedBy R i k r → (F : Form) → Stands (record_at R) i F → r ≡ name_for F k
+    of-level k r h n F s = n F s (subst (λ (js : List ℕ). has_name k js ≡ true) (sym e ∙ are F s) h)
+
+  pub names-none : w ≡ Empty → Named R i 0 0
+  unfolding listed
+  names-none e = record { first = named-at [] (ap listed e) 0 0 (λ F s. refl); second = named-at [] (ap listed e) 1 0 (λ F s. refl) }
+
+  pub names-one : (k : ℕ) → listed w ≡ k ∷ [] → has_name k (k ∷ []) ≡ true → (name : ℕ) → NamedBy R i k name → Named R i name 0
+  names-one k e h name n =
       record {
-        form = nameable.form;
-        stands = nameable.stands;
-        has = subst (λ (ks : List ℕ). has_name k ks ≡ true) (are nameable.form nameable.stands) h;
-        low = l;
-        small = nameable.small;
-        count = nameable.count;
-        below = nameable.below;
-        ordered = nameable.ordered;
+        first = named-at (k ∷ []) e 0 name (of-level (k ∷ []) e k name h n);
+        second = named-at (k ∷ []) e 1 0 (λ F s. refl);
       }
 
-  -- the name at place j of the names of the form
-  named-at : (j r : ℕ) → ((F : Form) → Stands (record_at R) i F → r ≡ at_names F (listed w) j) → (F : Form) → Stands (record_at R) i F → r ≡ at_names F (levels F) j
-  named-at j r h F s = h F s ∙ ap (λ (ks : List ℕ). at_names F ks j) (are F s)
-
-  of-level : (k r : ℕ) → has_name k (listed w) ≡ true → NamedBy R i k r → (F : Form) → Stands (record_at R) i F → r ≡ name_for F k
-  of-level k r h n F s = n F s (subst (λ (ks : List ℕ). has_name k ks ≡ true) (are F s) h)
-
-  pub names-none : w ≡ 0 → Named R i 0 0
-  names-none e =
+  pub names-two : (k l : ℕ) → listed w ≡ k ∷ l ∷ [] → has_name k (k ∷ l ∷ []) ≡ true → has_name l (k ∷ l ∷ []) ≡ true → (name other : ℕ) → NamedBy R i k name → NamedBy R i l other → Named R i name other
+  names-two k l e h g name other n m =
       record {
-        first = named-at 0 0 (λ F s. sym (no_name F w e));
-        second = named-at 1 0 (λ F s. sym (no_second F w (omega arith)));
+        first = named-at (k ∷ l ∷ []) e 0 name (of-level (k ∷ l ∷ []) e k name h n);
+        second = named-at (k ∷ l ∷ []) e 1 other (of-level (k ∷ l ∷ []) e l other g m);
       }
-
-  module _ (u : w ≡ 0 → ⊥) (k : ℕ) (z : k ≡ first_level w) where
-    pub awaits-first : Awaits R orders i k
-    awaits-first = rw z (awaits (first_level w) (first-low w) (first-has w low_of u))
-
-    module _ (name : ℕ) (n : NamedBy R i k name) where
-      first-of-names : (F : Form) → Stands (record_at R) i F → name ≡ at_names F (levels F) 0
-      first-of-names = named-at 0 name (λ F s. of-level (first_level w) name (first-has w low_of u) (rw z at n) F s ∙ sym (first-name F w low_of u))
-
-      pub names-one : w < 3 → Named R i name 0
-      names-one l = record { first = first-of-names; second = named-at 1 0 (λ F s. sym (no_second F w l)) }
-
-      module _ (l : 3 ≤ w) where
-        pub awaits-second : Awaits R orders i (1 - k)
-        awaits-second = rw z (awaits (1 - first_level w) (omega arith) (second-has w low_of l))
-
-        pub names-two : (other : ℕ) → NamedBy R i (1 - k) other → Named R i name other
-        names-two other m =
-            record {
-              first = first-of-names;
-              second = named-at 1 other (λ F s. of-level (1 - first_level w) other (second-has w low_of l) (rw z at m) F s ∙ sym (second-name F w low_of l));
-            }

@@ -1,7 +1,7 @@
 -- The runs of a function over a window, reading by reading: what is left of them gives the same tally. Assumes nothing.
-use Rattle.std.specs.Prelude.{◌≡◌, refl, true, ℕ, suc, ◌+◌, ◌≤◌, ◌<◌, ℤ, pos, length}
+use Rattle.std.specs.Prelude.{◌≡◌, true, ℕ, ◌+◌, ◌≤◌, ◌<◌, ℤ, pos, length}
 use Rattle.std.proofs.Math.Path.{sym, ap}
-use Rattle.std.proofs.Common.{◌∙◌, arith, length-take, drop_of_length-le, drop-cons}
+use Rattle.std.proofs.Common.{◌∙◌, arith, drop_of_length-le, drop-cons}
 use mathlib.Core.List.{List, ◌∷◌, map}
 use Rattle.std.proofs.Math.Numerals.{add-one}
 use Rattle.std.proofs.Math.ListN.{get_or, drop}
@@ -10,19 +10,20 @@ use Rattle.rules.specs.declared.Value.{Value}
 use Rattle.rules.specs.Windows.{readings_in}
 use Rattle.values.specs.declared.runs.Tally.{Tally}
 use Rattle.values.specs.Tallies.{begun, stepped, gathered, finished, Within, Steps}
-use Rattle.values.specs.TallyLaws.{stopped-stays, finished-is, within_none, within_more}
+use Rattle.values.specs.TallyLaws.{stopped-stays, finished-is, within_more}
 use Rattle.values.specs.WindowLaws.{readings-short}
 use Rattle.values.specs.Packing.{unpack_of}
 use Rattle.meaning.specs.Forms.{Form}
 use Rattle.layout.specs.Nodes.{member_kind}
 use Rattle.layout.specs.Held.{record_at}
+use Rattle.interpreter.specs.declared.orders.Order.{Order}
 use Rattle.interpreter.specs.declared.bindings.Bindings.{Bindings}
 use Rattle.levels.specs.Interpreting.{ran}
 use Rattle.interpreter.specs.Standing.{Stands}
 use Rattle.interpreter.specs.Cells.{scope_of}
 use Rattle.interpreter.specs.Walking.{Keeps, Ran, Over}
 
-module _ (xs : List ℤ) (R orders : List ℕ) (s : Bindings) (f : ℕ) where
+module _ (xs : List ℤ) (R : List ℕ) (orders : List Order) (s : Bindings) (f : ℕ) where
   abbrev results : Form → List ℤ → List Value
   results F zs = map (ran xs (scope_of s) F) zs
 
@@ -30,9 +31,6 @@ module _ (xs : List ℤ) (R orders : List ℕ) (s : Bindings) (f : ℕ) where
   pub record Sums (zs : List ℤ) (t : Tally) (k : ℕ) : Type 0 where
     pub within : Within k t
     pub same : (F : Form) → Stands (record_at R) f F → gathered t (results F (drop k zs)) ≡ gathered begun (results F zs)
-
-  pub sums-begin : (zs : List ℤ) (t : Tally) → t ≡ begun → Sums zs t 0
-  sums-begin zs t e = rw e (record { within = within_none; same = λ F h. refl })
 
   module _ (zs : List ℤ) (t : Tally) (k : ℕ) (so : Sums zs t k) where
     pub sums-within : length zs ≤ 65535 → k < length zs → Within 65534 t

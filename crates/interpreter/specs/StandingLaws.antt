@@ -1,6 +1,6 @@
 -- What a record that stands for a form has, by its kind. Assumes nothing.
 use Rattle.std.specs.Prelude.{◌≡◌, refl, ℕ, suc, ◌-◌, ◌≤◌, ◌<◌}
-use Rattle.std.proofs.Common.{sym, ap, ◌∙◌, arith}
+use Rattle.std.proofs.Common.{ap, ◌∙◌, arith}
 use Rattle.members.specs.declared.Member.{Member}
 use Rattle.meaning.specs.Forms.{Form, with_level, ask, call, function}
 use Rattle.layout.specs.Memory.{Node}

@@ -1,45 +1,45 @@
 -- The steps of the walk, each over plain lists. Assumes nothing.
-use Rattle.std.specs.Prelude.{◌≡◌, Bool, true, false, cond, ◌&&◌, ◌||◌, List, [], ◌∷◌, map, ℕ, suc, ◌+◌, ◌-◌, ◌*◌, ◌%◌, ◌≤◌, ◌<◌, pos, ◌-ℤ◌, length, get_or, set}
+use Rattle.std.specs.Prelude.{◌≡◌, Bool, true, false, cond, ◌&&◌, ◌||◌, List, ℕ, ◌+◌, ◌-◌, ◌*◌, ◌%◌, ◌≤◌, ◌<◌, pos, ◌-ℤ◌, length, get_or, set}
+use Rattle.std.proofs.lemmas.Bool.{false≢true}
 use Rattle.std.proofs.Math.Path.{refl, sym, ap}
-use Rattle.std.proofs.Common.{◌∙◌, subst, arith, eq-eqb, ne_eqb, eqb-true}
+use Rattle.std.proofs.Common.{◌∙◌, subst, arith, eqb-true}
 use Rattle.std.proofs.Math.Bool.{not, and-eq-true_iff}
 use Rattle.std.proofs.Math.Decide.{dec_lt}
 use Rattle.std.proofs.Math.Dec.{eqb}
 use Rattle.std.proofs.Math.IntN.{ℤ}
 use Rattle.std.proofs.Math.ListN.{length-set}
 use Rattle.std.proofs.Math.Seq.{get_or-set_same, get_or-set_other}
-use Rattle.language.specs.Cases.{impossible, split}
-use Rattle.language.specs.Limits.{text_parts, table_readings}
+use Rattle.language.specs.Cases.{split}
+use Rattle.language.specs.Limits.{text_parts}
 use Rattle.members.specs.declared.Member.{Member}
 use Rattle.rules.specs.declared.Value.{Value}
 use Rattle.rules.specs.declared.Value.TheVariants.{Number, Window, Function, Delayed, Missing}
 use Rattle.rules.specs.Values.{wrong_kind}
-use Rattle.rules.specs.Windows.{readings_in}
-use Rattle.rules.specs.Rules.{of_runs}
-use Rattle.rules.specs.Apply.{is_missing, is_delayed, apply0, apply1}
+use Rattle.rules.specs.Apply.{is_delayed, apply0, apply1}
+use Rattle.values.specs.declared.apply.Applied.{Applied}
 use Rattle.values.specs.declared.apply.Applied.TheVariants.{Done, Run}
 use Rattle.values.specs.Applied.{applied1, completed}
 use Rattle.values.specs.ApplyLaws.{completed-is}
 use Rattle.values.specs.Keepable.{Inside, Bounded}
-use Rattle.values.specs.Packing.{unpack_of, delayed_cell, wrong_cell}
-use Rattle.values.specs.PackingLaws.{round, number_in}
-use Rattle.meaning.specs.Forms.{Form, with_level, level_in, number, variable, unbound, readings, ask, call, function}
+use Rattle.values.specs.Packing.{unpack_of, wrong_cell}
+use Rattle.values.specs.PackingLaws.{round}
+use Rattle.meaning.specs.Forms.{Form, with_level, level_in, function}
 use Rattle.meaning.specs.Evaluation.{has_name}
 use Rattle.layout.specs.Memory.{Node}
-use Rattle.layout.specs.Nodes.{number_kind, variable_kind, function_kind, member_kind, number_of_key}
+use Rattle.layout.specs.Nodes.{function_kind, member_kind}
 use Rattle.layout.specs.Held.{shaped, record_at}
 use Rattle.layout.specs.declared.nodes.Shape.{Shape}
+use Rattle.interpreter.specs.declared.orders.Order.{Order}
+use Rattle.interpreter.specs.declared.orders.Order.TheVariants.{Empty, Outer, Inner, OuterInner, InnerOuter}
 use Rattle.interpreter.specs.declared.bindings.Bindings.{Bindings}
-use Rattle.interpreter.specs.declared.applying.Outcome.{Outcome}
-use Rattle.levels.specs.Interpreting.{Scope, scope, stands_for, with, levels, is_open, judged, interpret, ran}
+use Rattle.levels.specs.Interpreting.{Scope, stands_for, with, levels, is_open, judged, interpret, ran}
 use Rattle.interpreter.specs.InterpretingLaws.{Alike, interpret-alike, inside}
 use Rattle.interpreter.specs.Standing.{Stands, a_number, a_variable, an_unbound, the_readings, a_function, an_ask, a_call}
 use Rattle.interpreter.specs.StandingLaws.{IsFunction, IsMember, a-function, a-member}
 use Rattle.interpreter.specs.Cells.{bindings, scope_of, bound_at}
-use Rattle.interpreter.specs.Orders.{listed, has_level, Ordered}
-use Rattle.interpreter.specs.OrdersLaws.{level-of, has_listed, five}
+use Rattle.interpreter.specs.Orders.{listed, has_level}
+use Rattle.interpreter.specs.OrdersLaws.{level-of, has_listed}
 use Rattle.interpreter.specs.Memo.{seen_by, is_known, kept, memo_cells, Remembers}
-use Rattle.interpreter.specs.Outcomes as Outcomes
 use Rattle.interpreter.specs.Walking.{leaf_of, waits_for, Bound, Keeps, Ready, Comes, Ran, Over}
 
 -- ---- the scope of bindings
@@ -51,17 +51,26 @@ pub bound-more : (xs : List ℤ) (s : Bindings) (k c : ℕ) → Bound xs s → I
 bound-more xs s k c b h = split (eqb k 0) (λ e. rw e (record { outer = h; inner = b.inner })) (λ e. rw e (record { outer = b.outer; inner = h }))
 
 -- one of the levels stands for nothing
-waits-open : (s : Scope) (w : ℕ) → w ≤ 4 → waits_for s w ≡ is_open s (listed w)
+waits-open : (s : Scope) (w : Order) → waits_for s w ≡ is_open s (listed w)
 unfolding waits_for is_open listed has_level
-waits-open s w h =
-    let a = is_delayed s.outer in
-    let b = is_delayed s.inner in
-    five (λ w. waits_for s w ≡ is_open s (listed w)) refl refl (pad b) (ap (λ (x : Bool). a || x) (pad b)) (turn a b) w h
+waits-open s Empty = refl
+waits-open s Outer = pad (is_delayed s.outer)
+  where
+    pad : (a : Bool) → (a || false) ≡ (a || false)
+    pad a = refl
+waits-open s Inner = pad (is_delayed s.inner)
   where
     pad : (a : Bool) → a ≡ (a || false)
     pad true = refl
     pad false = refl
-
+waits-open s OuterInner = both (is_delayed s.outer) (is_delayed s.inner)
+  where
+    both : (a b : Bool) → (a || b) ≡ (a || (b || false))
+    both true b = refl
+    both false true = refl
+    both false false = refl
+waits-open s InnerOuter = turn (is_delayed s.outer) (is_delayed s.inner)
+  where
     turn : (a b : Bool) → (a || b) ≡ (b || (a || false))
     turn true true = refl
     turn true false = refl
@@ -71,25 +80,26 @@ waits-open s w h =
 -- ---- what is known, and one record more that is
 
 -- bindings that are seen alike agree at the levels
-outer-has : (w k : ℕ) → w ≤ 4 → k ≡ 0 → has_name k (listed w) ≡ true → has_level w 0 ≡ true
-outer-has w k h e q = has_listed w 0 h (omega arith) ∙ subst (λ (d : ℕ). has_name d (listed w) ≡ true) e q
+outer-has : (w : Order) (k : ℕ) → k ≡ 0 → has_name k (listed w) ≡ true → has_level w 0 ≡ true
+outer-has w k e q = has_listed w 0 (omega arith) ∙ subst (λ (d : ℕ). has_name d (listed w) ≡ true) e q
 
-inner-has : (w k : ℕ) → w ≤ 4 → eqb k 0 ≡ false → has_name k (listed w) ≡ true → has_level w 1 ≡ true
+inner-has : (w : Order) (k : ℕ) → eqb k 0 ≡ false → has_name k (listed w) ≡ true → has_level w 1 ≡ true
 unfolding has_level listed has_name
-inner-has w k h e q =
-    five (λ w. has_name k (listed w) ≡ true → has_level w 1 ≡ true)
-    (λ q. impossible q) (λ q. impossible (rw e at q)) (λ _. refl) (λ _. refl) (λ _. refl)
-    w h q
+inner-has Empty k e q = absurd (false≢true q)
+inner-has Outer k e q = absurd (false≢true (rw e at q))
+inner-has Inner k e q = refl
+inner-has OuterInner k e q = refl
+inner-has InnerOuter k e q = refl
 
 same_if : (b : Bool) (x y : ℕ) → b ≡ true → cond b x 0 ≡ cond b y 0 → x ≡ y
 same_if b x y h e = rw h at e
 
-seen_alike : (s t : Bindings) (w : ℕ) → w ≤ 4 → seen_by s w ≡ seen_by t w → Alike (scope_of s) (scope_of t) (listed w)
+seen_alike : (s t : Bindings) (w : Order) → seen_by s w ≡ seen_by t w → Alike (scope_of s) (scope_of t) (listed w)
 unfolding seen_by
-seen_alike s t w h e k q =
+seen_alike s t w e k q =
     split (eqb k 0)
-    (λ z. rw z (ap unpack_of (same_if (has_level w 0) _ _ (outer-has w k h (eqb-true k 0 z) q) (ap (λ (b : Bindings). b.outer) e))))
-    (λ z. rw z (ap unpack_of (same_if (has_level w 1) _ _ (inner-has w k h z q) (ap (λ (b : Bindings). b.inner) e))))
+    (λ z. rw z (ap unpack_of (same_if (has_level w 0) _ _ (outer-has w k (eqb-true k 0 z) q) (ap (λ (b : Bindings). b.outer) e))))
+    (λ z. rw z (ap unpack_of (same_if (has_level w 1) _ _ (inner-has w k z q) (ap (λ (b : Bindings). b.inner) e))))
 
 known-seen : (memo : List ℕ) (i : ℕ) (seen : Bindings) → is_known memo i seen ≡ true
     → (get_or memo (3 * i + 1) 0 ≡ seen.outer) × (get_or memo (3 * i + 2) 0 ≡ seen.inner)
@@ -101,7 +111,7 @@ known-seen memo i seen h =
 
 -- ---- the walk at record i
 
-module _ (xs : List ℤ) (R orders : List ℕ) (s : Bindings) (i : ℕ) (memo : List ℕ) (ready : Ready xs R orders s i memo) where
+module _ (xs : List ℤ) (R : List ℕ) (orders : List Order) (s : Bindings) (i : ℕ) (memo : List ℕ) (ready : Ready xs R orders s i memo) where
   -- what is remembered may have become more
   pub ready-later : (after : List ℕ) → Keeps xs R orders after → Ready xs R orders s i after
   ready-later after k =
@@ -120,8 +130,8 @@ module _ (xs : List ℤ) (R orders : List ℕ) (s : Bindings) (i : ℕ) (memo : 
   abbrev ν : ℕ → Node
   ν = record_at R
 
-  abbrev w : ℕ
-  w = get_or orders i 0
+  abbrev w : Order
+  w = get_or orders i Empty
 
   pub known-comes : (seen : Bindings) → seen ≡ seen_by s w → (b : Bool) → b ≡ is_known memo i seen → b ≡ true → Comes xs R orders s i memo (get_or memo (3 * i) 0)
   known-comes seen e b q h =
@@ -189,7 +199,7 @@ module _ (xs : List ℤ) (R orders : List ℕ) (s : Bindings) (i : ℕ) (memo : 
           let u : seen_by s w ≡ seen_by t w = sym e ∙ (λ j. bindings (a j) (b j)) in
           done.right F z
           ∙ interpret-alike xs (scope_of s) (scope_of t) F
-          (subst (Alike (scope_of s) (scope_of t)) (ready.ordered.right i F ready.below z) (seen_alike s t w (ready.ordered.low i F ready.below z) u))
+          (subst (Alike (scope_of s) (scope_of t)) (ready.ordered.right i F ready.below z) (seen_alike s t w u))
 
       all : Remembers xs ν orders (kept after i seen c)
       all j F l z t h = elim (dec_lt j i) [
@@ -198,17 +208,17 @@ module _ (xs : List ℤ) (R orders : List ℕ) (s : Bindings) (i : ℕ) (memo : 
           | yes r ↦ there j F l z t h (λ x. omega arith)
           | no r ↦
               let y : j ≡ i = omega arith in
-              let h' = subst (λ (d : ℕ). is_known (kept after i seen c) d (seen_by t (get_or orders d 0)) ≡ true) y h in
+              let h' = subst (λ (d : ℕ). is_known (kept after i seen c) d (seen_by t (get_or orders d Empty)) ≡ true) y h in
               ap (λ (d : ℕ). unpack_of (get_or (kept after i seen c) (3 * d) 0)) y
               ∙ ap unpack_of (kept-value after done.keeps.size seen c) ∙ here F (subst (λ (d : ℕ). Stands ν d F) y z) t h'
         ]
       ]
         where
-          there : (j : ℕ) (F : Form) → j < text_parts → Stands ν j F → (t : Bindings) → is_known (kept after i seen c) j (seen_by t (get_or orders j 0)) ≡ true → (j ≡ i → ⊥)
+          there : (j : ℕ) (F : Form) → j < text_parts → Stands ν j F → (t : Bindings) → is_known (kept after i seen c) j (seen_by t (get_or orders j Empty)) ≡ true → (j ≡ i → ⊥)
               → unpack_of (get_or (kept after i seen c) (3 * j) 0) ≡ interpret xs (scope_of t) F
           there j F l z t h u =
               ap unpack_of (kept-first after done.keeps.size seen c j u)
-              ∙ done.keeps.remembers j F l z t (sym (kept-elsewhere after done.keeps.size seen c j (seen_by t (get_or orders j 0)) u) ∙ h)
+              ∙ done.keeps.remembers j F l z t (sym (kept-elsewhere after done.keeps.size seen c j (seen_by t (get_or orders j Empty)) u) ∙ h)
 
   -- ---- by the record's kind
 
@@ -283,7 +293,7 @@ module _ (xs : List ℤ) (R orders : List ℕ) (s : Bindings) (i : ℕ) (memo : 
               by F z f =
                   let v = with_level x.key x.level in
                   let o : waits_for (scope_of s) w ≡ is_open (scope_of s) (levels (function v f.body)) =
-                  waits-open (scope_of s) w (ready.ordered.low i F ready.below z)
+                  waits-open (scope_of s) w
                   ∙ ap (is_open (scope_of s)) (ready.ordered.right i F ready.below z ∙ ap levels f.is) in
                   let b : unpack_of base ≡ interpret xs (with (scope_of s) (level_in v) Delayed) f.body =
                   done.right f.body f.stands
@@ -363,8 +373,8 @@ module _ (xs : List ℤ) (R orders : List ℕ) (s : Bindings) (i : ℕ) (memo : 
           pub second-ready : (late : List ℕ) → Keeps xs R orders late → Ready xs R orders s (x.second - 1) late
           second-ready late g = lower s ready.bound (x.second - 1) (own-member.lower u).1 own-member.argument (own-member.given u).0 late g
 
-          module _ (late : List ℕ) (b : ℕ) (second : Comes xs R orders s (x.second - 1) late b) (o : Outcome)
-              (out : (m : Member) → x.kind ≡ member_kind m → Outcomes.Is (applied1 m xs (unpack_of a) (unpack_of b)) o) where
+          module _ (late : List ℕ) (b : ℕ) (second : Comes xs R orders s (x.second - 1) late b) (o : Applied)
+              (out : (m : Member) → x.kind ≡ member_kind m → o ≡ applied1 m xs (unpack_of a) (unpack_of b)) where
             -- the member's value, once its runs are known
             whole : (F : Form) → (f : IsMember ν i n F) → (v : Value)
                 → v ≡ completed f.member xs (ran xs (scope_of s) f.argument) (applied1 f.member xs (unpack_of a) (unpack_of b)) → v ≡ interpret xs (scope_of s) F
@@ -374,28 +384,22 @@ module _ (xs : List ℤ) (R orders : List ℕ) (s : Bindings) (i : ℕ) (memo : 
                 ∙ (λ j. apply1 f.member xs (first.right f.receiver f.stands j) (second.right f.argument (f.given u).0 j) (ran xs (scope_of s) f.argument))
                 ∙ ap (interpret xs (scope_of s)) (sym (f.given u).1)
 
-            pub call-comes : o.runs ≡ false → Comes xs R orders s i late o.cell
+            pub call-comes : (v : Value) → o ≡ Done v → (r : ℕ) → unpack_of r ≡ v → Comes xs R orders s i late r
             unfolding completed
-            call-comes d =
+            call-comes v d r e =
                 record {
                   right = λ F z. let f = found-member F z in
-                      whole F f (unpack_of o.cell) (sym (ap (completed f.member xs (ran xs (scope_of s) f.argument)) ((out f.member f.kind).done d) ∙ done-is f.member (ran xs (scope_of s) f.argument)));
+                      whole F f (unpack_of r) (e ∙ sym (ap (completed f.member xs (ran xs (scope_of s) f.argument)) (sym (out f.member f.kind) ∙ d)));
                   keeps = second.keeps;
                 }
-              where
-                done-is : (m : Member) (run : ℤ → Value) → completed m xs run (Done (unpack_of o.cell)) ≡ unpack_of o.cell
-                done-is m run = refl
 
-            pub run-comes : o.runs ≡ true → (end : List ℕ) (r : ℕ) → Over xs R orders s (x.second - 1) x.kind o.start o.length end r → Comes xs R orders s i end r
+            pub run-comes : (from count : ℕ) → o ≡ Run from count → (end : List ℕ) (r : ℕ) → Over xs R orders s (x.second - 1) x.kind from count end r → Comes xs R orders s i end r
             unfolding completed
-            run-comes d end r v =
+            run-comes from count d end r v =
                 record {
                   right = λ F z. let f = found-member F z in
                       whole F f (unpack_of r)
                       (v.right f.member f.kind f.argument (f.given u).0
-                      ∙ sym (ap (completed f.member xs (ran xs (scope_of s) f.argument)) ((out f.member f.kind).run d) ∙ run_is f.member (ran xs (scope_of s) f.argument)));
+                      ∙ sym (ap (completed f.member xs (ran xs (scope_of s) f.argument)) (sym (out f.member f.kind) ∙ d)));
                   keeps = v.keeps;
                 }
-              where
-                run_is : (m : Member) (run : ℤ → Value) → completed m xs run (Run o.start o.length) ≡ of_runs m (map run (readings_in xs o.start o.length))
-                run_is m run = refl

@@ -1,4 +1,6 @@
 // What the variables stand for while functions run, by level: at most two lambdas are open at a place, so that a variable is told by its level.
+#![tactic(auto, using(crate::proofs::Paths::paths))]
+
 ghost use Rattle.std.specs.Prelude.{◌≡◌};
 ghost use Rattle.levels.specs.Interpreting.{nothing};
 ghost use Rattle.interpreter.specs.Cells.{scope_of, cell_at, bound_at};
@@ -34,14 +36,8 @@ pub fn bind(s: Bindings, level: u16, cell: u64) -> Bindings
     ensures { result ≡ bound_at s level cell }
 {
     if level == 0 {
-        Bindings {
-            outer: cell,
-            inner: s.inner,
-        }
+        Bindings { outer: cell, ..s }
     } else {
-        Bindings {
-            outer: s.outer,
-            inner: cell,
-        }
+        Bindings { inner: cell, ..s }
     }
 }

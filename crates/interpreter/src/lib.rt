@@ -2,7 +2,6 @@
 // what is worked out on the way is forgotten when the answer is given.
 #![tactic(auto)]
 
-pub mod applying;
 pub mod bindings;
 pub mod memo;
 pub mod names;

@@ -1,11 +1,13 @@
 // What records came to, each for the bindings that it was last worked out for, as far as it awaits them. So a let's value, and all else that a
 // run does not change, is worked out once. Three cells a record: its packed value, 0 for none, and the two bindings.
+#![tactic(auto, using(crate::proofs::Paths::paths))]
+
 ghost use Rattle.std.specs.Prelude.{◌≡◌, cond, ◌<◌, length};
 ghost use Rattle.language.specs.Limits.{text_parts};
 ghost use Rattle.interpreter.specs.Memo.{memo_cells, seen_by, is_known, kept};
 
 use crate::bindings::Bindings;
-use crate::orders::has_level;
+use crate::orders::{Order, has_level};
 use language::limits::Text;
 
 // The cells of the records that a text can have.
@@ -19,7 +21,7 @@ fn only(awaited: bool, cell: u64) -> u64
 }
 
 // The bindings, as far as they are awaited.
-pub fn seen_by(s: Bindings, w: u8) -> Bindings
+pub fn seen_by(s: Bindings, w: Order) -> Bindings
     ensures { result ≡ seen_by s w }
 {
     Bindings {

@@ -1,12 +1,14 @@
 // The names of the variables that a record awaits, in the order of first occurrence.
-ghost use Rattle.std.specs.Prelude.{◌≡◌};
-ghost use Rattle.interpreter.specs.Naming.{next_of, Awaits, NamedBy, first_level, Nameable, Named};
+#![tactic(auto, using(crate::proofs::Paths::paths))]
 
-use crate::orders::{has_level, linked};
+ghost use Rattle.std.specs.Prelude.{◌≡◌};
+ghost use Rattle.interpreter.specs.Naming.{next_of, Awaits, NamedBy, Nameable, Named};
+
+use crate::orders::{Order, has_level, linked};
 use language::limits::Text;
 use layout::nodes::{Shape, TEXT_WORDS, record_at};
 
-// Two names, 0 for none.
+// Two names, 0 for none, as what is shown to C has them.
 #[derive(Clone, Copy)]
 pub struct Names {
     pub name: u64,
@@ -15,7 +17,7 @@ pub struct Names {
 
 // The link to follow from a record to where the variable of the level first occurs: a member's receiver, or its argument where the receiver does not
 // await the level; a function's body.
-fn next(n: Shape, orders: &[u8; Text::PARTS], level: u16) -> u16
+fn next(n: Shape, orders: &[Order; Text::PARTS], level: u16) -> u16
     ensures { result ≡ next_of orders.now level n }
 {
     if (n.kind == Shape::FUNCTION) | (n.second == 0) {
@@ -28,12 +30,13 @@ fn next(n: Shape, orders: &[u8; Text::PARTS], level: u16) -> u16
 }
 
 // The name of the variable of a level that record i awaits.
-fn name_at(records: &[u64; TEXT_WORDS], orders: &[u8; Text::PARTS], i: u16, level: u16) -> u64
+fn name_at(records: &[u64; TEXT_WORDS], orders: &[Order; Text::PARTS], i: u16, level: u16) -> u64
     requires { Awaits records.now orders.now i level }
     ensures { NamedBy records.now i level result }
 {
     let mut at = i;
     let mut n = record_at(records, at);
+    // No `for`: it follows links, up to a variable.
     while n.kind != Shape::VARIABLE {
         at = next(n, orders, level) - 1;
         n = record_at(records, at);
@@ -41,29 +44,28 @@ fn name_at(records: &[u64; TEXT_WORDS], orders: &[u8; Text::PARTS], i: u16, leve
     n.key
 }
 
-// The level of the first variable.
-fn first_level(w: u8) -> u16
-    ensures { result ≡ first_level w }
-{
-    if (w == 2) | (w == 4) { 1 } else { 0 }
-}
-
 // The names of the variables that record i awaits.
-pub fn names_of(records: &[u64; TEXT_WORDS], orders: &[u8; Text::PARTS], i: u16) -> Names
+pub fn names_of(records: &[u64; TEXT_WORDS], orders: &[Order; Text::PARTS], i: u16) -> Names
     requires { Nameable records.now orders.now i }
     ensures { Named records.now i result.name result.other }
 {
-    let w = orders[i as usize];
-    if w == 0 {
-        return Names { name: 0, other: 0 };
-    }
-    let level = first_level(w);
-    let name = name_at(records, orders, i, level);
-    if w < 3 {
-        return Names { name, other: 0 };
-    }
-    Names {
-        name,
-        other: name_at(records, orders, i, 1 - level),
+    match orders[i as usize] {
+        Order::Empty => Names { name: 0, other: 0 },
+        Order::Outer => Names {
+            name: name_at(records, orders, i, 0),
+            other: 0,
+        },
+        Order::Inner => Names {
+            name: name_at(records, orders, i, 1),
+            other: 0,
+        },
+        Order::OuterInner => Names {
+            name: name_at(records, orders, i, 0),
+            other: name_at(records, orders, i, 1),
+        },
+        Order::InnerOuter => Names {
+            name: name_at(records, orders, i, 1),
+            other: name_at(records, orders, i, 0),
+        },
     }
 }

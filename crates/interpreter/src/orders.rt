@@ -1,5 +1,6 @@
-// The levels of the variables that records await, in the order of first occurrence: 0 none, 1 level 0, 2 level 1, 3 level 0 and then 1, 4 level 1 and
-// then 0.
+// The levels of the variables that records await, in the order of first occurrence.
+#![tactic(auto, using(crate::proofs::Paths::paths))]
+
 ghost use Rattle.std.specs.Prelude.{◌≡◌, ◌≤◌, ◌<◌, length};
 ghost use Rattle.language.specs.Limits.{text_parts};
 ghost use Rattle.layout.specs.Held.{record_at};
@@ -8,60 +9,87 @@ ghost use Rattle.interpreter.specs.Orders.{join_of, less_of, has_level, linked_o
 use language::limits::Text;
 use layout::nodes::{Shape, TEXT_WORDS, record_at};
 
+// None, one of the two levels, or both, one before the other.
+#[derive(Clone, Copy, PartialEq, Eq)]
+pub enum Order {
+    Empty,
+    Outer,
+    Inner,
+    OuterInner,
+    InnerOuter,
+}
+
 // Those of w, and then those of u that are not among them.
-fn join(w: u8, u: u8) -> u8
+fn join(w: Order, u: Order) -> Order
     ensures { result ≡ join_of w u }
 {
-    if w == 0 {
-        return u;
+    match w {
+        Order::Empty => u,
+        Order::Outer if has_level(u, 1) => Order::OuterInner,
+        Order::Inner if has_level(u, 0) => Order::InnerOuter,
+        Order::Outer => w,
+        Order::Inner => w,
+        Order::OuterInner => w,
+        Order::InnerOuter => w,
     }
-    if (w < 3) & ((u != 0) & (u != w)) {
-        return w + 2;
-    }
-    w
 }
 
 // Those of w but the level.
-fn less(w: u8, level: u16) -> u8
+fn less(w: Order, level: u16) -> Order
     ensures { result ≡ less_of w level }
 {
     if level == 0 {
-        return if w < 2 { 0 } else { 2 };
+        return if has_level(w, 1) {
+            Order::Inner
+        } else {
+            Order::Empty
+        };
     }
-    if (w == 0) | (w == 2) { 0 } else { 1 }
+    if has_level(w, 0) {
+        Order::Outer
+    } else {
+        Order::Empty
+    }
 }
 
 // Whether the level is one of them.
-pub fn has_level(w: u8, level: u16) -> bool
+pub fn has_level(w: Order, level: u16) -> bool
     ensures { result ≡ has_level w level }
 {
-    if level == 0 {
-        return (w == 1) | (3 <= w);
+    match w {
+        Order::Empty => false,
+        Order::Outer => level == 0,
+        Order::Inner => level != 0,
+        Order::OuterInner => true,
+        Order::InnerOuter => true,
     }
-    2 <= w
 }
 
 // What the record of a link awaits, none where it links to none.
-pub fn linked(orders: &[u8; Text::PARTS], link: u16) -> u8
+pub fn linked(orders: &[Order; Text::PARTS], link: u16) -> Order
     ensures { result ≡ linked_of orders.now link }
 {
     let at = link as usize;
     if (1 <= at) & (at <= Text::PARTS) {
         return orders[at - 1];
     }
-    0
+    Order::Empty
 }
 
 // What record i awaits, from what those before it do.
-fn order_at(records: &[u64; TEXT_WORDS], orders: &[u8; Text::PARTS], i: u16) -> u8
+fn order_at(records: &[u64; TEXT_WORDS], orders: &[Order; Text::PARTS], i: u16) -> Order
     ensures { result ≡ order_at (record_at records.now i) orders.now }
 {
     let n = record_at(records, i);
     if n.kind == Shape::VARIABLE {
-        return if n.level == 0 { 1 } else { 2 };
+        return if n.level == 0 {
+            Order::Outer
+        } else {
+            Order::Inner
+        };
     }
     if n.kind < Shape::FUNCTION {
-        return 0;
+        return Order::Empty;
     }
     let w = linked(orders, n.first);
     if n.kind == Shape::FUNCTION {
@@ -71,14 +99,12 @@ fn order_at(records: &[u64; TEXT_WORDS], orders: &[u8; Text::PARTS], i: u16) -> 
 }
 
 // What each of the first n records awaits.
-pub fn order_all(records: &[u64; TEXT_WORDS], n: u16, orders: &mut [u8; Text::PARTS])
+pub fn order_all(records: &[u64; TEXT_WORDS], n: u16, orders: &mut [Order; Text::PARTS])
     requires { (n ≤ text_parts) × (length orders.old ≡ text_parts) }
     ensures { Ordered (record_at records.now) n orders.new }
 {
-    let mut i: u16 = 0;
-    while i < n {
+    for i in 0..n {
         let w = order_at(records, orders, i);
         orders[i as usize] = w;
-        i += 1;
     }
 }

@@ -2,3 +2,5 @@ pub mod Cases
 pub mod Limits
 pub mod Names
 pub mod NamesLaws
+pub mod Refusals
+pub mod RefusalsLaws

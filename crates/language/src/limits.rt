@@ -1,11 +1,8 @@
 // The limits of a text and of a table of entries, as constants of their types. The contracts of the functions that test them tie each to
 // specs/Limits.
 
-// The size of a text.
-#[derive(Clone, Copy)]
-pub struct Text {
-    pub length: usize,
-}
+// Of a text.
+pub enum Text {}
 
 impl Text {
     pub const BYTES: usize = 1024;
@@ -19,12 +16,8 @@ impl Text {
     pub const NAME_BYTES: usize = 8;
 }
 
-// The size of a table: its entries, and the readings beside it.
-#[derive(Clone, Copy)]
-pub struct Table {
-    pub entries: usize,
-    pub readings: usize,
-}
+// Of a table of entries: how many they are, and the readings beside it.
+pub enum Table {}
 
 impl Table {
     pub const ENTRIES: usize = 512;

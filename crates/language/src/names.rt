@@ -11,28 +11,28 @@ pub const BYTE_BASE: u64 = 256;
 pub fn is_letter(b: u8) -> bool
     ensures { result ≡ is_letter b }
 {
-    ((b'A' <= b) & (b <= b'Z')) | ((b'a' <= b) & (b <= b'z'))
+    b.is_ascii_alphabetic()
 }
 
 // An ASCII digit.
 pub fn is_digit(b: u8) -> bool
     ensures { result ≡ is_digit b }
 {
-    (b'0' <= b) & (b <= b'9')
+    b.is_ascii_digit()
 }
 
 // A byte of a name or of a number.
 pub fn in_word(b: u8) -> bool
     ensures { result ≡ in_word b }
 {
-    is_letter(b) | is_digit(b)
+    b.is_ascii_alphanumeric()
 }
 
 // Space, tab, CR, LF.
 pub fn is_blank(b: u8) -> bool
     ensures { result ≡ is_blank b }
 {
-    (b == b' ') | ((b == b'\t') | ((b == b'\r') | (b == b'\n')))
+    matches!(b, b' ' | b'\t' | b'\r' | b'\n')
 }
 
 // The bytes as one number, the first highest. They are read where they stand: a word of a text is a place and a length, never a copy.
@@ -41,10 +41,8 @@ pub fn pack(word: &[u8]) -> u64
     ensures { (result ≡ packed word.now) × Each Byte word.now }
 {
     let mut acc: u64 = 0;
-    let mut i = 0;
-    while i < word.len() {
-        acc = acc * BYTE_BASE + word[i] as u64;
-        i += 1;
+    for b in word {
+        acc = acc * BYTE_BASE + *b as u64;
     }
     acc
 }
@@ -57,6 +55,7 @@ pub const IN: u64 = 0x696e;
 pub const DATA: u64 = 0x64617461;
 
 // Whether a packed name is `data`.
+#[tactic(auto, unfolding(crate::specs::Names::bytes, crate::specs::Names::pack_onto, crate::specs::Names::data_word))]
 pub fn is_data(name: u64) -> bool
     ensures { result ≡ eqb name (packed data_word) }
 {

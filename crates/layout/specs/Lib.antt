@@ -1,5 +1,4 @@
 pub mod Held
-pub mod HeldLaws
 pub mod Links
 pub mod LinksLaws
 pub mod Memory

@@ -1,11 +1,10 @@
 -- 01, "Binding": the kinds of entries, their dependencies, and the form that an entry stands for. Assumes nothing: these are definitions.
+use Rattle.std.specs.Prelude.{Option, None}
 use Rattle.std.specs.Prelude.{Bool, false, cond, not, ◌&&◌, ◌||◌, List, [], ◌∷◌, ℕ, zero, suc, ◌+◌, ◌-◌, ◌/◌, ◌%◌, ltb, leb, eqb, ℤ, pos, ◌-ℤ◌, length}
 use Rattle.language.specs.Limits.{name_bytes}
 use Rattle.language.specs.Names.{is_letter, in_word, byte_base, packed, let_word, word_in, data_word}
 use Rattle.members.specs.Members.{arguments, if_member, members, member_at, member_number}
 use Rattle.members.specs.declared.Member.{Member}
-use Rattle.members.specs.declared.Found.{Found}
-use Rattle.members.specs.declared.Found.TheVariants.{Unknown}
 use Rattle.meaning.specs.Forms.{Form, with_level, number, variable, unbound, readings, ask, call, function}
 use Rattle.layout.specs.Memory.{Node}
 
@@ -36,11 +35,11 @@ abbrev pub kind_count : ℕ
 kind_count = first_member + length members
 
 -- the member of a kind, if it is one
-unfoldable pub member_of_kind : ℕ → Found
-member_of_kind k = cond (ltb k first_member) Unknown (member_at (k - first_member))
+unfoldable pub member_of_kind : ℕ → Option Member
+member_of_kind k = cond (ltb k first_member) None (member_at (k - first_member))
 
 -- receiver first, and then the arguments
-abbrev pub member_arity : Found → ℕ
+abbrev pub member_arity : Option Member → ℕ
 member_arity f = if_member 0 f (λ m. suc (arguments m))
 
 -- how many dependencies an entry of the kind has
@@ -72,7 +71,7 @@ abbrev pub number_of_key : ℕ → ℤ
 number_of_key key = pos key -ℤ pos 2147483648
 
 -- a member with its dependencies, receiver first
-abbrev pub member_form : Found → Form → Form → Form
+abbrev pub member_form : Option Member → Form → Form → Form
 member_form found f a = if_member readings found (λ m. cond (eqb (arguments m) 0) (ask m f) (call m f a))
 
 -- 02, T-05: the variable of a lambda variable's or a function's entry, its name with its level

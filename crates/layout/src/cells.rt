@@ -1,5 +1,7 @@
 // The cells of the lent memory (docs/MEMORY.md): reads that are total, past the end a read is 0; an entry's cells by name; and the writes
 // of an entry. No other file knows where a cell stands.
+#![tactic(auto, unfolding(crate::specs::Links::links_with, crate::specs::Links::kept_with))]
+
 ghost use Rattle.std.specs.Prelude.{◌≡◌, ◌<◌, length, get_or};
 ghost use Rattle.layout.specs.Links.{level_index, other_index, kind_at, first_at, second_at, level_at, key_at, value_at, name_at, other_at, links_with, kept_with, cells_with, is_below};
 
@@ -14,22 +16,11 @@ pub const TABLE_LINKS: usize = LINK_CELLS * Table::ENTRIES;
 
 pub const TABLE_CELLS: usize = ENTRY_CELLS * Table::ENTRIES;
 
-pub fn at16(s: &[u16], i: usize) -> u16
-    ensures { result ≡ get_or s.now i 0 }
+// The element at an index; past the end, `other`.
+pub fn get_or<T: Copy>(s: &[T], i: usize, other: T) -> T
+    ensures { result ≡ get_or s.now i other }
 {
-    if i < s.len() { s[i] } else { 0 }
-}
-
-pub fn at32(s: &[u32], i: usize) -> u32
-    ensures { result ≡ get_or s.now i 0 }
-{
-    if i < s.len() { s[i] } else { 0 }
-}
-
-pub fn at64(s: &[u64], i: usize) -> u64
-    ensures { result ≡ get_or s.now i 0 }
-{
-    if i < s.len() { s[i] } else { 0 }
+    s.get(i).copied().unwrap_or(other)
 }
 
 // The cells of entry i by name: its kind, its dependencies and its level; its key, its kept value and the names that this shows. An entry's
@@ -38,56 +29,56 @@ pub fn kind_of(links: &[u16], i: usize) -> u16
     requires { i < 4294967296 }
     ensures { result ≡ kind_at links.now i }
 {
-    at16(links, LINK_CELLS * i)
+    get_or(links, LINK_CELLS * i, 0)
 }
 
 pub fn first_of(links: &[u16], i: usize) -> u16
     requires { i < 4294967296 }
     ensures { result ≡ first_at links.now i }
 {
-    at16(links, LINK_CELLS * i + 1)
+    get_or(links, LINK_CELLS * i + 1, 0)
 }
 
 pub fn second_of(links: &[u16], i: usize) -> u16
     requires { i < 4294967296 }
     ensures { result ≡ second_at links.now i }
 {
-    at16(links, LINK_CELLS * i + 2)
+    get_or(links, LINK_CELLS * i + 2, 0)
 }
 
 pub fn level_of(links: &[u16], i: usize) -> u16
     requires { i < 4294967296 }
     ensures { result ≡ level_at links.now i }
 {
-    at16(links, LINK_CELLS * i + 3)
+    get_or(links, LINK_CELLS * i + 3, 0)
 }
 
 pub fn key_of(cells: &[u64], i: usize) -> u64
     requires { i < 4294967296 }
     ensures { result ≡ key_at cells.now i }
 {
-    at64(cells, ENTRY_CELLS * i)
+    get_or(cells, ENTRY_CELLS * i, 0)
 }
 
 pub fn value_of(cells: &[u64], i: usize) -> u64
     requires { i < 4294967296 }
     ensures { result ≡ value_at cells.now i }
 {
-    at64(cells, ENTRY_CELLS * i + 1)
+    get_or(cells, ENTRY_CELLS * i + 1, 0)
 }
 
 pub fn name_of(cells: &[u64], i: usize) -> u64
     requires { i < 4294967296 }
     ensures { result ≡ name_at cells.now i }
 {
-    at64(cells, ENTRY_CELLS * i + 2)
+    get_or(cells, ENTRY_CELLS * i + 2, 0)
 }
 
 pub fn other_of(cells: &[u64], i: usize) -> u64
     requires { i < 4294967296 }
     ensures { result ≡ other_at cells.now i }
 {
-    at64(cells, ENTRY_CELLS * i + 3)
+    get_or(cells, ENTRY_CELLS * i + 3, 0)
 }
 
 // The links of entry i.
@@ -126,5 +117,5 @@ pub fn put_cells(cells: &mut [u64], i: usize, key: u64)
 pub fn is_below(link: usize, i: usize) -> bool
     ensures { result ≡ is_below link i }
 {
-    (1 <= link) & (link <= i)
+    1 <= link && link <= i
 }

@@ -1,14 +1,16 @@
 // A node: what an entry is, apart from its kept result. The entries held are read from the lent slices; those that a call is about to
 // append wait in its frame, two words each.
-ghost use Rattle.std.specs.Prelude.{◌≡◌, ◌-◌, ◌<◌, length};
-ghost use Rattle.language.specs.Limits.{text_parts};
-ghost use Rattle.layout.specs.Memory.{node_at};
-ghost use Rattle.layout.specs.Nodes.{member_of_kind, same_node};
-ghost use Rattle.layout.specs.Held.{shaped, fresh_at, record_at, held_at, with_fresh, text_words, entry_base};
+#![tactic(auto, using(crate::specs::KindsLaws::kinds), unfolding(crate::specs::Memory::node_at, crate::specs::Held::fresh_at, crate::specs::Held::record_at, crate::specs::Held::held_at, crate::specs::Held::with_fresh))]
 
-use crate::cells::{at64, first_of, key_of, kind_of, level_of, second_of};
+ghost use Rattle.std.specs.Prelude.{◌≡◌, ℕ, ◌-◌, ◌<◌, ◌≤◌, length};
+ghost use Rattle.language.specs.Limits.{text_parts};
+ghost use Rattle.layout.specs.Memory.{Node, node_at};
+ghost use Rattle.layout.specs.Nodes.{member_of_kind};
+ghost use Rattle.layout.specs.Held.{shaped, fresh_at, record_at, row_in, entry_in, with_fresh, text_words, entry_base, word_in, packed_at};
+
+use crate::cells::{first_of, get_or, key_of, kind_of, level_of, second_of};
 use language::limits::Text;
-use members::{Found, MEMBERS, member_at};
+use members::{MEMBERS, Member, member_at};
 
 // The words of the nodes that a text can have, two each.
 pub const TEXT_WORDS: usize = 2 * Text::PARTS;
@@ -21,16 +23,13 @@ pub const ENTRY_BASE: u64 = 1024;
 
 pub const RECORD_BASE: u64 = 256;
 
-// The weights of the second link, to an entry and to a record, and of the level in such a word.
-pub const ENTRY_WEIGHT: u64 = KIND_BASE * ENTRY_BASE;
-
+// The weights of the second link of a record, and of its level, in such a word.
 pub const RECORD_WEIGHT: u64 = KIND_BASE * RECORD_BASE;
-
-pub const ENTRY_LEVEL: u64 = ENTRY_WEIGHT * ENTRY_BASE;
 
 pub const RECORD_LEVEL: u64 = RECORD_WEIGHT * RECORD_BASE;
 
-#[derive(Clone, Copy)]
+// What an entry is but for its results. A link is one more than a number, 0 for none, as in a cell of lent memory.
+#[derive(Clone, Copy, PartialEq, Eq)]
 pub struct Shape {
     pub kind: u16,
     pub key: u64,
@@ -39,7 +38,8 @@ pub struct Shape {
     pub level: u16,
 }
 
-// The kinds. The members follow, by their numbers, up to the first number that is no kind.
+// The kinds. The members follow, by their numbers, up to the first number that is no kind. A kind stays a number: it is a cell of lent memory, in
+// which any number can stand before it is tested, and previews compare it by `<`.
 impl Shape {
     pub const NUMBER: u16 = 0;
 
@@ -57,25 +57,13 @@ impl Shape {
 }
 
 // The member of a kind, if it is one.
-pub fn member_of(kind: u16) -> Found
+pub fn member_of(kind: u16) -> Option<Member>
     ensures { result ≡ member_of_kind kind }
 {
-    if kind < Shape::MEMBERS {
-        return Found::Unknown;
+    if kind < Shape::MEMBERS || Shape::KINDS <= kind {
+        return None;
     }
-    if kind < Shape::KINDS {
-        return member_at((kind - Shape::MEMBERS) as u8);
-    }
-    Found::Unknown
-}
-
-// One node is the other: all pieces are equal.
-pub fn same(a: Shape, b: Shape) -> bool
-    ensures { result ≡ same_node (shaped a) (shaped b) }
-{
-    (a.kind == b.kind)
-        & ((a.key == b.key)
-            & ((a.first == b.first) & ((a.second == b.second) & (a.level == b.level))))
+    member_at((kind - Shape::MEMBERS) as u8)
 }
 
 // The node of entry i.
@@ -96,40 +84,89 @@ pub fn node_at(links: &[u16], cells: &[u64], i: u16) -> Shape
 pub fn entry_of(link: u16) -> u16
     ensures { result ≡ link - 1 }
 {
-    if 0 < link { link - 1 } else { 0 }
+    link.saturating_sub(1)
 }
 
-// A field of a word.
-fn narrow(x: u64) -> u16
-    requires { x < entry_base }
-    ensures { result ≡ x }
-{
-    x as u16
+// What has a node for each number.
+pub trait Nodes {
+    ghost nodes: { Self → ℕ → Node };
+
+    // The node of that number.
+    fn node(&self, i: u16) -> Shape
+        ensures { shaped result ≡ nodes self.now i };
 }
 
-// The node of entry i, where the first `count` are held and the others wait.
-pub fn held_at(links: &[u16], cells: &[u64], count: u16, fresh: &[u64; TEXT_WORDS], i: u16) -> Shape
-    ensures { shaped result ≡ held_at links.now cells.now count fresh.now i }
-{
-    if i < count {
-        return node_at(links, cells, i);
+// The entries that a table holds.
+#[derive(Clone, Copy)]
+pub struct Rows<'a> {
+    pub links: &'a [u16],
+    pub cells: &'a [u64],
+}
+
+impl<'a> Nodes for Rows<'a> {
+    ghost nodes = { row_in };
+
+    fn node(&self, i: u16) -> Shape {
+        node_at(self.links, self.cells, i)
     }
-    fresh_at(fresh, i - count)
+}
+
+// The entries of a table, of which the first `count` are held and the others wait.
+#[derive(Clone, Copy)]
+pub struct Entries<'a> {
+    pub links: &'a [u16],
+    pub cells: &'a [u64],
+    pub count: u16,
+    pub fresh: &'a [u64],
+}
+
+impl<'a> Nodes for Entries<'a> {
+    ghost nodes = { entry_in };
+
+    fn node(&self, i: u16) -> Shape {
+        if i < self.count {
+            return node_at(self.links, self.cells, i);
+        }
+        fresh_at(self.fresh, i - self.count)
+    }
+}
+
+// A node but for its key as one word, with links below BASE.
+pub fn packed<const BASE: u64>(x: Shape) -> u64
+    requires { BASE ≤ entry_base }
+    ensures { result ≡ word_in BASE (shaped x) }
+{
+    x.kind as u64 + KIND_BASE * (x.first as u64 + BASE * (x.second as u64 + BASE * x.level as u64))
+}
+
+// The node at place i, two words each, with links below BASE.
+fn unpacked<const BASE: u64>(words: &[u64], i: u16) -> Shape
+    requires { (0 < BASE) × (BASE ≤ entry_base) }
+    ensures { shaped result ≡ packed_at BASE words.now i }
+{
+    let at = 2 * i as usize;
+    let word = get_or(words, at, 0);
+    Shape {
+        kind: (word % KIND_BASE) as u16,
+        key: get_or(words, at + 1, 0),
+        first: (word / KIND_BASE % BASE) as u16,
+        second: (word / (KIND_BASE * BASE) % BASE) as u16,
+        level: (word / (KIND_BASE * BASE * BASE) % BASE) as u16,
+    }
 }
 
 // The node that waits at place i.
 pub fn fresh_at(fresh: &[u64], i: u16) -> Shape
     ensures { shaped result ≡ fresh_at fresh.now i }
 {
-    let at = i as usize;
-    let word = at64(fresh, 2 * at);
-    Shape {
-        kind: narrow(word % KIND_BASE),
-        key: at64(fresh, 2 * at + 1),
-        first: narrow(word / KIND_BASE % ENTRY_BASE),
-        second: narrow(word / ENTRY_WEIGHT % ENTRY_BASE),
-        level: narrow(word / ENTRY_LEVEL % ENTRY_BASE),
-    }
+    unpacked::<ENTRY_BASE>(fresh, i)
+}
+
+// The record of number r of a text: its kind, its links to earlier records, each 0 or one more than the record's number, and its level; and its key.
+pub fn record_at(records: &[u64], r: u16) -> Shape
+    ensures { shaped result ≡ record_at records.now r }
+{
+    unpacked::<RECORD_BASE>(records, r)
 }
 
 // x waits at place i.
@@ -137,25 +174,7 @@ pub fn add_fresh(fresh: &mut [u64; TEXT_WORDS], i: u16, x: Shape)
     requires { (i < text_parts) × (length fresh.old ≡ text_words) }
     ensures { fresh.new ≡ with_fresh fresh.old i (shaped x) }
 {
-    let at = i as usize;
-    fresh[2 * at] = x.kind as u64
-        + (KIND_BASE * x.first as u64
-            + (ENTRY_WEIGHT * x.second as u64 + ENTRY_LEVEL * x.level as u64));
-    fresh[2 * at + 1] = x.key;
-}
-
-// The record of number r of a text, two words: its kind, its links to earlier records, each 0 or one more than the record's number, and its level; and
-// its key.
-pub fn record_at(records: &[u64], r: u16) -> Shape
-    ensures { shaped result ≡ record_at records.now r }
-{
-    let at = r as usize;
-    let word = at64(records, 2 * at);
-    Shape {
-        kind: (word % KIND_BASE) as u16,
-        key: at64(records, 2 * at + 1),
-        first: (word / KIND_BASE % RECORD_BASE) as u16,
-        second: (word / RECORD_WEIGHT % RECORD_BASE) as u16,
-        level: (word / RECORD_LEVEL % RECORD_BASE) as u16,
-    }
+    let at = 2 * i as usize;
+    fresh[at] = packed::<ENTRY_BASE>(x);
+    fresh[at + 1] = x.key;
 }

@@ -1,13 +1,13 @@
 -- What each path through a function that finds a token gives, from its tests and calls, over plain variables. Assumes nothing.
 use mathlib.Core.Path.{◌≡◌, refl, ap, sym, ◌∙◌}
 use mathlib.Core.Bool.{Bool, true, false, cond}
-use mathlib.Core.List.{List, [], ◌∷◌}
+use mathlib.Core.List.{List, ◌∷◌}
 use Prim.Native.Nat.{ℕ, suc, ◌+◌, ◌-◌, ◌≤◌, ◌<◌}
 use native.Mathlib.Numerals.{add-one}
 use native.Mathlib.Omega.{arith}
 use lib.Dec.{eqb, lit<}
-use lib.ListN.{length, take, drop, get_or, drop_of_length-le, length-drop}
-use lib.Seq.{drop-cons, take_all, take-nil}
+use lib.ListN.{length, take, drop, get_or, drop_of_length-le}
+use lib.Seq.{drop-cons}
 use borrow.Author.Tests.{eq-eqb, ne_eqb}
 use Rattle.language.specs.Names.{is_letter, is_digit, in_word, is_blank, let_word, word_in, bytes, pack_onto, packed}
 use Rattle.language.specs.NamesLaws.{Each, Byte}
@@ -15,32 +15,10 @@ use Rattle.members.specs.Members.{same_bytes}
 use Rattle.members.specs.MembersLaws.{other-bytes, packed-tells}
 use Rattle.grammar.specs.Tokens.{Lexeme, k_let, k_in, word, when, leading, word_token, word_at, digits_at, minus_at, mark_token, token_at}
 use Rattle.lexer.specs.declared.tokens.Lexed.{Lexed}
+use Rattle.lexer.specs.declared.tokens.TokenKind.{TokenKind}
+use Rattle.lexer.specs.declared.tokens.TokenKind.TheVariants as K
 use Rattle.lexer.specs.Lexing.{token_kind, placed, place_from, front_at, lex_at, bytes_at}
-use Rattle.lexer.specs.Loops.{in_class, run_end}
-
--- ---- is_in_class
-module _ (c b : ℕ) (r : Bool) where
-  pub class-blanks : c ≡ 0 → r ≡ is_blank b → r ≡ in_class c b
-  class-blanks e q = rw e q
-
-  pub class-word : c ≡ 1 → r ≡ in_word b → r ≡ in_class c b
-  class-word e q = rw e q
-
-  pub class-digits : (c ≡ 0 → ⊥) → (c ≡ 1 → ⊥) → r ≡ is_digit b → r ≡ in_class c b
-  class-digits n m q = simp (ne_eqb c 0 n, ne_eqb c 1 m) q
-
--- ---- part
-module _ (text : List ℕ) (start end : ℕ) where
-  pub part_none : end < start → [] ≡ bytes_at text start end
-  part_none h = let e : end - start ≡ 0 = omega arith in rw e
-
-  pub part-rest : length text < end → take (length text - start) (drop start text) ≡ bytes_at text start end
-  part-rest h =
-      let l : length (drop start text) ≡ length text - start = length-drop start text in
-      take_all (length text - start) (drop start text) (omega arith) ∙ sym (take_all (end - start) (drop start text) (omega arith))
-
-  pub part-over : length text < start → [] ≡ bytes_at text start end
-  part-over h = let e : drop start text ≡ [] = drop_of_length-le text {i = start} (omega arith) in rw (e, take-nil)
+use Rattle.lexer.specs.Loops.{run_end}
 
 -- ---- word_kind
 module _ (w : List ℕ) (n : ℕ) (p : (n ≡ packed w) × Each Byte w) (t : Bool) where
@@ -48,49 +26,40 @@ module _ (w : List ℕ) (n : ℕ) (p : (n ≡ packed w) × Each Byte w) (t : Boo
   told : (v : List ℕ) → Each Byte v → length w ≡ length v → eqb n (packed v) ≡ t → same_bytes w v ≡ t
   told v b l e = sym (packed-tells w v p.1 b l) ∙ ap (λ (k : ℕ). eqb k (packed v)) (sym p.0) ∙ e
 
-  pub word_two : length w ≡ 2 → eqb n 26990 ≡ t → cond t 2 10 ≡ token_kind (word_token w)
+  pub word_two : length w ≡ 2 → eqb n 26990 ≡ t → cond t K.In K.Word ≡ token_kind (word_token w)
   unfolding word_token let_word word_in bytes pack_onto
   word_two l e = rw (other-bytes w let_word (λ q. omega (arith, ap length q)), told word_in (lit< tt, (lit< tt, tt)) l e) (by t)
     where
-      by : (t : Bool) → cond t 2 10 ≡ token_kind (cond t k_in (word w))
+      by : (t : Bool) → cond t K.In K.Word ≡ token_kind (cond t k_in (word w))
       by true = refl
       by false = refl
 
-  pub word-three : length w ≡ 3 → eqb n 7103860 ≡ t → cond t 1 10 ≡ token_kind (word_token w)
+  pub word-three : length w ≡ 3 → eqb n 7103860 ≡ t → cond t K.Let K.Word ≡ token_kind (word_token w)
   unfolding word_token let_word word_in bytes pack_onto
   word-three l e = rw (told let_word (lit< tt, (lit< tt, (lit< tt, tt))) l e, other-bytes w word_in (λ q. omega (arith, ap length q))) (by t)
     where
-      by : (t : Bool) → cond t 1 10 ≡ token_kind (cond t k_let (word w))
+      by : (t : Bool) → cond t K.Let K.Word ≡ token_kind (cond t k_let (word w))
       by true = refl
       by false = refl
 
-pub word-other : (w : List ℕ) → (length w ≡ 2 → ⊥) → (length w ≡ 3 → ⊥) → 10 ≡ token_kind (word_token w)
+pub word-other : (w : List ℕ) → (length w ≡ 2 → ⊥) → (length w ≡ 3 → ⊥) → K.Word ≡ token_kind (word_token w)
 unfolding word_token let_word word_in bytes
 word-other w n m = rw (other-bytes w let_word (λ q. m (ap length q)), other-bytes w word_in (λ q. n (ap length q)))
 
--- ---- mark_kind
-pub mark-key : (m b : ℕ) → b ≡ m → token_kind (mark_token m) ≡ token_kind (mark_token b)
-mark-key m b e = ap (λ (x : ℕ). token_kind (mark_token x)) (sym e)
-
-pub mark-rest : (b : ℕ)
-    → (b ≡ 61 → ⊥) → (b ≡ 92 → ⊥) → (b ≡ 46 → ⊥) → (b ≡ 40 → ⊥) → (b ≡ 41 → ⊥) → (b ≡ 44 → ⊥) → 12 ≡ token_kind (mark_token b)
-unfolding mark_token
-mark-rest b n₁ n₂ n₃ n₄ n₅ n₆ = simp (ne_eqb b 61 n₁, ne_eqb b 92 n₂, ne_eqb b 46 n₃, ne_eqb b 40 n₄, ne_eqb b 41 n₅, ne_eqb b 44 n₆)
-
 -- ---- word, digits and minus
-alike : {k k' e e' : ℕ} (s : ℕ) → k ≡ k' → e ≡ e'
+alike : {k k' : TokenKind} {e e' : ℕ} (s : ℕ) → k ≡ k' → e ≡ e'
     → ◌≡◌ {A = Lexed} (record { kind = k; start = s; end = e }) (record { kind = k'; start = s; end = e' })
 alike s p q = λ i. record { kind = p i; start = s; end = q i }
 
 module _ (text : List ℕ) (start : ℕ) where
-  pub word-is : (end k : ℕ) (w : List ℕ) → end ≡ run_end 1 text start → w ≡ bytes_at text start end → k ≡ token_kind (word_token w)
+  pub word-is : (end : ℕ) (k : TokenKind) (w : List ℕ) → end ≡ run_end in_word text start → w ≡ bytes_at text start end → k ≡ token_kind (word_token w)
       → record { kind = k; start = start; end = end } ≡ placed start (word_at (drop start text))
   unfolding run_end word_at
   word-is end k w e b q =
       let n : end - start ≡ leading in_word (drop start text) = omega arith in
       alike start (q ∙ ap (λ (x : List ℕ). token_kind (word_token x)) (b ∙ ap (λ (x : ℕ). take x (drop start text)) n)) e
 
-  pub digits-is : (end : ℕ) → end ≡ run_end 2 text start → record { kind = 11; start = start; end = end } ≡ placed start (digits_at (drop start text))
+  pub digits-is : (end : ℕ) → end ≡ run_end is_digit text start → record { kind = K.Number; start = start; end = end } ≡ placed start (digits_at (drop start text))
   unfolding run_end digits_at
   digits-is end e = alike start refl e
 
@@ -98,8 +67,8 @@ module _ (text : List ℕ) (start : ℕ) where
     next : drop (start + 1) text ≡ get_or text (start + 1) 0 ∷ drop (suc (start + 1)) text
     next = drop-cons text (start + 1) 0 h
 
-    pub minus-digits : (end : ℕ) → r ≡ true → end ≡ run_end 2 text (start + 1)
-        → record { kind = 11; start = start; end = end } ≡ placed start (minus_at (drop (start + 1) text))
+    pub minus-digits : (end : ℕ) → r ≡ true → end ≡ run_end is_digit text (start + 1)
+        → record { kind = K.Number; start = start; end = end } ≡ placed start (minus_at (drop (start + 1) text))
     unfolding minus_at when run_end
     minus-digits end t e =
         let n : end ≡ start + suc (leading is_digit (get_or text (start + 1) 0 ∷ drop (suc (start + 1)) text)) =
@@ -107,26 +76,26 @@ module _ (text : List ℕ) (start : ℕ) where
         rw (next, sym d ∙ t) (alike start refl n)
 
     pub minus-arrow : r ≡ false → get_or text (start + 1) 0 ≡ 62
-        → record { kind = 5; start = start; end = start + 1 + 1 } ≡ placed start (minus_at (drop (start + 1) text))
+        → record { kind = K.Arrow; start = start; end = start + 1 + 1 } ≡ placed start (minus_at (drop (start + 1) text))
     unfolding minus_at when
     minus-arrow t e = rw (next, sym d ∙ t, eq-eqb (get_or text (start + 1) 0) 62 e) (alike start refl (omega arith))
 
     pub minus-other : r ≡ false → (get_or text (start + 1) 0 ≡ 62 → ⊥)
-        → record { kind = 12; start = start; end = start + 1 } ≡ placed start (minus_at (drop (start + 1) text))
+        → record { kind = K.Other; start = start; end = start + 1 } ≡ placed start (minus_at (drop (start + 1) text))
     unfolding minus_at when
     minus-other t e = rw (next, sym d ∙ t, ne_eqb (get_or text (start + 1) 0) 62 e)
 
-  pub minus-last : length text ≤ start + 1 → record { kind = 12; start = start; end = start + 1 } ≡ placed start (minus_at (drop (start + 1) text))
+  pub minus-last : length text ≤ start + 1 → record { kind = K.Other; start = start; end = start + 1 } ≡ placed start (minus_at (drop (start + 1) text))
   unfolding minus_at
   minus-last h = rw (drop_of_length-le text h)
 
 -- ---- token
-module _ (text : List ℕ) (at start : ℕ) (blanks : start ≡ run_end 0 text at) where
+module _ (text : List ℕ) (at start : ℕ) (blanks : start ≡ run_end is_blank text at) where
   here : lex_at text at ≡ front_at (length text) start (drop start text)
   unfolding lex_at place_from run_end
   here = rw (← blanks)
 
-  pub token_end : length text ≤ start → record { kind = 0; start = length text; end = length text } ≡ lex_at text at
+  pub token_end : length text ≤ start → record { kind = K.End; start = length text; end = length text } ≡ lex_at text at
   unfolding front_at
   token_end h = sym (here ∙ rw (drop_of_length-le text h))
 
@@ -152,7 +121,7 @@ module _ (text : List ℕ) (at start : ℕ) (blanks : start ≡ run_end 0 text a
       token-minus x t m e =
           e ∙ found (minus_at (drop (start + 1) text)) (rw (sym l ∙ no, sym d ∙ t, eq-eqb (get_or text start 0) 45 m, add-one))
 
-      pub token-mark : (k : ℕ) → digit ≡ false → (get_or text start 0 ≡ 45 → ⊥) → k ≡ token_kind (mark_token (get_or text start 0))
+      pub token-mark : (k : TokenKind) → digit ≡ false → (get_or text start 0 ≡ 45 → ⊥) → k ≡ token_kind (mark_token (get_or text start 0))
           → record { kind = k; start = start; end = start + 1 } ≡ lex_at text at
       unfolding token_at when
       token-mark k t m e =

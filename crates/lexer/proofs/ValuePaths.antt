@@ -13,14 +13,15 @@ use mir.Facts.{to_z-of_z, to_z_pos, sfits_widen}
 use borrow.Author.Tests.{eq-eqb, ne_eqb, lt-ltb, le-ltb}
 use Rattle.language.specs.Names.{packed}
 use Rattle.grammar.specs.Tokens.{decimal, decimal_onto}
-use Rattle.lexer.specs.declared.tokens.Literal.{Literal}
-use Rattle.lexer.specs.declared.tokens.Literal.TheVariants.{In, Beyond}
+use Rattle.std.specs.Prelude.{Option, Some, None, Result, Ok, Err}
+use Rattle.std.specs.Result.{OkIff, result_ok}
+use Rattle.std.proofs.lemmas.List.{take_min}
 use Rattle.lexer.specs.Lexing.{value_of, judged, name_at}
 use Rattle.lexer.specs.Loops.{bound}
 use Rattle.lexer.specs.LoopsLaws.{at_bound}
 
 -- ---- non_negative and negative
-in-range : (z : ℤ) → SFits w32 z → judged z ≡ In z
+in-range : (z : ℤ) → SFits w32 z → judged z ≡ Some z
 unfolding judged
 in-range (pos n) f = rw (le-ltb 2147483647 n (omega (arith, f.sfits)))
 in-range (negsuc n) f = rw (le-ltb 2147483647 n (omega (arith, f.sfits)))
@@ -30,12 +31,16 @@ below zero h = omega arith
 below (suc m) h = h
 
 module _ (m : ℕ) where
-  pub plus-in : m ≤ 2147483647 → In (to_z w32 m) ≡ judged (pos m)
-  plus-in h = ap In (to_z_pos w32 {n = m} (omega arith)) ∙ sym (in-range (pos m) (record { sfits = omega arith }))
-
-  pub plus-beyond : 2147483647 < m → judged (pos m) ≡ Beyond
+  pub plus-beyond : 2147483647 < m → judged (pos m) ≡ None
   unfolding judged
   plus-beyond h = rw (lt-ltb 2147483647 m h)
+
+  pub plus-ok : {E : Type 0} (r : Result ℤ E) → OkIff r (SFits w32 (pos m)) (pos m) → (o : Option ℤ) → o ≡ result_ok r → o ≡ judged (pos m)
+  plus-ok (Ok x) h o e = e ∙ ap (λ (z : ℤ). Some z) h.1 ∙ sym (in-range (pos m) h.0)
+  plus-ok (Err x) h o e = e ∙ sym (plus-beyond (omega (arith, out h)))
+    where
+      out : (SFits w32 (pos m) → ⊥) → (m ≤ 2147483647 → ⊥)
+      out n l = n (record { sfits = omega arith })
 
   module _ (h : m ≤ 2147483648) where
     opposite : pos 0 -ℤ to_z w64 m ≡ neg_ℤ (pos m)
@@ -53,46 +58,44 @@ module _ (m : ℕ) where
     pub minus-narrow : SFits w32 (to_z w64 (of_z w64 (pos 0 -ℤ to_z w64 m)))
     minus-narrow = rw minus_is opposite-fits
 
-    pub minus-in : In (to_z w32 (of_z w32 (to_z w64 (of_z w64 (pos 0 -ℤ to_z w64 m))))) ≡ judged (neg_ℤ (pos m))
-    minus-in = ap In (to_z-of_z minus-narrow ∙ minus_is) ∙ sym (in-range (neg_ℤ (pos m)) opposite-fits)
+    pub minus-in : Some (to_z w32 (of_z w32 (to_z w64 (of_z w64 (pos 0 -ℤ to_z w64 m))))) ≡ judged (neg_ℤ (pos m))
+    minus-in = ap (λ (n : ℤ). Some n) (to_z-of_z minus-narrow ∙ minus_is) ∙ sym (in-range (neg_ℤ (pos m)) opposite-fits)
 
-pub minus-beyond : (m : ℕ) → 2147483648 < m → judged (neg_ℤ (pos m)) ≡ Beyond
+pub minus-beyond : (m : ℕ) → 2147483648 < m → judged (neg_ℤ (pos m)) ≡ None
 unfolding judged
 minus-beyond zero h = absurd (omega arith)
 minus-beyond (suc m) h = rw (lt-ltb 2147483647 m (omega arith))
 
+pub ruleset negatives = (minus-in, minus-beyond)
+
 -- ---- number
-no_value : (w : List ℕ) → length w ≡ 0 → In (pos 0) ≡ judged (value_of w)
+no_value : (w : List ℕ) → length w ≡ 0 → Some (pos 0) ≡ judged (value_of w)
 unfolding value_of decimal_onto judged
 no_value [] e = refl
 no_value (b ∷ w) e = absurd (omega arith)
 
 module _ (v w : List ℕ) (same : w ≡ v) where
-  pub number-none : length w ≡ 0 → In (pos 0) ≡ judged (value_of v)
+  pub number-none : length w ≡ 0 → Some (pos 0) ≡ judged (value_of v)
   number-none e = no_value w e ∙ ap (λ (x : List ℕ). judged (value_of x)) same
 
-  pub number-minus : (r : Literal) (m : ℕ) → get_or w 0 0 ≡ 45 → m ≡ min (decimal (take (length w - 1) (drop 1 w))) bound
+  pub number-minus : (r : Option ℤ) (m : ℕ) → get_or w 0 0 ≡ 45 → m ≡ min (decimal (take (length w - 1) (drop 1 w))) bound
       → r ≡ judged (neg_ℤ (pos m)) → r ≡ judged (value_of v)
   unfolding value_of
   number-minus r m q e k =
       let l : length (drop 1 w) ≤ length w - 1 = omega (arith, length-drop 1 w) in
       k ∙ ap (λ (n : ℕ). judged (neg_ℤ (pos n))) e
-      ∙ at_bound (λ (n : ℕ). judged (neg_ℤ (pos n))) Beyond minus-beyond (decimal (take (length w - 1) (drop 1 w)))
+      ∙ at_bound (λ (n : ℕ). judged (neg_ℤ (pos n))) None minus-beyond (decimal (take (length w - 1) (drop 1 w)))
       ∙ rw (← same, eq-eqb (get_or w 0 0) 45 q, take_all (length w - 1) (drop 1 w) l)
 
-  pub number-plus : (r : Literal) (m : ℕ) → (get_or w 0 0 ≡ 45 → ⊥) → m ≡ min (decimal w) bound → r ≡ judged (pos m)
+  pub number-plus : (r : Option ℤ) (m : ℕ) → (get_or w 0 0 ≡ 45 → ⊥) → m ≡ min (decimal w) bound → r ≡ judged (pos m)
       → r ≡ judged (value_of v)
   unfolding value_of
   number-plus r m q e k =
       k ∙ ap (λ (n : ℕ). judged (pos n)) e
-      ∙ at_bound (λ (n : ℕ). judged (pos n)) Beyond (λ n h. plus-beyond n (omega arith)) (decimal w)
+      ∙ at_bound (λ (n : ℕ). judged (pos n)) None (λ n h. plus-beyond n (omega arith)) (decimal w)
       ∙ rw (← same, ne_eqb (get_or w 0 0) 45 q)
 
   -- ---- name
-  pub name-whole : (r : ℕ) → length w ≤ 8 → r ≡ packed w → r ≡ name_at v
+  pub name-front : (r : ℕ) → r ≡ packed (take (min 8 (length w)) w) → r ≡ name_at v
   unfolding name_at
-  name-whole r h e = e ∙ ap packed (sym (take_all 8 w h)) ∙ ap (λ (x : List ℕ). packed (take 8 x)) same
-
-  pub name-front : (r : ℕ) → r ≡ packed (take 8 w) → r ≡ name_at v
-  unfolding name_at
-  name-front r e = e ∙ ap (λ (x : List ℕ). packed (take 8 x)) same
+  name-front r e = e ∙ ap packed (take_min 8 w) ∙ ap (λ (x : List ℕ). packed (take 8 x)) same

@@ -1,5 +1,5 @@
 -- The tokens that lex_at finds, one behind the other, are the tokens of the text. Assumes nothing.
-use Rattle.std.specs.Prelude.{◌≡◌, Bool, true, false, cond, ◌||◌, ℕ, zero, suc, ◌+◌, ◌-◌, ◌≤◌, ◌<◌, ℤ, length}
+use Rattle.std.specs.Prelude.{◌≡◌, Bool, true, false, cond, ◌||◌, ℕ, zero, suc, ◌+◌, ◌-◌, ◌≤◌, ◌<◌, ℤ, length, get_or}
 use Rattle.std.proofs.Math.Path.{refl, ap}
 use Rattle.std.proofs.Common.{sym, ◌∙◌, true≢false, add-zero, length-drop, drop-drop, take_all, ltb-false}
 use mathlib.Core.List.{List, [], ◌∷◌}
@@ -10,8 +10,10 @@ use Rattle.language.specs.Limits.{name_bytes, least_number, most_number}
 use Rattle.language.specs.Names.{is_blank, is_long, packed}
 use Rattle.grammar.specs.Tokens.{Token, k_let, k_in, k_equals, k_lambda, k_arrow, k_dot, k_open, k_shut, k_comma, word, number, other, when, leading, Lexeme, token_at, Located, scan}
 use Rattle.lexer.specs.declared.tokens.Lexed.{Lexed}
-use Rattle.lexer.specs.declared.tokens.Literal.TheVariants.{In, Beyond}
-use Rattle.lexer.specs.Lexing.{token_kind, placed, ended, place_from, front_at, lex_at, tokens_from, bytes_at, value_of, judged, name_at, token_for}
+use Rattle.lexer.specs.declared.tokens.TokenKind.{TokenKind}
+use Rattle.lexer.specs.declared.tokens.TokenKind.TheVariants as K
+use Rattle.std.specs.Prelude.{Some, None}
+use Rattle.lexer.specs.Lexing.{token_kind, kind_number, placed, ended, place_from, front_at, lex_at, tokens_from, bytes_at, value_of, judged, name_at, token_for}
 use Rattle.lexer.specs.TokenLaws.{Spans, token-spans}
 
 -- ---- scan, past bytes inside a token and past blanks
@@ -61,6 +63,29 @@ front at b bs e =
     (ap (λ (l : List Located). record { token = (token_at b bs).0; place = at } ∷ l)
     (behind (token_at b bs).1 at b bs (token-spans b bs).some))
 
+-- ---- kinds by number
+unfoldable kind-at : ℕ → TokenKind
+kind-at n = get_or (K.End ∷ K.Let ∷ K.In ∷ K.Equals ∷ K.Lambda ∷ K.Arrow ∷ K.Dot ∷ K.Open ∷ K.Shut ∷ K.Comma ∷ K.Word ∷ K.Number ∷ K.Other ∷ []) n K.End
+
+kind-back : (k : TokenKind) → kind-at (kind_number k) ≡ k
+unfolding kind-at
+kind-back K.End = refl
+kind-back K.Let = refl
+kind-back K.In = refl
+kind-back K.Equals = refl
+kind-back K.Lambda = refl
+kind-back K.Arrow = refl
+kind-back K.Dot = refl
+kind-back K.Open = refl
+kind-back K.Shut = refl
+kind-back K.Comma = refl
+kind-back K.Word = refl
+kind-back K.Number = refl
+kind-back K.Other = refl
+
+pub same-kind : (a b : TokenKind) → kind_number a ≡ kind_number b → a ≡ b
+same-kind a b e = sym (kind-back a) ∙ ap kind-at e ∙ kind-back b
+
 -- ---- the token that lex_at finds
 -- a token stands at x, not before at: it is the next token of the text, and the others follow behind it
 pub record Stands (text : List ℕ) (at : ℕ) (x : Lexed) : Type 0 where
@@ -72,8 +97,8 @@ pub record Stands (text : List ℕ) (at : ℕ) (x : Lexed) : Type 0 where
       ≡ record { token = token_for x.kind (bytes_at text x.start x.end); place = x.start } ∷ tokens_from text x.end
 
 record Lexes (text : List ℕ) (at : ℕ) (x : Lexed) : Type 0 where
-  none : x.kind ≡ 0 → (x ≡ ended (length text)) × (tokens_from text at ≡ [])
-  some : (x.kind ≡ 0 → ⊥) → Stands text at x
+  none : x.kind ≡ K.End → (x ≡ ended (length text)) × (tokens_from text at ≡ [])
+  some : (x.kind ≡ K.End → ⊥) → Stands text at x
 
 -- a kind stands for one kind of token
 pub kind-for : (t : Token) (w : List ℕ) → token_kind (token_for (token_kind t) w) ≡ token_kind t
@@ -91,9 +116,9 @@ kind-for (word v) w = refl
 kind-for (number z) w = refl
 kind-for (other b) w = refl
 
-kind-some : (t : Token) → token_kind t ≡ 0 → ⊥
+kind-some : (t : Token) → token_kind t ≡ K.End → ⊥
 unfolding token_for
-kind-some t z = let c : ◌≡◌ {A = ℕ} 12 0 = rw z at (kind-for t []) in omega arith
+kind-some t z = let c : K.Other ≡ K.End = rw z at (kind-for t []) in cc
 
 -- a lexeme that the bytes at place p begin with, as a token of the text
 module _ (text : List ℕ) (p b : ℕ) (bs : List ℕ) (q : drop p text ≡ b ∷ bs) (x : Lexeme) (f : Spans (b ∷ bs) x) where
@@ -151,48 +176,48 @@ module _ (text : List ℕ) (at : ℕ) (x : Lexed) (e : x ≡ lex_at text at) whe
   lexed = rw e (lexes text at)
 
   -- at the end no token is left
-  pub lex-none : x.kind ≡ 0 → tokens_from text at ≡ []
+  pub lex-none : x.kind ≡ K.End → tokens_from text at ≡ []
   lex-none z = (lexed.none z).1
 
-  pub lex-end : x.kind ≡ 0 → x ≡ ended (length text)
+  pub lex-end : x.kind ≡ K.End → x ≡ ended (length text)
   lex-end z = (lexed.none z).0
 
   -- else the token stands at its place, and the bytes left become fewer
-  pub lex-some : (x.kind ≡ 0 → ⊥) → Stands text at x
+  pub lex-some : (x.kind ≡ K.End → ⊥) → Stands text at x
   lex-some n = lexed.some n
 
-  -- the next token by its kind; token_for computes at a numeral
-  pub lex-kind : (k : ℕ) → x.kind ≡ suc k
-      → tokens_from text at ≡ record { token = token_for (suc k) (bytes_at text x.start x.end); place = x.start } ∷ tokens_from text x.end
-  lex-kind k q = rw q at (lex-some (λ z. omega arith)).next
+  -- the next token by its kind
+  pub lex-kind : (k : TokenKind) → (k ≡ K.End → ⊥) → x.kind ≡ k
+      → tokens_from text at ≡ record { token = token_for k (bytes_at text x.start x.end); place = x.start } ∷ tokens_from text x.end
+  lex-kind k n q = rw q at (lex-some (λ z. n (sym q ∙ z))).next
 
-  pub lex-word : x.kind ≡ 10 → tokens_from text at ≡ record { token = word (bytes_at text x.start x.end); place = x.start } ∷ tokens_from text x.end
+  pub lex-word : x.kind ≡ K.Word → tokens_from text at ≡ record { token = word (bytes_at text x.start x.end); place = x.start } ∷ tokens_from text x.end
   unfolding token_for
-  lex-word q = lex-kind 9 q
+  lex-word q = lex-kind K.Word (λ z. cc) q
 
-  pub lex-number : x.kind ≡ 11
+  pub lex-number : x.kind ≡ K.Number
       → tokens_from text at ≡ record { token = number (value_of (bytes_at text x.start x.end)); place = x.start } ∷ tokens_from text x.end
   unfolding token_for
-  lex-number q = lex-kind 10 q
+  lex-number q = lex-kind K.Number (λ z. cc) q
 
 -- ---- the value of a number token, and refusal 6's test
 abbrev pub outside : ℤ → Bool
 outside z = lt_z z least_number || lt_z most_number z
 
-pub judged-in : (z n : ℤ) → judged z ≡ In n → (n ≡ z) × (outside z ≡ false)
+pub judged-in : (z n : ℤ) → judged z ≡ Some n → (n ≡ z) × (outside z ≡ false)
 unfolding judged
 judged-in z n = go (lt_z z least_number) (lt_z most_number z)
   where
-    go : (t u : Bool) → cond t Beyond (cond u Beyond (In z)) ≡ In n → (n ≡ z) × ((t || u) ≡ false)
-    go true u q = let c : ◌≡◌ {A = ℕ} 0 1 = cc in absurd (omega arith)
-    go false true q = let c : ◌≡◌ {A = ℕ} 0 1 = cc in absurd (omega arith)
+    go : (t u : Bool) → cond t None (cond u None (Some z)) ≡ Some n → (n ≡ z) × ((t || u) ≡ false)
+    go true u q = cc
+    go false true q = cc
     go false false q = ((cc), refl)
 
-pub judged-beyond : (z : ℤ) → judged z ≡ Beyond → outside z ≡ true
+pub judged-beyond : (z : ℤ) → judged z ≡ None → outside z ≡ true
 unfolding judged
 judged-beyond z = go (lt_z z least_number) (lt_z most_number z)
   where
-    go : (t u : Bool) → cond t Beyond (cond u Beyond (In z)) ≡ Beyond → (t || u) ≡ true
+    go : (t u : Bool) → cond t None (cond u None (Some z)) ≡ None → (t || u) ≡ true
     go true u q = refl
     go false true q = refl
     go false false q = cc

@@ -1,8 +1,9 @@
 -- The test `same` is equality of forms, and what lies within a form is the form itself or lies within a dependency. Assumes nothing.
 use Rattle.std.specs.Prelude.{◌≡◌, refl, ◌↔◌, ◌⊎◌, true, ◌||◌, ℕ, zero, suc, ◌<◌, ℤ, pos, negsuc}
+use Rattle.std.proofs.lemmas.Bool.{false≢true, or_right}
 use Rattle.std.proofs.Common.{sym, ap, subst, inl, inr, arith, eqb-true, eq-eqb}
 use Rattle.std.proofs.Math.Bool.{and-eq-true_iff}
-use Rattle.language.specs.Cases.{impossible, either, or_right}
+use Rattle.language.specs.Cases.{either}
 use Rattle.members.specs.Members.{member_number}
 use Rattle.members.specs.MembersLaws.{number-injective}
 use Rattle.members.specs.declared.Member.{Member}
@@ -14,8 +15,8 @@ use Rattle.meaning.specs.Forms.{level_base, with_level, name_in, level_in, same_
 -- pieces
 sameℤ-eq : (a b : ℤ) → sameℤ a b ≡ true → a ≡ b
 sameℤ-eq (pos m) (pos n) h = ap pos (eqb-true m n h)
-sameℤ-eq (pos m) (negsuc n) h = impossible h
-sameℤ-eq (negsuc m) (pos n) h = impossible h
+sameℤ-eq (pos m) (negsuc n) h = absurd (false≢true h)
+sameℤ-eq (negsuc m) (pos n) h = absurd (false≢true h)
 sameℤ-eq (negsuc m) (negsuc n) h = ap negsuc (eqb-true m n h)
 
 sameℤ-self : (a : ℤ) → sameℤ a a ≡ true
@@ -113,10 +114,10 @@ within-self (function x b) = rw (same_self (function x b))
 -- a dependency of what lies within g lies within g
 pub dependency-within : (d f : Form) → dependency d f ≡ true → within d f ≡ true
 unfolding dependency within
-dependency-within d (number z) h = impossible h
-dependency-within d (variable x) h = impossible h
-dependency-within d (unbound x) h = impossible h
-dependency-within d readings h = impossible h
+dependency-within d (number z) h = absurd (false≢true h)
+dependency-within d (variable x) h = absurd (false≢true h)
+dependency-within d (unbound x) h = absurd (false≢true h)
+dependency-within d readings h = absurd (false≢true h)
 dependency-within d (ask m f) h = or_right (same d (ask m f)) _ (subst (λ x. within x f ≡ true) (sym (same-eq d f h)) (within-self f))
 dependency-within d (call m f a) h =
     or_right (same d (call m f a)) _
@@ -178,10 +179,10 @@ same-exactly f g = (same-eq f g, λ e. rw e (same_self g))
 
 is-dependency : (f g : Form) → dependency f g ≡ true → IsDependency f g
 unfolding dependency
-is-dependency f (number z) h = impossible h
-is-dependency f (variable x) h = impossible h
-is-dependency f (unbound x) h = impossible h
-is-dependency f readings h = impossible h
+is-dependency f (number z) h = absurd (false≢true h)
+is-dependency f (variable x) h = absurd (false≢true h)
+is-dependency f (unbound x) h = absurd (false≢true h)
+is-dependency f readings h = absurd (false≢true h)
 is-dependency f (ask m g) h = rw (same-eq f g h) (of_ask m g)
 is-dependency f (call m g a) h = either (same f g) (same f a) h (λ e. rw (same-eq f g e) (receiver m g a)) (λ e. rw (same-eq f a e) (argument m g a))
 is-dependency f (function x b) h = rw (same-eq f b h) (body x b)
@@ -228,10 +229,10 @@ within-exactly f g = (is_below f g, lies f g)
 -- the forms that are worked out are those that have a dependency
 has-dependency : (f : Form) → works f ≡ true → (d : Form) × IsDependency d f
 unfolding works
-has-dependency (number z) h = impossible h
-has-dependency (variable x) h = impossible h
-has-dependency (unbound x) h = impossible h
-has-dependency readings h = impossible h
+has-dependency (number z) h = absurd (false≢true h)
+has-dependency (variable x) h = absurd (false≢true h)
+has-dependency (unbound x) h = absurd (false≢true h)
+has-dependency readings h = absurd (false≢true h)
 has-dependency (ask m f) h = (f, of_ask m f)
 has-dependency (call m f a) h = (f, receiver m f a)
 has-dependency (function x b) h = (b, body x b)

@@ -7,10 +7,10 @@ use Rattle.std.proofs.Common.{◌∙◌, arith, ne_eqb}
 use Rattle.std.specs.Prelude.{Bool, true, false, cond, ℕ, suc, ◌≤◌, ◌<◌, eqb}
 use mathlib.Mathlib.Data.Bool.Basic.{or-eq-false-eq-eq-false-and-eq-false as neither}
 use mathlib.Core.List.{List, [], ◌∷◌, ◌++◌}
-use Rattle.std.proofs.lemmas.Bool.{eqb-false}
+use Rattle.std.proofs.lemmas.Bool.{eqb-false, cond_both}
 use Rattle.language.specs.Names.{pack_onto, packed, same_name, is_data}
 use Rattle.language.specs.NamesLaws.{Each, NameByte, packed-injective}
-use Rattle.language.specs.Cases.{split, by_cond}
+use Rattle.language.specs.Cases.{split}
 use Rattle.grammar.specs.Grammar.{Expression, Calls, Arguments, More, let_in, lambda, name, literal, bracket, done, call, none, first, last, next}
 use Rattle.grammar.specs.Faults.{Around, outermost, opened, in_lambda}
 use Rattle.grammar.specs.KeptLimits.{EverywhereE, EverywhereC, EverywhereA, EverywhereM, KeepsLimits}
@@ -40,11 +40,11 @@ Forms P (e ∷ Γ) = P e.1 × Forms P Γ
 looked-up : (P : Form → Type 0) (x : List ℕ) (Γ : List Meaning) → P (unbound (packed x)) → Forms P Γ → P (look_up x Γ)
 unfolding look_up
 looked-up P x [] u h = u
-looked-up P x (e ∷ Γ) u h = by_cond P (same_name x e.0) e.1 (look_up x Γ) (λ _. h.0) (λ _. looked-up P x Γ u h.1)
+looked-up P x (e ∷ Γ) u h = cond_both (same_name x e.0) e.1 (look_up x Γ) P (λ _. h.0) (λ _. looked-up P x Γ u h.1)
 
 pub of-name : (P : Form → Type 0) (x : List ℕ) (Γ : List Meaning) → P readings → P (unbound (packed x)) → Forms P Γ → P (named x Γ)
 unfolding named
-of-name P x Γ r u h = by_cond P (is_data x) readings (look_up x Γ) (λ _. r) (λ _. looked-up P x Γ u h)
+of-name P x Γ r u h = cond_both (is_data x) readings (look_up x Γ) P (λ _. r) (λ _. looked-up P x Γ u h)
 
 -- ---- filling the form of a tree is filling the forms of its environment
 

@@ -22,15 +22,17 @@ use Rattle.layout.specs.Held.{held_at}
 use Rattle.binder.specs.Records.{BoundAll}
 use Rattle.table.specs.ChainLaws.{length-numbered}
 use Rattle.schedule.specs.Works.{work_of, Lent, Works}
+use Rattle.std.specs.Prelude.{Result}
+use Rattle.language.specs.declared.refusals.Refused.{Refused}
 use Rattle.reader.specs.declared.answer.Read.{Read}
 use Rattle.reader.specs.Results.{ReadsInto}
-use Rattle.writer.specs.Putting.{stopped_at}
-use Rattle.writer.specs.Writing.{Tabled, Writes}
+use Rattle.writer.specs.declared.page.Page.{Page}
+use Rattle.writer.specs.Writing.{Tabled, Written}
 use Rattle.measured.specs.Measures.{read_number, ReadInto, can_bind, bound_all, bound_number, bind_number, packed_work, can_work, work_measured, Worked, can_print, entry_text, printed_bytes, PrintedInto}
 use Rattle.printer.specs.TabledLaws.{tabled-right}
 
 -- reading
-pub read-into : (text R P : List ℕ) (r : Read) (R' P' : List ℕ) → ReadsInto text R P r R' P' → (n : ℕ) → n ≡ read_number r → ReadInto text R P n R' P'
+pub read-into : (text R P : List ℕ) (r : Result Read Refused) (R' P' : List ℕ) → ReadsInto text R P r R' P' → (n : ℕ) → n ≡ read_number r → ReadInto text R P n R' P'
 read-into text R P r R' P' h n e = record { answer = e ∙ ap read_number h.answer; records = h.records; places = h.places }
 
 -- binding
@@ -120,40 +122,34 @@ module _ (links cells : List ℕ) (n : ℕ) where
         let all = ((and-eq-true_iff (ltb n table_entries) _).0 so).1 in
         tabled-right links cells (n + 1) (omega arith) (λ i h. right-at links cells (n + 1) i all h)
 
-    -- the text is at the end of a frame, or has no room in the bytes
-    module _ (bytes : List ℕ) (low at : ℕ) (out : List ℕ) (lowest : low ≡ text_bytes - length bytes) (w : Writes low (entry_text links cells n) at out) where
-      pub print-stopped : at ≡ stopped_at → PrintedInto links cells n bytes bytes 0
+    -- the text is on a page that has room for as many bytes as are lent, or has no room in them
+    module _ (bytes : List ℕ) (low : ℕ) (lowest : low ≡ text_bytes - length bytes) where
+      pub print-stopped : text_bytes < low + length (entry_text links cells n) → PrintedInto links cells n bytes bytes 0
       unfolding printed_bytes
-      print-stopped e =
-          let long : min (length bytes) text_bytes < length (entry_text links cells n) = (let z = w.stopped e in omega arith) in
+      print-stopped h =
+          let long : min (length bytes) text_bytes < length (entry_text links cells n) = omega arith in
           let q = lt-leb _ _ long in
           record { answer = rw (so, q) refl; filled = rw (so, q) refl }
 
-      module _ (going : at ≡ stopped_at → ⊥) where
-        inside : at ≤ text_bytes
-        inside = let z = w.within in omega arith
-
-        size : length (entry_text links cells n) ≡ text_bytes - at
-        size = sym (ap length (w.written inside)) ∙ length-drop at out ∙ ap (λ (k : ℕ). k - at) w.whole
-
+      module _ (page : Page) (w : Written low (entry_text links cells n) page) where
         fits : length (entry_text links cells n) ≤ min (length bytes) text_bytes
-        fits = let z = w.room inside in let q = size in let y = inside in omega arith
+        fits =
+            let z = w.room in
+            let q = sym (ap length w.text) ∙ length-drop page.at page.bytes in
+            let l = page.whole in
+            let i = page.inside in
+            omega arith
 
-        -- the part of the frame that is copied
-        abbrev part : List ℕ
-        part = take (text_bytes - at) (drop at out)
+        pub print-fits : length (drop page.at page.bytes) ≤ length bytes
+        print-fits = let h = fits in rw w.text (omega arith)
 
-        text-is : part ≡ entry_text links cells n
-        text-is = rw (w.written inside, ← size) (take-length (entry_text links cells n))
-
-        pub print-fits : length part ≤ length bytes
-        print-fits = let h = fits in rw text-is (omega arith)
-
-        pub print-done : (bytes' : List ℕ) (r : ℕ) → r ≡ length part → bytes' ≡ take (length part) part ++ drop (length part) bytes → PrintedInto links cells n bytes bytes' r
+        pub print-done : (text bytes' : List ℕ) → text ≡ drop page.at page.bytes → bytes' ≡ text ++ drop (length text) bytes
+            → PrintedInto links cells n bytes bytes' (length text)
         unfolding printed_bytes
-        print-done bytes' r e b =
+        print-done text bytes' t b =
             let q = le-leb _ _ fits in
-            record { answer = rw (so, q) (e ∙ ap length text-is); filled = rw (so, q) (b ∙ rw (take-length, text-is) refl) }
+            let e : text ≡ entry_text links cells n = t ∙ w.text in
+            record { answer = rw (so, q) (ap length e); filled = rw (so, q) (rw e at b) }
 
   pub print-wrong : (can : Bool) → can ≡ can_print links cells n → can ≡ false → (bytes : List ℕ) → PrintedInto links cells n bytes bytes 0
   unfolding printed_bytes

@@ -1,6 +1,6 @@
 -- What the measured functions answer, as one number, and what they leave in lent memory. Where the arguments are out of range the answer is 0
 -- and nothing is written. Assumes nothing: these are definitions.
-use Rattle.std.specs.Prelude.{◌≡◌, Bool, false, cond, ◌&&◌, List, [], ◌++◌, ℕ, ◌+◌, ◌*◌, ◌-◌, ◌%◌, min, leb, ltb, ℤ, length, get_or, drop}
+use Rattle.std.specs.Prelude.{◌≡◌, Bool, false, cond, ◌&&◌, List, [], ◌++◌, ℕ, ◌+◌, ◌*◌, ◌-◌, ◌%◌, min, leb, ltb, ℤ, length, get_or, drop, Result, Ok, Err}
 use Rattle.language.specs.Limits.{text_bytes, text_parts, table_entries, table_readings}
 use Rattle.layout.specs.Links.{table_cells}
 use Rattle.layout.specs.Memory.{node_at}
@@ -14,7 +14,8 @@ use Rattle.schedule.specs.Works.{Work, work_of, worked}
 use Rattle.descent.specs.Descent.{read_into}
 use Rattle.reader.specs.Results.{answer_of, no_binders}
 use Rattle.reader.specs.declared.answer.Read.{Read}
-use Rattle.reader.specs.declared.answer.Read.TheVariants.{Done, Refused}
+use Rattle.language.specs.declared.refusals.Refused.{Refused}
+use Rattle.language.specs.Refusals.{refusal_number}
 use Rattle.printing.specs.Printed.{text_of}
 use Rattle.writer.specs.Writing.{form_in}
 
@@ -23,9 +24,9 @@ abbrev pub flag : Bool → ℕ
 flag b = cond b 1 0
 
 -- reading: the number of parts and the number of records, or the refusal and its place
-abbrev pub read_number : Read → ℕ
-read_number (Done parts records root) = 65536 * parts + records
-read_number (Refused number place) = 4294967296 * number + place % 65536
+abbrev pub read_number : Result Read Refused → ℕ
+read_number (Ok a) = 65536 * a.parts + a.records
+read_number (Err e) = 4294967296 * refusal_number e.refusal + e.place % 65536
 
 -- the answer, and each cell of the two arrays
 pub record ReadInto (text R P : List ℕ) (r : ℕ) (R' P' : List ℕ) : Type 0 where

@@ -1,8 +1,7 @@
 // The parts of the engine that benchmarks measure by themselves, exported under plain names. The watch links none of this.
 #![tactic(auto)]
 
-ghost use Rattle.std.specs.Prelude.{◌≡◌, true, [], ◌-◌};
-ghost use Rattle.language.specs.Limits.{text_bytes};
+ghost use Rattle.std.specs.Prelude.{◌≡◌, true, []};
 ghost use Rattle.members.specs.declared.Member.TheVariants as Members;
 ghost use Rattle.values.specs.Packing.{pack_of};
 ghost use Rattle.rules.specs.Rules.{of_window, on_window};
@@ -12,7 +11,8 @@ ghost use Rattle.measured.specs.Measures.{flag, read_number, ReadInto, can_bind,
 
 use binder::bind;
 use language::limits::{Table, Text};
-use layout::cells::{TABLE_CELLS, at16};
+use language::refusals::Refused;
+use layout::cells::{TABLE_CELLS, get_or};
 use layout::nodes::TEXT_WORDS;
 use members::Member;
 use reader::answer::Read;
@@ -22,7 +22,7 @@ use table::entries::nodes_right;
 use table::{chain, check};
 use values::packing::pack;
 use values::{stretches, windows};
-use writer::put::STOPPED;
+use writer::page::Page;
 use writer::write::write;
 
 // The sum of a window, as a packed value.
@@ -58,16 +58,12 @@ pub extern "C" fn measured_best_sum(readings: &[i32], start: u16, length: u16, w
 }
 
 // What reading a text came to, as one number.
-fn read_number(r: Read) -> u64
+fn read_number(r: Result<Read, Refused>) -> u64
     ensures { result ≡ read_number r }
 {
     match r {
-        Read::Done {
-            parts,
-            records,
-            root: _,
-        } => 65536 * parts as u64 + records as u64,
-        Read::Refused { number, place } => 4294967296 * number as u64 + place as u64 % 65536,
+        Ok(a) => 65536 * a.parts as u64 + a.records as u64,
+        Err(e) => 4294967296 * u32::from(e.refusal) as u64 + e.place as u64 % 65536,
     }
 }
 
@@ -86,7 +82,7 @@ pub extern "C" fn measured_read(
 fn flag(b: bool) -> u64
     ensures { result ≡ flag b }
 {
-    if b { 1 } else { 0 }
+    b as u64
 }
 
 // Whether a cache is well-formed: 1 for yes.
@@ -101,11 +97,8 @@ pub extern "C" fn measured_well_formed(heads: &[u32], links: &[u16], cells: &[u6
 fn can_bind(links: &[u16], cells: &[u64], count: u16, n: u16) -> bool
     ensures { result ≡ can_bind links.now cells.now count n }
 {
-    if count as usize <= Table::ENTRIES {
-        return ((1 <= n) & (n as usize <= Text::PARTS))
-            & chain::distinct_nodes(links, cells, count);
-    }
-    false
+    count as usize <= Table::ENTRIES
+        && (1 <= n) & (n as usize <= Text::PARTS) & chain::distinct_nodes(links, cells, count)
 }
 
 // The test alone, which is part of the measure of binding.
@@ -139,7 +132,7 @@ pub extern "C" fn measured_bind(
         let mut numbers = [0u16; Text::PARTS];
         let mut copied = *records;
         let total = bind::bind(links, cells, count, &mut copied, n, &mut numbers);
-        return bound_number(total, at16(&numbers, n as usize - 1));
+        return bound_number(total, get_or(&numbers, n as usize - 1, 0));
     }
     0
 }
@@ -156,11 +149,7 @@ fn can_work(readings: &[i32], cells: &[u64], entry: u16) -> bool
 fn packed_work(count: u32, left: bool) -> u64
     ensures { result ≡ packed_work count left }
 {
-    if left {
-        2 * count as u64 + 1
-    } else {
-        2 * count as u64
-    }
+    2 * count as u64 + left as u64
 }
 
 // The work of a preview: twice the number of entries worked out, and 1 more if some are left.
@@ -199,35 +188,18 @@ pub extern "C" fn measured_right(entry: u32, links: &[u16], cells: &[u64]) -> u6
     flag(can_print(entry, links, cells))
 }
 
-// The place in a frame before which there is no room in the lent bytes.
-fn lowest(lent: usize) -> usize
-    ensures { result ≡ text_bytes - lent }
-{
-    if lent < Text::BYTES {
-        return Text::BYTES - lent;
-    }
-    0
-}
-
 // Writes the text of an entry that has one.
 fn print_right(entry: u16, bytes: &mut [u8], links: &[u16], cells: &[u64]) -> u64
     requires { can_print links.now cells.now entry ≡ true }
     ensures { PrintedInto links.now cells.now entry bytes.old bytes.new result }
 {
-    let mut out = [0u8; Text::BYTES];
-    let at = write(
-        links,
-        cells,
-        entry + 1,
-        entry,
-        lowest(bytes.len()),
-        &mut out,
-    );
-    if at == STOPPED {
+    let mut page = Page::new(bytes.len());
+    if write(links, cells, entry + 1, entry, &mut page).is_none() {
         return 0;
     }
-    bytes[..Text::BYTES - at].copy_from_slice(&out[at..]);
-    (Text::BYTES - at) as u64
+    let text = page.text();
+    bytes[..text.len()].copy_from_slice(text);
+    text.len() as u64
 }
 
 // Writes the text of an entry to the lent bytes: how many bytes it has.

@@ -1,4 +1,5 @@
 -- 01, "Members", and 02, T-01: the table of the members, a row for each, in the papers' order. Assumes nothing: these are definitions.
+use Rattle.std.specs.Prelude.{Option, Some, None}
 use Rattle.std.specs.Prelude.{Bool, true, false, ◌&&◌, cond, List, [], ◌∷◌, map, ℕ, ◌*◌, eqb, length, get_or, take, drop}
 use Prim.Native.String.{String}
 use Rattle.language.specs.Limits.{name_bytes}
@@ -10,8 +11,6 @@ use Rattle.members.specs.declared.Kind.TheVariants as Kinds
 use Rattle.members.specs.declared.Signature.{Signature}
 use Rattle.members.specs.declared.Signature.TheVariants.{Numbers, Window, WindowNumber, WindowFunction}
 use Rattle.members.specs.declared.Name.{Name}
-use Rattle.members.specs.declared.Found.{Found}
-use Rattle.members.specs.declared.Found.TheVariants.{Is, Unknown}
 
 -- a member's row: its number, which is its place in the table, its name, and what it is used on and with
 abbrev pub listed : Member → ℕ × String × Signature
@@ -54,13 +53,13 @@ abbrev pub member_number : Member → ℕ
 member_number m = (listed m).0
 
 -- by what was found: what is given for none, and what becomes of a member
-abbrev pub if_member : {A : Type 0} → A → Found → (Member → A) → A
-if_member other (Is m) f = f m
-if_member other Unknown f = other
+abbrev pub if_member : {A : Type 0} → A → Option Member → (Member → A) → A
+if_member other (Some m) f = f m
+if_member other None f = other
 
 -- the member of a number
-unfoldable pub member_at : ℕ → Found
-member_at n = get_or (map Is members) n Unknown
+unfoldable pub member_at : ℕ → Option Member
+member_at n = get_or (map Some members) n None
 
 -- the two lists of bytes are equal
 unfoldable pub same_bytes : List ℕ → List ℕ → Bool
@@ -69,20 +68,20 @@ same_bytes [] (b ∷ w) = false
 same_bytes (a ∷ v) [] = false
 same_bytes (a ∷ v) (b ∷ w) = eqb a b && same_bytes v w
 
-unfoldable pub named_in : List Member → List ℕ → Found
-named_in [] w = Unknown
-named_in (m ∷ ms) w = cond (same_bytes w (spelled m)) (Is m) (named_in ms w)
+unfoldable pub named_in : List Member → List ℕ → Option Member
+named_in [] w = None
+named_in (m ∷ ms) w = cond (same_bytes w (spelled m)) (Some m) (named_in ms w)
 
 -- the member of a name
-unfoldable pub member_of : List ℕ → Found
+unfoldable pub member_of : List ℕ → Option Member
 member_of w = named_in members w
 
 -- none was found
-abbrev pub is_unknown : Found → Bool
+abbrev pub is_unknown : Option Member → Bool
 is_unknown f = if_member true f (λ m. false)
 
 -- how many arguments it takes
-unfoldable pub takes : Found → ℕ
+unfoldable pub takes : Option Member → ℕ
 takes f = if_member 0 f arguments
 
 -- ---- as the code has them: the kinds of what a member is used on and with, each with a number
@@ -123,4 +122,4 @@ unfoldable pub packed_name : List ℕ → Name
 packed_name w = (packed (take name_bytes w), packed (drop name_bytes w), length w)
 
 abbrev pub same_packed : Name → Name → Bool
-same_packed a b = eqb a.2 b.2 && (eqb a.0 b.0 && eqb a.1 b.1)
+same_packed a b = eqb a.0 b.0 && (eqb a.1 b.1 && eqb a.2 b.2)

@@ -3,13 +3,13 @@
 
 ghost use Rattle.std.specs.Prelude.{◌≡◌, false, ◌≤◌, length};
 ghost use Rattle.language.specs.NamesLaws.{Each, Byte};
-ghost use Rattle.members.specs.Members.{listed, arguments_of, receiver_of, argument_of, arguments, spelled, row, member_number, member_at, if_member, member_of};
+ghost use Rattle.members.specs.Members.{listed, arguments, spelled, row, member_number, member_at, if_member, member_of};
 ghost use Rattle.members.specs.Members.{longest_name, packed_name, same_packed};
 
 use language::limits::Text;
 use language::names;
 
-#[derive(Clone, Copy)]
+#[derive(Clone, Copy, Debug, PartialEq, Eq)]
 pub enum Member {
     Add,
     Sub,
@@ -32,7 +32,8 @@ pub enum Member {
 }
 
 // What a member is used on, and with.
-#[derive(Clone, Copy)]
+// Nothing is a row's entry like the others: what a value is and what a member takes are compared by one `==`.
+#[derive(Clone, Copy, Debug, PartialEq, Eq)]
 pub enum Kind {
     Number,
     Window,
@@ -40,14 +41,8 @@ pub enum Kind {
     Nothing,
 }
 
-#[derive(Clone, Copy)]
-pub enum Found {
-    Is(Member),
-    Unknown,
-}
-
 // What a member is used on and with: two numbers, a window alone, a window and a number, or a window and a function.
-#[derive(Clone, Copy)]
+#[derive(Clone, Copy, Debug, PartialEq, Eq)]
 pub enum Signature {
     Numbers,
     Window,
@@ -56,36 +51,37 @@ pub enum Signature {
 }
 
 // A name of at most 16 bytes: its first eight packed, the others packed, and how many there are.
-#[derive(Clone, Copy)]
+#[derive(Clone, Copy, Debug, PartialEq, Eq)]
 pub struct Name(pub u64, pub u64, pub usize);
 
 // How many members there are.
 pub const MEMBERS: usize = 18;
 
-// The member of a number.
-pub fn member_at(n: u8) -> Found
+// The member of a number, if there is one. An `Option`, and no `TryFrom`: an error would say no more than none.
+#[tactic(auto, unfolding(crate::specs::Members::member_at))]
+pub fn member_at(n: u8) -> Option<Member>
     ensures { result ≡ member_at n }
 {
     match n {
-        0 => Found::Is(Member::Add),
-        1 => Found::Is(Member::Sub),
-        2 => Found::Is(Member::Mul),
-        3 => Found::Is(Member::Div),
-        4 => Found::Is(Member::Gt),
-        5 => Found::Is(Member::Eq),
-        6 => Found::Is(Member::Skip),
-        7 => Found::Is(Member::Take),
-        8 => Found::Is(Member::Count),
-        9 => Found::Is(Member::Sum),
-        10 => Found::Is(Member::Min),
-        11 => Found::Is(Member::Max),
-        12 => Found::Is(Member::At),
-        13 => Found::Is(Member::CountWhere),
-        14 => Found::Is(Member::LongestRun),
-        15 => Found::Is(Member::SumBy),
-        16 => Found::Is(Member::BestSum),
-        17 => Found::Is(Member::BestAt),
-        _ => Found::Unknown,
+        0 => Some(Member::Add),
+        1 => Some(Member::Sub),
+        2 => Some(Member::Mul),
+        3 => Some(Member::Div),
+        4 => Some(Member::Gt),
+        5 => Some(Member::Eq),
+        6 => Some(Member::Skip),
+        7 => Some(Member::Take),
+        8 => Some(Member::Count),
+        9 => Some(Member::Sum),
+        10 => Some(Member::Min),
+        11 => Some(Member::Max),
+        12 => Some(Member::At),
+        13 => Some(Member::CountWhere),
+        14 => Some(Member::LongestRun),
+        15 => Some(Member::SumBy),
+        16 => Some(Member::BestSum),
+        17 => Some(Member::BestAt),
+        _ => None,
     }
 }
 
@@ -93,26 +89,7 @@ pub fn member_at(n: u8) -> Found
 pub fn number_of(m: Member) -> u8
     ensures { result ≡ member_number m }
 {
-    match m {
-        Member::Add => 0,
-        Member::Sub => 1,
-        Member::Mul => 2,
-        Member::Div => 3,
-        Member::Gt => 4,
-        Member::Eq => 5,
-        Member::Skip => 6,
-        Member::Take => 7,
-        Member::Count => 8,
-        Member::Sum => 9,
-        Member::Min => 10,
-        Member::Max => 11,
-        Member::At => 12,
-        Member::CountWhere => 13,
-        Member::LongestRun => 14,
-        Member::SumBy => 15,
-        Member::BestSum => 16,
-        Member::BestAt => 17,
-    }
+    m as u8
 }
 
 // The member table: a name and a signature for each member. Reader and evaluator look members up here alone. It goes by cases: a constant
@@ -148,101 +125,59 @@ fn signature_of(m: Member) -> Signature
     ensures { result ≡ (listed m).2 }
 {
     match m {
-        Member::Add => Signature::Numbers,
-        Member::Sub => Signature::Numbers,
-        Member::Mul => Signature::Numbers,
-        Member::Div => Signature::Numbers,
-        Member::Gt => Signature::Numbers,
-        Member::Eq => Signature::Numbers,
-        Member::Skip => Signature::WindowNumber,
-        Member::Take => Signature::WindowNumber,
-        Member::Count => Signature::Window,
-        Member::Sum => Signature::Window,
-        Member::Min => Signature::Window,
-        Member::Max => Signature::Window,
-        Member::At => Signature::WindowNumber,
-        Member::CountWhere => Signature::WindowFunction,
-        Member::LongestRun => Signature::WindowFunction,
-        Member::SumBy => Signature::WindowFunction,
-        Member::BestSum => Signature::WindowNumber,
-        Member::BestAt => Signature::WindowNumber,
-    }
-}
-
-fn signature_arguments(f: Signature) -> u8
-    ensures { result ≡ arguments_of f }
-{
-    match f {
-        Signature::Numbers => 1,
-        Signature::Window => 0,
-        Signature::WindowNumber => 1,
-        Signature::WindowFunction => 1,
-    }
-}
-
-fn signature_receiver(f: Signature) -> Kind
-    ensures { result ≡ receiver_of f }
-{
-    match f {
-        Signature::Numbers => Kind::Number,
-        Signature::Window => Kind::Window,
-        Signature::WindowNumber => Kind::Window,
-        Signature::WindowFunction => Kind::Window,
-    }
-}
-
-fn signature_argument(f: Signature) -> Kind
-    ensures { result ≡ argument_of f }
-{
-    match f {
-        Signature::Numbers => Kind::Number,
-        Signature::Window => Kind::Nothing,
-        Signature::WindowNumber => Kind::Number,
-        Signature::WindowFunction => Kind::Function,
+        Member::Add | Member::Sub | Member::Mul | Member::Div | Member::Gt | Member::Eq => {
+            Signature::Numbers
+        }
+        Member::Count | Member::Sum | Member::Min | Member::Max => Signature::Window,
+        Member::Skip | Member::Take | Member::At | Member::BestSum | Member::BestAt => {
+            Signature::WindowNumber
+        }
+        Member::CountWhere | Member::LongestRun | Member::SumBy => Signature::WindowFunction,
     }
 }
 
 // How many arguments a member takes.
+#[tactic(auto, unfolding(crate::specs::Members::arguments))]
 pub fn arguments(m: Member) -> u8
     ensures { result ≡ arguments m }
 {
-    signature_arguments(signature_of(m))
+    match signature_of(m) {
+        Signature::Window => 0,
+        Signature::Numbers | Signature::WindowNumber | Signature::WindowFunction => 1,
+    }
 }
 
 // What a member is used on.
+#[tactic(auto, unfolding(crate::specs::Members::row))]
 pub fn receiver(m: Member) -> Kind
     ensures { result ≡ (row m).receiver }
 {
-    signature_receiver(signature_of(m))
+    match signature_of(m) {
+        Signature::Numbers => Kind::Number,
+        Signature::Window | Signature::WindowNumber | Signature::WindowFunction => Kind::Window,
+    }
 }
 
 // What a member is used with.
+#[tactic(auto, unfolding(crate::specs::Members::row))]
 pub fn argument(m: Member) -> Kind
     ensures { result ≡ (row m).argument }
 {
-    signature_argument(signature_of(m))
+    match signature_of(m) {
+        Signature::Numbers | Signature::WindowNumber => Kind::Number,
+        Signature::Window => Kind::Nothing,
+        Signature::WindowFunction => Kind::Function,
+    }
 }
 
 // The word's bytes, packed where they stand.
+#[tactic(auto, using(crate::specs::MembersLaws::cut_name))]
 fn packed_name(word: &[u8]) -> Name
     requires { length word.now ≤ longest_name }
     ensures { (result ≡ packed_name word.now) × Each Byte word.now }
 {
-    let size = word.len();
-    if size <= Text::NAME_BYTES {
-        let front = names::pack(word);
-        Name(front, 0, size)
-    } else {
-        let front = names::pack(&word[..Text::NAME_BYTES]);
-        let back = names::pack(&word[Text::NAME_BYTES..]);
-        Name(front, back, size)
-    }
-}
-
-fn is_same(a: Name, b: Name) -> bool
-    ensures { result ≡ same_packed a b }
-{
-    (a.2 == b.2) & ((a.0 == b.0) & (a.1 == b.1))
+    let (front, back) = word.split_at(word.len().min(Text::NAME_BYTES));
+    Name(names::pack(front), names::pack(back), word.len())
 }
 
 // Whether it is the name of member n.
@@ -250,8 +185,8 @@ fn is_named(n: u8, name: Name) -> bool
     ensures { result ≡ if_member false (member_at n) (λ m. same_packed name (packed_name (spelled m))) }
 {
     match member_at(n) {
-        Found::Is(m) => is_same(name, name_of(m)),
-        Found::Unknown => false,
+        Some(m) => name == name_of(m),
+        None => false,
     }
 }
 
@@ -259,19 +194,17 @@ fn is_named(n: u8, name: Name) -> bool
 const LONGEST_NAME: usize = 2 * Text::NAME_BYTES;
 
 // The member of a name.
-pub fn named(word: &[u8]) -> Found
+pub fn named(word: &[u8]) -> Option<Member>
     ensures { result ≡ member_of word.now }
 {
     if LONGEST_NAME < word.len() {
-        return Found::Unknown;
+        return None;
     }
     let name = packed_name(word);
-    let mut n: u8 = 0;
-    while (n as usize) < MEMBERS {
+    for n in 0..MEMBERS as u8 {
         if is_named(n, name) {
             return member_at(n);
         }
-        n += 1;
     }
-    Found::Unknown
+    None
 }

@@ -1,11 +1,12 @@
 -- An engine that implements the model agrees with it over every run of calls. Assumes nothing.
 use Rattle.std.specs.Prelude.{◌≡◌, true, false, cond, ltb, length}
+use Rattle.std.proofs.lemmas.Bool.{false≢true}
 use Rattle.std.proofs.Math.Path.{refl}
 use Rattle.std.proofs.Common.{sym, ap, ◌∙◌, ltb-true, ltb-false}
 use mathlib.Core.List.{List, [], ◌∷◌, ◌++◌, map}
 use Rattle.std.proofs.Math.Option.{or_else}
 use Prim.Native.Nat.{ℕ, zero, suc, ◌≤◌}
-use Rattle.language.specs.Cases.{impossible, split}
+use Rattle.language.specs.Cases.{split}
 use Rattle.language.specs.Limits.{table_readings}
 use Rattle.model.specs.Language.{Language}
 use Rattle.model.specs.Model.{Request, Open, Edit, Preview, Print, Answer, opened, lent_after, start, on_open, on_request, respond, said}
@@ -27,8 +28,8 @@ module _ (L : Language) (H : Laws L) (E : Engine L) (I : Implements L H E) where
   pub accepted : (m : Memory) (r : List Reading) → E.says m (Open r) ≡ opened → (E.fits m ≡ true) × (length r ≤ table_readings)
   accepted m r e =
       split (E.fits m)
-      (λ f. (f, split (ltb table_readings (length r)) (λ p. let z = (I.long m r f (ltb-true _ _ p)).0 in impossible (cc)) (λ p. ltb-false _ _ p)))
-      (λ f. impossible (declined (sym (I.short-answer m (Open r) (start L r) f) ∙ e)))
+      (λ f. (f, split (ltb table_readings (length r)) (λ p. let z = (I.long m r f (ltb-true _ _ p)).0 in absurd (false≢true (cc))) (λ p. ltb-false _ _ p)))
+      (λ f. absurd (false≢true (declined (sym (I.short-answer m (Open r) (start L r) f) ∙ e))))
     where
       declined : answer L (start L r) (record { enough = false; request = Open r }) ≡ opened → false ≡ true
       declined z =

@@ -1,12 +1,13 @@
 -- What refusal 4 tests of a cache, number by number, holds of every table that stands for a state of the model. Assumes nothing.
 use Rattle.std.specs.Prelude.{◌≡◌, true}
+use Rattle.std.proofs.lemmas.Bool.{false≢true}
 use Rattle.std.proofs.Math.Path.{refl, sym, ap, subst}
 use Rattle.std.proofs.Common.{◌∙◌, arith}
 use mathlib.Core.List.{List, [], ◌∷◌}
 use Rattle.std.proofs.Math.Option.{some}
 use Prim.Native.Nat.{ℕ, zero, suc}
 use Rattle.std.proofs.Math.ListN.{get_elem?}
-use Rattle.language.specs.Cases.{impossible, split}
+use Rattle.language.specs.Cases.{split}
 use Rattle.model.specs.Language.{Language}
 use Rattle.model.specs.ListLaws.{nth-below, nth-has, nth-map, all-nth, index-nth}
 use Rattle.model.specs.Model.{Entry, State, forms, marked}
@@ -30,7 +31,7 @@ module _ (L : Language) (H : Laws L) where
       → ((i : ℕ) (x : Entry L) → get_elem? es i ≡ some x → (j : ℕ) × (get_elem? all j ≡ some x)) → Settled L pre es
       → (i : ℕ) (e : Entry L) → get_elem? es i ≡ some e → marked L e ≡ true → (d : Form) → dependency d e.form ≡ true → DoneAt d all
   unfolding done_in
-  settled-nth pre [] all old new st i e h m d q = impossible (cc)
+  settled-nth pre [] all old new st i e h m d q = absurd (false≢true (cc))
   settled-nth pre (x ∷ xs) all old new st zero e h m d q =
       let z : e ≡ x = cc in
       old d (st.0 (subst (λ (y : Entry L). marked L y ≡ true) z m) d (subst (λ (y : Entry L). dependency d y.form ≡ true) z q))
@@ -72,7 +73,7 @@ module _ (L : Language) (H : Laws L) where
         let fx = form-at j x.0 x.1 in
         let dep = (linked L G B ns (forms L s.entries) st).only p j e.form x.0.form (form-at p e he) (rw hn a) fx in
         let d =
-        settled-nth [] s.entries s.entries (λ c g. impossible g) (λ k y g. (k, g)) i.settled p e he m x.0.form dep in
+        settled-nth [] s.entries s.entries (λ c g. absurd (false≢true g)) (λ k y g. (k, g)) i.settled p e he m x.0.form dep in
         let q : d.number ≡ j = one_place d.number j x.0.form (form-at d.number d.entry d.stands ∙ ap some d.form) fx in
         let y : some d.entry ≡ some x.0 = sym d.stands ∙ ap (get_elem? s.entries) q ∙ x.1 in
         let z : d.entry ≡ x.0 = cc in

@@ -1,13 +1,14 @@
 -- No form is worked out twice since an opening, and the counts in the answers add up to the forms worked out and to the marks.
 -- Assumes nothing.
 use Rattle.std.specs.Prelude.{◌≡◌, Bool}
+use Rattle.std.proofs.lemmas.Bool.{false≢true}
 use Rattle.std.proofs.Math.Path.{refl, sym, ap}
 use Rattle.std.proofs.Common.{◌∙◌, arith, length-append}
 use Rattle.std.proofs.Math.Bool.{true, false, cond}
 use mathlib.Core.List.{List, [], ◌∷◌, ◌++◌, map}
 use Prim.Native.Nat.{ℕ, zero, suc, ◌+◌, ◌≤◌}
 use Rattle.std.proofs.Math.ListN.{length}
-use Rattle.language.specs.Cases.{impossible, split}
+use Rattle.language.specs.Cases.{split}
 use Rattle.language.specs.Limits.{table_readings}
 use Rattle.model.specs.Lists.{count_if, firsts, on_firsts, occurrences}
 use Rattle.model.specs.ListLaws.{count-append}
@@ -70,7 +71,7 @@ module _ (L : Language) where
       go (prints n bs t q e) =
           let z = new-same s.entries in
           record { rise = rw (e, answer, next) (omega arith); each = λ f. rw (e, answer, next) (rw z (omega arith)); size = λ q. rw (e, answer, next) (rw z) }
-      go (opens r q z e) = record { rise = rw (e, answer, next); each = λ f. rw (e, answer, next); size = λ o. impossible (sym (rw (e, answer) at o)) }
+      go (opens r q z e) = record { rise = rw (e, answer, next); each = λ f. rw (e, answer, next); size = λ o. absurd (false≢true (sym (rw (e, answer) at o))) }
       go (edits ps t order places whole q l room rd z e) =
           let u = new-hold_all order s.entries in
           let m = marks-hold_all L order s.entries in

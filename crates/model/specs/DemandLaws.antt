@@ -1,10 +1,10 @@
 -- Demand 3 holds of every engine that implements the model: by its agreement with the model over every run of calls, each part of the claim is
 -- what was shown of the model. Assumes nothing.
 use Rattle.std.specs.Prelude.{◌≡◌, true, List, [], map, ℕ, ◌≤◌, length}
+use Rattle.std.proofs.lemmas.Bool.{false≢true}
 use Rattle.std.proofs.Common.{sym, ◌∙◌}
 use Rattle.std.proofs.Math.Option.{some}
 use Rattle.std.proofs.Math.ListN.{get_elem?}
-use Rattle.language.specs.Cases.{impossible}
 use Rattle.language.specs.Limits.{table_readings}
 use Rattle.model.specs.Language.{Language}
 use Rattle.model.specs.ListLaws.{all-nth, index-nth}
@@ -29,7 +29,7 @@ module _ (L : Language) where
   open L use {Reading, Shown, works, shows}
 
   marked-with : (r : List Reading) (e : Entry L) (v : Shown) → Kept L r e → e.mark ≡ some v → (works e.form ≡ true) × (v ≡ shows r e.form)
-  marked-with r e v (bare n) h = impossible (cc)
+  marked-with r e v (bare n) h = absurd (false≢true (cc))
   marked-with r e v (keeps w k) h = (w, cc)
 
 module _ (L : Language) (H : Laws L) (E : Engine L) (I : Implements L H E) where

@@ -1,5 +1,6 @@
 -- What edits and previews do to the entries. Assumes nothing.
 use Rattle.std.specs.Prelude.{◌≡◌, Bool, true, false, not, ◌&&◌, length}
+use Rattle.std.proofs.lemmas.Bool.{false≢true}
 use Rattle.std.proofs.Math.Path.{refl, sym, ap}
 use Rattle.std.proofs.Common.{◌∙◌, subst}
 use Rattle.std.proofs.Math.Bool.{and-eq-true_iff}
@@ -8,7 +9,7 @@ use Prim.Native.Nat.{ℕ, zero, suc, ◌+◌, ◌-◌, ◌≤◌, ◌<◌, min}
 use native.Mathlib.Omega.{arith}
 use borrow.Author.Tests.{not-true}
 use Rattle.std.proofs.lemmas.List.{length-map}
-use Rattle.language.specs.Cases.{impossible, split}
+use Rattle.language.specs.Cases.{split}
 use Rattle.model.specs.Lists.{All, count_if, firsts, on_firsts, member, occurrences, insert, insert_all, Distinct}
 use Rattle.model.specs.ListLaws.{length-snoc, all_append, all-always, all_map, unheld-front, count-append, count_none, count-every}
 use Rattle.model.specs.ListLaws.{count_map, firsts-length, on-map, on-length, on-all, on-count, on-count-less, on-count-more}
@@ -107,7 +108,7 @@ module _ (L : Language) where
 
   settled-append : (pre es : List (Entry L)) (gs : List Form) → Settled L pre es → Settled L pre (es ++ map (unmarked L) gs)
   settled-append pre [] [] s = tt
-  settled-append pre [] (g ∷ gs) s = (λ m d q. impossible m, settled-append (unmarked L g ∷ pre) [] gs tt)
+  settled-append pre [] (g ∷ gs) s = (λ m d q. absurd (false≢true m), settled-append (unmarked L g ∷ pre) [] gs tt)
   settled-append pre (e ∷ es) gs s = (s.0, settled-append (e ∷ pre) es gs s.1)
 
   pub settled-hold_all : (fs : List Form) (es : List (Entry L)) → Settled L [] es → Settled L [] (hold_all L fs es)
@@ -179,13 +180,13 @@ module _ (L : Language) where
 
   pub not-pending : (f : Form) (e : Entry L) → pending L f e ≡ false → reach e.form f ≡ true → done L e ≡ true
   unfolding pending done
-  not-pending f e h q = split (marked L e) (λ p. rw p) (λ p. rw p (split (works e.form) (λ w. impossible (sym (rw (p, w, q) at h))) (λ w. rw w)))
+  not-pending f e h q = split (marked L e) (λ p. rw p) (λ p. rw p (split (works e.form) (λ w. absurd (false≢true (sym (rw (p, w, q) at h)))) (λ w. rw w)))
 
   marks_of-none : (f : Form) (es : List (Entry L)) → member same f (forms L es) ≡ false → marks_of f es ≡ 0
   unfolding count_if member
   marks_of-none f [] h = refl
   marks_of-none f (e ∷ es) h =
-      split (same e.form f) (λ p. impossible (sym (rw p at h)))
+      split (same e.form f) (λ p. absurd (false≢true (sym (rw p at h))))
       (λ p. rw p (split (marked L e) (λ q. rw q (marks_of-none f es (rw p at h))) (λ q. rw q (marks_of-none f es (rw p at h)))))
 
   module _ (T : Tests L) where
@@ -210,7 +211,7 @@ module _ (L : Language) where
         unreached [] h = tt
         unreached (g ∷ gs) h = (
           split (pending L f (unmarked L g))
-              (λ p. impossible (sym h.0 ∙ below-held L T (forms L es) o f g m (is-pending f (unmarked L g) p).below))
+              (λ p. absurd (false≢true (sym h.0 ∙ below-held L T (forms L es) o f g m (is-pending f (unmarked L g) p).below)))
               (λ p. p),
           unreached gs h.1,
         )

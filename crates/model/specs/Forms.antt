@@ -1,11 +1,12 @@
 -- Lists of forms in which dependencies come first. Assumes nothing.
 use Rattle.std.specs.Prelude.{◌≡◌, ◌⊎◌}
+use Rattle.std.proofs.lemmas.Bool.{false≢true}
 use Rattle.std.proofs.Math.Path.{sym, subst}
 use Rattle.std.proofs.Common.{◌∙◌}
 use Rattle.std.proofs.Math.Logic.{inl, inr, ⊎_elim}
 use Rattle.std.proofs.Math.Bool.{true}
 use mathlib.Core.List.{List, [], ◌∷◌, ◌++◌}
-use Rattle.language.specs.Cases.{impossible, split}
+use Rattle.language.specs.Cases.{split}
 use Rattle.model.specs.Lists.{member, insert, insert_all}
 use Rattle.model.specs.Language.{Language}
 use Rattle.model.specs.ListLaws.{member-self, member-tail, insert-by, insert-has, member-insert}
@@ -29,7 +30,7 @@ module _ (L : Language) (T : Tests L) where
   ordered-snoc : (g : Form) (pre fs : List Form) → ((d : Form) → dependency d g ≡ true → (member same d pre ≡ true) ⊎ (member same d fs ≡ true))
       → Ordered L pre fs → Ordered L pre (fs ++ (g ∷ []))
   unfolding member
-  ordered-snoc g pre [] h o = (λ d e. ⊎_elim (λ p. p) (λ p. impossible p) (h d e), tt)
+  ordered-snoc g pre [] h o = (λ d e. ⊎_elim (λ p. p) (λ p. absurd (false≢true p)) (h d e), tt)
   ordered-snoc g pre (x ∷ xs) h o = (
     o.0,
     ordered-snoc g (x ∷ pre) xs
@@ -69,7 +70,7 @@ module _ (L : Language) (T : Tests L) where
   below-either : (pre fs : List Form) → Closed pre → Ordered L pre fs → (h g : Form) → member same h fs ≡ true → reach g h ≡ true
       → (member same g pre ≡ true) ⊎ (member same g fs ≡ true)
   unfolding Closed member
-  below-either pre [] c o h g m e = impossible m
+  below-either pre [] c o h g m e = absurd (false≢true m)
   below-either pre (f ∷ fs) c o h g m e =
       let up : Closed (f ∷ pre) = closed-cons f pre o.0 c in
       let back : member same g (f ∷ pre) ≡ true → (member same g pre ≡ true) ⊎ (member same g (f ∷ fs) ≡ true) =
@@ -81,4 +82,4 @@ module _ (L : Language) (T : Tests L) where
   -- what lies at or below a form held is held
   pub below-held : (fs : List Form) → Ordered L [] fs → (h g : Form) → member same h fs ≡ true → reach g h ≡ true → member same g fs ≡ true
   unfolding Closed member
-  below-held fs o h g m e = ⊎_elim (λ p. impossible p) (λ p. p) (below-either [] fs (λ x y a b. impossible a) o h g m e)
+  below-held fs o h g m e = ⊎_elim (λ p. absurd (false≢true p)) (λ p. p) (below-either [] fs (λ x y a b. absurd (false≢true a)) o h g m e)

@@ -2,12 +2,13 @@
 -- In this crate that dependencies have lower numbers is used here, in Binder and in Sweep; other crates take it from `Placed` `lower`, and from
 -- the table's `first-low` and `second-low`. Assumes nothing.
 use Rattle.std.specs.Prelude.{◌≡◌, Bool, true, cond, ℕ, suc, ◌<◌, eqb, length, get_or}
+use Rattle.std.proofs.lemmas.Bool.{false≢true}
 use Rattle.std.proofs.Math.Path.{refl, sym}
 use Rattle.std.proofs.Common.{ap, ◌∙◌, subst, ⊎_elim, arith}
 use mathlib.Core.List.{List, [], ◌∷◌, ◌++◌, append-nil, append_assoc}
 use Rattle.std.proofs.Math.Option.{Option, none, some}
 use Rattle.std.proofs.Math.ListN.{get_elem?, get_or-append}
-use Rattle.language.specs.Cases.{impossible, split}
+use Rattle.language.specs.Cases.{split}
 use Rattle.model.specs.Lists.{member, index, insert, Distinct}
 use Rattle.model.specs.Language.{Language}
 use Rattle.model.specs.ListLaws.{nth-below, nth-has, nth-front, nth_seam, old_or_last, getD-nth, length-snoc, Equality, member-nth, nth-index, index-nth, index-last}
@@ -168,7 +169,7 @@ module _ (L : Language) (G : Graph L) where
       same-held =
           split (member G.same n ns)
           (λ q. rw q (sym (member-nth T.equality fs (index G.same n ns) form (found q))))
-          (λ q. rw q (sym (split (member L.same form fs) (λ u. impossible (sym q ∙ back u)) (λ u. u))))
+          (λ q. rw q (sym (split (member L.same form fs) (λ u. absurd (false≢true (sym q ∙ back u))) (λ u. u))))
 
       -- finding or appending the node is inserting its form
       pub bind-stands : Stands (cond (member G.same n ns) ns (ns ++ (n ∷ []))) (insert L.same form fs)

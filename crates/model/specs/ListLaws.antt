@@ -1,5 +1,6 @@
 -- Laws of the list definitions and of reading a list by number. Assumes nothing.
 use Rattle.std.specs.Prelude.{◌≡◌, ◌⊎◌, Bool, true, not, length, get_or}
+use Rattle.std.proofs.lemmas.Bool.{false≢true}
 use Rattle.std.proofs.Math.Path.{refl, subst}
 use Rattle.std.proofs.Common.{sym, ap, ◌∙◌, inl, inr, length-append}
 use Rattle.std.proofs.Math.Bool.{false}
@@ -9,13 +10,13 @@ use Prim.Native.Nat.{ℕ, zero, suc, ◌+◌, ◌-◌, ◌≤◌, ◌<◌, min}
 use native.Mathlib.Omega.{arith}
 use Rattle.std.proofs.Math.Decide.{dec_lt}
 use Rattle.std.proofs.Math.ListN.{get_elem?}
-use Rattle.language.specs.Cases.{impossible, split}
+use Rattle.language.specs.Cases.{split}
 use Rattle.model.specs.Lists.{All, count_if, firsts, on_firsts, member, index, insert, insert_all, Distinct}
 
 -- Elements by number.
 module _ {A : Type 0} where
   pub nth-below : (xs : List A) (n : ℕ) (x : A) → get_elem? xs n ≡ some x → n < length xs
-  nth-below [] n x e = impossible (cc)
+  nth-below [] n x e = absurd (false≢true (cc))
   nth-below (y ∷ ys) zero x e = omega arith
   nth-below (y ∷ ys) (suc n) x e = let ih = nth-below ys n x e in omega arith
 
@@ -50,7 +51,7 @@ module _ {A : Type 0} where
       ]
 
   pub getD-nth : (xs : List A) (n : ℕ) (x d : A) → get_elem? xs n ≡ some x → get_or xs n d ≡ x
-  getD-nth [] n x d e = impossible (cc)
+  getD-nth [] n x d e = absurd (false≢true (cc))
   getD-nth (y ∷ ys) zero x d e = cc
   getD-nth (y ∷ ys) (suc n) x d e = getD-nth ys n x d e
 
@@ -59,7 +60,7 @@ module _ {A : Type 0} where
 
 module _ {A B : Type 0} (g : A → B) where
   pub nth-map : (xs : List A) (n : ℕ) (x : A) → get_elem? xs n ≡ some x → get_elem? (map g xs) n ≡ some (g x)
-  nth-map [] n x e = impossible (cc)
+  nth-map [] n x e = absurd (false≢true (cc))
   nth-map (y ∷ ys) zero x e = let z : y ≡ x = cc in ap (λ (w : A). some (g w)) z
   nth-map (y ∷ ys) (suc n) x e = nth-map ys n x e
 
@@ -78,7 +79,7 @@ module _ {A : Type 0} (P : A → Type 0) where
   all_map g (y ∷ ys) h = (h.0, all_map g ys h.1)
 
   pub all-nth : (xs : List A) (n : ℕ) (x : A) → All P xs → get_elem? xs n ≡ some x → P x
-  all-nth [] n x p e = impossible (cc)
+  all-nth [] n x p e = absurd (false≢true (cc))
   all-nth (y ∷ ys) zero x p e = let q : y ≡ x = cc in subst P q p.0
   all-nth (y ∷ ys) (suc n) x p e = all-nth ys n x p.1 e
 
@@ -187,7 +188,7 @@ module _ {A : Type 0} (p : A → Bool) (g : A → A) where
 pub unheld-front : {A : Type 0} (same : A → A → Bool) (x : A) (xs ys : List A) → member same x (xs ++ ys) ≡ false → member same x xs ≡ false
 unfolding member
 unheld-front same x [] ys h = refl
-unheld-front same x (z ∷ zs) ys h = split (same z x) (λ p. impossible (sym (rw p at h))) (λ p. rw p (unheld-front same x zs ys (rw p at h)))
+unheld-front same x (z ∷ zs) ys h = split (same z x) (λ p. absurd (false≢true (sym (rw p at h)))) (λ p. rw p (unheld-front same x zs ys (rw p at h)))
 
 -- The test is equality.
 pub record Equality {A : Type 0} (same : A → A → Bool) : Type 0 where
@@ -204,13 +205,13 @@ module _ {A : Type 0} {same : A → A → Bool} (Q : Equality same) where
   member-tail y x xs h = split (same y x) (λ p. rw p) (λ p. rw p h)
 
   pub member-nth : (xs : List A) (n : ℕ) (x : A) → get_elem? xs n ≡ some x → member same x xs ≡ true
-  member-nth [] n x e = impossible (cc)
+  member-nth [] n x e = absurd (false≢true (cc))
   member-nth (y ∷ ys) zero x e = let q : y ≡ x = cc in subst (λ (z : A). member same x (z ∷ ys) ≡ true) (sym q) (member-self x ys)
   member-nth (y ∷ ys) (suc n) x e = member-tail y x ys (member-nth ys n x e)
 
   pub nth-index : (x : A) (xs : List A) → member same x xs ≡ true → get_elem? xs (index same x xs) ≡ some x
   unfolding member index
-  nth-index x [] h = impossible h
+  nth-index x [] h = absurd (false≢true h)
   nth-index x (y ∷ ys) h = split (same y x) (λ p. rw p (ap some (Q.equal y x p))) (λ p. rw p (nth-index x ys (rw p at h)))
 
   pub index-one : (x y : A) (xs : List A) → member same x xs ≡ true → member same y xs ≡ true → index same x xs ≡ index same y xs → x ≡ y
@@ -222,17 +223,17 @@ module _ {A : Type 0} {same : A → A → Bool} (Q : Equality same) where
   -- without doubles, a number is the index of its element
   pub index-nth : (xs : List A) → Distinct same xs → (n : ℕ) (x : A) → get_elem? xs n ≡ some x → index same x xs ≡ n
   unfolding index
-  index-nth [] d n x e = impossible (cc)
+  index-nth [] d n x e = absurd (false≢true (cc))
   index-nth (y ∷ ys) d zero x e = let q : y ≡ x = cc in rw (subst (λ (z : A). same y z ≡ true) q (Q.self y))
   index-nth (y ∷ ys) d (suc n) x e =
       split (same y x)
-      (λ p. impossible (sym d.0 ∙ subst (λ (z : A). member same z ys ≡ true) (sym (Q.equal y x p)) (member-nth ys n x e)))
+      (λ p. absurd (false≢true (sym d.0 ∙ subst (λ (z : A). member same z ys ≡ true) (sym (Q.equal y x p)) (member-nth ys n x e))))
       (λ p. rw p (ap suc (index-nth ys d.1 n x e)))
 
   -- a list that is extended
   member-old : (x : A) (xs ys : List A) → member same x xs ≡ true → member same x (xs ++ ys) ≡ true
   unfolding member
-  member-old x [] ys h = impossible h
+  member-old x [] ys h = absurd (false≢true h)
   member-old x (y ∷ xs) ys h = split (same y x) (λ p. rw p) (λ p. rw p (member-old x xs ys (rw p at h)))
 
   member-last : (x : A) (xs : List A) → member same x (xs ++ (x ∷ [])) ≡ true
@@ -241,23 +242,23 @@ module _ {A : Type 0} {same : A → A → Bool} (Q : Equality same) where
 
   index-old : (x : A) (xs ys : List A) → member same x xs ≡ true → index same x (xs ++ ys) ≡ index same x xs
   unfolding member index
-  index-old x [] ys h = impossible h
+  index-old x [] ys h = absurd (false≢true h)
   index-old x (y ∷ xs) ys h = split (same y x) (λ p. rw p) (λ p. rw p (ap suc (index-old x xs ys (rw p at h))))
 
   pub index-last : (x : A) (xs : List A) → member same x xs ≡ false → index same x (xs ++ (x ∷ [])) ≡ length xs
   unfolding member index
   index-last x [] h = rw (Q.self x)
-  index-last x (y ∷ ys) h = split (same y x) (λ p. impossible (sym (rw p at h))) (λ p. rw p (ap suc (index-last x ys (rw p at h))))
+  index-last x (y ∷ ys) h = split (same y x) (λ p. absurd (false≢true (sym (rw p at h)))) (λ p. rw p (ap suc (index-last x ys (rw p at h))))
 
   distinct_snoc : (x : A) (xs : List A) → member same x xs ≡ false → Distinct same xs → Distinct same (xs ++ (x ∷ []))
   unfolding member
   distinct_snoc x [] h d = (refl, tt)
   distinct_snoc x (y ∷ ys) h d =
-      split (same y x) (λ p. impossible (sym (rw p at h))) (λ p. (misses ys d.0 p, distinct_snoc x ys (rw p at h) d.1))
+      split (same y x) (λ p. absurd (false≢true (sym (rw p at h)))) (λ p. (misses ys d.0 p, distinct_snoc x ys (rw p at h) d.1))
     where
       misses : (zs : List A) → member same y zs ≡ false → same y x ≡ false → member same y (zs ++ (x ∷ [])) ≡ false
-      misses [] m p = split (same x y) (λ q. impossible (sym p ∙ subst (λ (z : A). same y z ≡ true) (sym (Q.equal x y q)) (Q.self y))) (λ q. rw q)
-      misses (z ∷ zs) m p = split (same z y) (λ q. impossible (sym (rw q at m))) (λ q. rw q (misses zs (rw q at m) p))
+      misses [] m p = split (same x y) (λ q. absurd (false≢true (sym p ∙ subst (λ (z : A). same y z ≡ true) (sym (Q.equal x y q)) (Q.self y)))) (λ q. rw q)
+      misses (z ∷ zs) m p = split (same z y) (λ q. absurd (false≢true (sym (rw q at m)))) (λ q. rw q (misses zs (rw q at m) p))
 
   -- by cases on an insertion: the list is as before, or extended
   pub insert-by : (P : List A → Type 0) (x : A) (xs : List A) → (member same x xs ≡ true → P xs) → (member same x xs ≡ false → P (xs ++ (x ∷ [])))
@@ -302,7 +303,7 @@ module _ {A : Type 0} {same : A → A → Bool} (Q : Equality same) where
 
   pub insert_all-has : (x : A) (ys xs : List A) → member same x ys ≡ true → member same x (insert_all same ys xs) ≡ true
   unfolding insert_all member
-  insert_all-has x [] xs h = impossible h
+  insert_all-has x [] xs h = absurd (false≢true h)
   insert_all-has x (y ∷ ys) xs h =
       split (same y x)
       (λ p. member-insert_all x ys (insert same y xs) (subst (λ (z : A). member same x (insert same z xs) ≡ true) (sym (Q.equal y x p)) (insert-has x xs)))

@@ -1,9 +1,10 @@
 -- The invariant holds after an opening and is kept by every call. Assumes nothing.
 use Rattle.std.specs.Prelude.{◌≡◌, ℕ, ◌≤◌, eqb, length}
+use Rattle.std.proofs.lemmas.Bool.{false≢true}
 use Rattle.std.proofs.Math.Bool.{false≢true}
 use mathlib.Core.List.{List, [], ◌∷◌}
 use Rattle.std.proofs.Common.{arith}
-use Rattle.language.specs.Cases.{impossible, split}
+use Rattle.language.specs.Cases.{split}
 use Rattle.language.specs.Limits.{text_bytes, table_readings, table_entries}
 use Rattle.model.specs.Lists.{All, member}
 use Rattle.model.specs.ListLaws.{distinct-insert_all, all-insert_all}
@@ -40,7 +41,7 @@ module _ (L : Language) (H : Laws L) where
         short = i.short;
         sound = i.sound;
         few = h;
-        ordered = rw fh (ordered-insert_all L H.tests [] order (forms L s.entries) text.ordered (λ f z. impossible z) i.ordered);
+        ordered = rw fh (ordered-insert_all L H.tests [] order (forms L s.entries) text.ordered (λ f z. absurd (false≢true z)) i.ordered);
         distinct = rw fh (distinct-insert_all H.tests.equality order (forms L s.entries) i.distinct);
         proper = rw fh (all-insert_all H.tests.equality H.Proper order (forms L s.entries) text.proper i.proper);
         kept = kept-hold_all L s.recording order s.entries i.kept;
@@ -59,7 +60,7 @@ module _ (L : Language) (H : Laws L) where
         distinct = rw fw i.distinct;
         proper = rw fw i.proper;
         kept = kept-work_out L s.recording a f s.entries i.kept;
-        settled = settled-work_out L H.tests s.recording a f [] [] s.entries (λ d z. z) (λ d q z n. impossible z) i.ordered i.settled;
+        settled = settled-work_out L H.tests s.recording a f [] [] s.entries (λ d z. z) (λ d q z n. absurd (false≢true z)) i.ordered i.settled;
       }
 
   pub invariant-next : (s : State L) (c : Call L) → SoundRequest L c.request → Invariant L H s → Invariant L H (next L s c)

@@ -1,6 +1,7 @@
 -- A preview by numbers, second half: going up, each flagged entry that is to be worked out is worked out from the entries as they are then.
 -- That is what the model's preview does. Assumes nothing.
 use Rattle.std.specs.Prelude.{◌≡◌, Bool, false, cond, not, ◌&&◌, length}
+use Rattle.std.proofs.lemmas.Bool.{false≢true}
 use Rattle.std.proofs.Math.Path.{refl, sym, ap}
 use Rattle.std.proofs.Common.{◌∙◌, subst, ⊎_elim}
 use Rattle.std.proofs.Math.Bool.{true}
@@ -10,7 +11,7 @@ use Prim.Native.Nat.{ℕ, zero, suc, ◌+◌, ◌≤◌, ◌<◌}
 use native.Mathlib.Omega.{arith}
 use Rattle.std.proofs.Math.ListN.{get_elem?}
 use Rattle.std.proofs.Math.Seq.{append_snoc}
-use Rattle.language.specs.Cases.{impossible, split}
+use Rattle.language.specs.Cases.{split}
 use Rattle.model.specs.Lists.{All, count_if, on_firsts}
 use Rattle.model.specs.Language.{Language}
 use Rattle.model.specs.ListLaws.{nth-front, nth_seam, nth-map, old_or_last, length-snoc, all_append, count-none-nth, on-zero, on_none}
@@ -164,7 +165,7 @@ module _ (L : Language) (H : Laws L) (G : Graph L) (B : GraphLaws L G) (s : Stat
             let z =
             sym (reached j x h)
             ∙ above L (forms L s.entries) (links_at L G ns) H.tests (linked L G B ns (forms L s.entries) st) n f e j (omega arith) in
-            split (pending L f x) (λ p. impossible (sym z ∙ (is-pending L f x p).below)) (λ p. p);
+            split (pending L f x) (λ p. absurd (false≢true (sym z ∙ (is-pending L f x p).below))) (λ p. p);
       }
 
   -- how many are to be worked out
@@ -176,4 +177,4 @@ module _ (L : Language) (H : Laws L) (G : Graph L) (B : GraphLaws L G) (s : Stat
       → upward L (needed L G ns n) value k 0 a s.entries ≡ work_out L s.recording a f s.entries
   works-as-model value v a =
       upward-work_out L (needed L G ns n) H.tests s.recording (forms L s.entries) value v f k a
-      [] s.entries flagged refl tt i.kept (λ z j x g q. impossible (cc))
+      [] s.entries flagged refl tt i.kept (λ z j x g q. absurd (false≢true (cc)))

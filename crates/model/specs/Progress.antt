@@ -1,5 +1,6 @@
 -- A repeated preview is finished in time, whatever but an opening comes between. Assumes nothing.
 use Rattle.std.specs.Prelude.{◌≡◌, refl, true, false, cond, ◌&&◌, ℕ, suc, ◌+◌, ◌-◌, ◌*◌, ◌/◌, ◌≤◌, ◌<◌, min, eqb}
+use Rattle.std.proofs.lemmas.Bool.{false≢true}
 use Rattle.std.proofs.Common.{sym, ap, ◌∙◌, suc-mul, div-lt_iff_lt-mul, eqb-true}
 use Rattle.std.proofs.Math.Bool.{and-eq-true_iff}
 use mathlib.Core.List.{List, [], ◌∷◌}
@@ -7,7 +8,7 @@ use Rattle.std.proofs.Math.Option.{some}
 use Rattle.std.proofs.Math.Nat.{add-mul}
 use native.Mathlib.Omega.{arith}
 use Rattle.std.proofs.Math.ListN.{get_elem?}
-use Rattle.language.specs.Cases.{impossible, split}
+use Rattle.language.specs.Cases.{split}
 use Rattle.model.specs.ListLaws.{member-nth, nth-insert_all}
 use Rattle.model.specs.Language.{Language}
 use Rattle.model.specs.Model.{State, forms, Preview, Call, Answer, finished, Outcome, left, work_out, said}
@@ -77,7 +78,7 @@ module _ (L : Language) where
         go : Step L s c → Later n a f s (next L s c) (turn n a c (answer L s c))
         go (declines m at four x) = record { form = rw (x, next) e; recording = rw (x, next); fewer = rw (x, answer, next) (omega arith) }
         go (prints m bs t q x) = record { form = rw (x, next) e; recording = rw (x, next); fewer = rw (x, answer, next) (omega arith) }
-        go (opens r q z x) = impossible (sym (rw (x, answer) at o))
+        go (opens r q z x) = absurd (false≢true (sym (rw (x, answer) at o)))
         go (edits ps t order places whole q l room rd z x) =
             let fh = forms-hold_all L order s.entries in
             let same_left = left-hold_all L H.tests f order s.entries i.ordered (member-nth H.tests.equality (forms L s.entries) n f e) in
@@ -104,7 +105,7 @@ module _ (L : Language) where
     unfolding after answers previews_of no_opening
     later-run n a f s [] sent i e q = record { form = e; recording = refl; fewer = let z : 0 * a ≡ 0 = omega arith in omega arith }
     later-run n a f s (c ∷ cs) sent i e q =
-        split (said L (answer L s c)).opening (λ p. impossible (rw p at q))
+        split (said L (answer L s c)).opening (λ p. absurd (false≢true (rw p at q)))
         (λ p.
         let one = later-step n a f s c i e p in
         let more = later-run n a f (next L s c) cs sent.1 (invariant-next L H s c sent.0 i) one.form (rw p at q) in
@@ -137,10 +138,10 @@ module _ (L : Language) where
     finished-is s c n a f k v q e x = go (step L H s c)
       where
         go : Step L s c → Finished f s.recording (next L s c) v
-        go (declines m at four y) = let u = rw (y, answer) at x in impossible (cc)
-        go (opens r y z w) = impossible (cc)
-        go (prints m bs t y w) = impossible (cc)
-        go (edits ps t order places whole y l room rd z w) = impossible (cc)
+        go (declines m at four y) = let u = rw (y, answer) at x in absurd (false≢true (cc))
+        go (opens r y z w) = absurd (false≢true (cc))
+        go (prints m bs t y w) = absurd (false≢true (cc))
+        go (edits ps t order places whole y l room rd z w) = absurd (false≢true (cc))
         go (previews m b g y z w) =
             let nm : n ≡ m = cc in
             let z' : get_elem? (forms L s.entries) n ≡ some g = ap (get_elem? (forms L s.entries)) nm ∙ z in
@@ -148,7 +149,7 @@ module _ (L : Language) where
             let u = rw (w, answer) at x in
             split (eqb (left L g (work_out L s.recording b g s.entries)) 0)
             (λ p. let t = rw p at u in record { shown = cc; none_left = rw (w, next) (rw (← gf) (eqb-true _ _ p)) })
-            (λ p. let t = rw p at u in impossible (cc))
+            (λ p. let t = rw p at u in absurd (false≢true (cc)))
 
     -- work is kept: after a finished preview, until an opening, no later one of that number works anything out
     pub work-kept : (s : State L) (c : Call L) (n b : ℕ) (f : Form) (k : ℕ) (v : Shown) → c.request ≡ Preview n b

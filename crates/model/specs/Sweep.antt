@@ -1,5 +1,6 @@
 -- A preview by numbers, first half: flags spread from number n down to its dependencies mark just what lies at or below n. Assumes nothing.
 use Rattle.std.specs.Prelude.{◌≡◌, Bool, false, cond, List, eqb}
+use Rattle.std.proofs.lemmas.Bool.{false≢true}
 use Rattle.std.proofs.Math.Path.{refl, sym, subst}
 use Rattle.std.proofs.Common.{ap, ◌∙◌, ⊎_elim, eqb-true, eq-eqb, ne_eqb}
 use Rattle.std.proofs.Math.Bool.{true}
@@ -8,7 +9,7 @@ use Prim.Native.Nat.{ℕ, zero, suc, ◌≤◌, ◌<◌}
 use native.Mathlib.Omega.{arith}
 use Rattle.std.proofs.Math.Decide.{dec_lt}
 use Rattle.std.proofs.Math.ListN.{get_elem?}
-use Rattle.language.specs.Cases.{impossible, split}
+use Rattle.language.specs.Cases.{split}
 use Rattle.model.specs.Lists.{member, Distinct}
 use Rattle.model.specs.Language.{Language}
 use Rattle.model.specs.ListLaws.{nth-below, nth-has, getD-nth, index-nth}
@@ -106,7 +107,7 @@ module _ (L : Language) (fs : List L.Form) (links : ℕ → List ℕ) where
         let z = sweep-complete (suc n) n f g (omega arith) (omega arith) top at_n p in
         let q : z.0 ≡ i = sym (index-nth T.equality fs distinct z.0 g z.2) ∙ index-nth T.equality fs distinct i g e in
         rw p (subst (λ (x : ℕ). flags links n x ≡ true) q z.1))
-        (λ p. rw p (split (flags links n i) (λ t. impossible (sym p ∙ sweep_sound (suc n) (λ (j : ℕ). eqb j n) (omega arith) first i g e t)) (λ t. t)))
+        (λ p. rw p (split (flags links n i) (λ t. absurd (false≢true (sym p ∙ sweep_sound (suc n) (λ (j : ℕ). eqb j n) (omega arith) first i g e t))) (λ t. t)))
       where
         first : (j : ℕ) (d : Form) → get_elem? fs j ≡ some d → eqb j n ≡ true → reach d f ≡ true
         first j d e' t =
@@ -133,12 +134,12 @@ module _ (L : Language) (G : Graph L) (B : GraphLaws L G) (ns : List G.Node) (fs
       }
     where
       lower : (i j : ℕ) (m : Option Node) → get_elem? ns i ≡ m → among j (links_of L G m) ≡ true → j < i
-      lower i j none q h = impossible h
+      lower i j none q h = absurd (false≢true h)
       lower i j (some n) q h = (st.placed i n q).lower j h
 
       only : (i j : ℕ) (f d : Form) → get_elem? fs i ≡ some f → get_elem? fs j ≡ some d → (m : Option Node) → get_elem? ns i ≡ m
           → among j (links_of L G m) ≡ true → dependency d f ≡ true
-      only i j f d e x none q h = impossible h
+      only i j f d e x none q h = absurd (false≢true h)
       only i j f d e x (some n) q h =
           let g = st.form i n q in
           let y : build n (form_at L G fs) ≡ f = cc in

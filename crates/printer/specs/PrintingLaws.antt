@@ -1,31 +1,35 @@
 -- Laws of print, each with a premise for every call and test on the code's way: what the text would be read as, and the answers.
 -- Assumes nothing.
 use Rattle.std.proofs.Math.Path.{◌≡◌, refl}
-use Rattle.std.proofs.Common.{sym, ap, ◌∙◌, arith, length-take, length-drop}
-use Rattle.std.specs.Prelude.{true, false, List, [], ◌++◌, ℕ, ◌+◌, ◌-◌, ◌≤◌, ◌<◌, ◌%◌, min, eqb, ltb, ℤ, length, get_or, take, drop}
+use Rattle.std.proofs.lemmas.Bool.{false≢true}
+use Rattle.std.proofs.Common.{sym, ap, ◌∙◌, arith, length-drop}
+use Rattle.std.specs.Prelude.{true, false, List, [], ◌++◌, ℕ, ◌+◌, ◌-◌, ◌≤◌, ◌<◌, ◌%◌, min, eqb, ltb, ℤ, length, get_or, drop}
 use borrow.Author.Tests.{eqb-true, eqb-false, ne_eqb, lt-ltb, le-ltb, ltb-true, ltb-false}
-use Rattle.std.proofs.Math.Seq.{take-length}
-use Rattle.language.specs.Cases.{impossible, split}
+use Rattle.language.specs.Cases.{split}
 use Rattle.language.specs.Limits.{text_bytes, table_entries}
 use Rattle.grammar.specs.Reading.{Reading, tree}
 use Rattle.grammar.specs.Machine.{read_text}
 use Rattle.meaning.specs.Forms.{Form, same}
 use Rattle.meaning.proofs.FormsLaws.{same-exactly}
 use Rattle.meaning.specs.Binding.{form_of}
-use Rattle.model.specs.Model.{refused, rejects, reads_as, printing, filled}
+use Rattle.model.specs.Model.{rejects, reads_as, printing, filled}
 use Rattle.formulas.specs.Formulas.{parsed, formulas}
 use Rattle.layout.specs.Memory.{Memory, memory, fits, entry_count}
 use Rattle.table.specs.EntryForms.{forms_of}
 use Rattle.table.specs.WellFormed.{well_formed}
 use Rattle.table.specs.CheckedLaws.{nodes-are}
 use Rattle.binder.specs.AppendedLaws.{well-parts}
-use Rattle.interface.specs.declared.answers.Printed.{Printed}
-use Rattle.interface.specs.declared.answers.Printed.TheVariants.{Done, Refused}
+use Rattle.std.specs.Prelude.{Result, Ok, Err, IsErrAnd}
+use Rattle.std.proofs.lemmas.Result.{err_from_is_err_and}
+use Rattle.language.specs.declared.refusals.Refusal.{Refusal}
+use Rattle.language.specs.declared.refusals.Refusal.TheVariants.{MemoryTooSmall, CacheIllFormed, NoSuchEntry, TextUnfit}
+use Rattle.language.specs.Refusals.{refusal_number}
+use Rattle.language.specs.RefusalsLaws.{refusal-some}
 use Rattle.interface.specs.Calls.{form_at, print_answer}
 use Rattle.interface.specs.Effects.{Prints}
 use Rattle.planner.specs.Ready.{any-readings}
 use Rattle.demand.proofs.PrintedEntries.{entry-printable, entry-saturated}
-use Rattle.calls.specs.Previewing.{refusal, accepted}
+use Rattle.calls.specs.Previewing.{checked, accepted}
 use Rattle.printing.specs.Printed.{text_of}
 use Rattle.printing.specs.Trees.{tree_of}
 use Rattle.printing.proofs.Printable.{Printable}
@@ -33,10 +37,10 @@ use Rattle.printing.proofs.ReadBack.{reads-exactly}
 use Rattle.printing.proofs.FormBack.{form-back}
 use Rattle.printing.specs.Judging.{declined, walked, refusal_of, verdict, Saturated}
 use Rattle.printing.proofs.JudgingLaws.{Finds, walk-finds}
-use Rattle.writer.specs.Putting.{stopped_at}
-use Rattle.writer.specs.Writing.{form_in, Tabled, Writes}
+use Rattle.writer.specs.declared.page.Page.{Page}
+use Rattle.writer.specs.Writing.{form_in, Tabled, Written}
 use Rattle.printer.specs.TabledLaws.{tabled-right}
-use Rattle.printer.specs.Printing.{judged, PrintsHeld}
+use Rattle.printer.specs.Printing.{judged, verdict_number, PrintsHeld}
 
 -- ---- what the text would be read as
 
@@ -65,7 +69,7 @@ module _ (f : Form) (p : Printable f) (s : Saturated f) where
       by (Reading.refused i j) q =
           split (eqb found declined)
           (λ z. rw (z, q))
-          (λ z. let read = (reads-exactly f p (tree_of f)).1 (refl, finds.keeps.0 (eqb-false found declined z)) in impossible (cc))
+          (λ z. let read = (reads-exactly f p (tree_of f)).1 (refl, finds.keeps.0 (eqb-false found declined z)) in absurd (false≢true (cc)))
 
 -- ---- the entries that are written
 
@@ -87,7 +91,7 @@ module _ (m : Memory) (n : ℕ) (bytes : List ℕ) where
   abbrev t : List ℕ
   t = text_of (form_at m n)
 
-  held-long : min (length bytes) text_bytes < length t → PrintsHeld m n bytes bytes (Refused 15)
+  held-long : min (length bytes) text_bytes < length t → PrintsHeld m n bytes bytes (Err TextUnfit)
   unfolding printing filled
   held-long h =
       split (ltb (length bytes) (length t))
@@ -104,100 +108,93 @@ module _ (m : Memory) (n : ℕ) (bytes : List ℕ) where
     brief : ltb text_bytes (length t) ≡ false
     brief = le-ltb text_bytes (length t) (omega arith)
 
-    held-judged : (k : ℕ) → k ≡ judged (form_at m n) t → (k ≡ 0 → ⊥) → PrintsHeld m n bytes bytes (Refused k)
+    held-judged : (e : Refusal) → refusal_number e ≡ judged (form_at m n) t → PrintsHeld m n bytes bytes (Err e)
     unfolding printing filled judged
-    held-judged k e u =
+    held-judged f e =
         split (rejects formulas (parsed (read_text t)))
-        (λ p. let q : k ≡ 15 = rw p at e in record { answer = rw (short, brief, p, q); filled = rw (short, brief, p) })
+        (λ p. let q : refusal_number f ≡ 15 = rw p at e in record { answer = rw (short, brief, p, q); filled = rw (short, brief, p) })
         (λ p. split (reads_as formulas (form_at m n) (parsed (read_text t)))
-        (λ r. absurd (u (rw (p, r) at e)))
-        (λ r. let q : k ≡ 16 = rw (p, r) at e in record { answer = rw (short, brief, p, r, q); filled = rw (short, brief, p, r) }))
+        (λ r. absurd (refusal-some f (rw (p, r) at e)))
+        (λ r. let q : refusal_number f ≡ 16 = rw (p, r) at e in record { answer = rw (short, brief, p, r, q); filled = rw (short, brief, p, r) }))
 
-    held-printed : 0 ≡ judged (form_at m n) t → (bytes' : List ℕ) → bytes' ≡ t ++ drop (length t) bytes → (l : ℕ) → l ≡ length t → PrintsHeld m n bytes bytes' (Done l)
+    held-printed : 0 ≡ judged (form_at m n) t → (bytes' : List ℕ) → bytes' ≡ t ++ drop (length t) bytes → (l : ℕ) → l ≡ length t → PrintsHeld m n bytes bytes' (Ok l)
     unfolding printing filled judged
     held-printed e bytes' b l q =
         split (rejects formulas (parsed (read_text t)))
         (λ p. absurd (let z : ◌≡◌ {A = ℕ} 0 15 = rw p at e in omega arith))
         (λ p. split (reads_as formulas (form_at m n) (parsed (read_text t)))
-        (λ r. record { answer = rw (short, brief, p, r, q); filled = rw (short, brief, p, r) b })
+        (λ r. record { answer = (t, rw (short, brief, p, r), q); filled = rw (short, brief, p, r) b })
         (λ r. absurd (let z : ◌≡◌ {A = ℕ} 0 16 = rw (p, r) at e in omega arith)))
 
--- as the code has them: the text stands at the end of a frame
-module _ (heads links cells bytes : List ℕ) (entry count room low : ℕ) (is : count ≡ get_or heads 0 0) (roomy : room ≡ min (length bytes) text_bytes)
-    (lower : low ≡ text_bytes - room) (at' : ℕ) (out : List ℕ) (w : Writes low (text_of (form_in links cells count entry)) at' out) (rs : List ℤ) where
+-- as the code has them: the text stands at the end of a page that has room for as many bytes as are lent
+module _ (heads links cells bytes : List ℕ) (entry count low : ℕ) (is : count ≡ get_or heads 0 0) (lower : low ≡ text_bytes - length bytes) (rs : List ℤ) where
   abbrev mem : Memory
   mem = memory rs heads links cells
 
   same-form : form_in links cells count entry ≡ form_at mem entry
   same-form = ap (λ (k : ℕ). form_in links cells k entry) is ∙ sym (form_in_lem rs heads links cells entry)
 
-  pub held-stopped : at' ≡ stopped_at → PrintsHeld mem entry bytes bytes (Refused 15)
-  held-stopped e = held-long mem entry bytes (let z = w.stopped e in let q = ap (λ (f : Form). length (text_of f)) same-form in omega arith)
+  pub held-stopped : text_bytes < low + length (text_of (form_in links cells count entry)) → PrintsHeld mem entry bytes bytes (Err TextUnfit)
+  held-stopped h = held-long mem entry bytes (let q = ap (λ (f : Form). length (text_of f)) same-form in omega arith)
 
-  module _ (going : at' ≡ stopped_at → ⊥) where
-    inside : at' ≤ text_bytes
-    inside = let z = w.within in omega arith
-
-    length-is : length (text_of (form_at mem entry)) ≡ text_bytes - at'
-    length-is = sym (ap length (w.written inside ∙ ap text_of same-form)) ∙ length-drop at' out ∙ ap (λ (k : ℕ). k - at') w.whole
-
-    -- the part of the frame from at' on
-    abbrev part : List ℕ
-    part = take (text_bytes - at') (drop at' out)
-
-    text-is : part ≡ text_of (form_at mem entry)
-    text-is =
-        ap (take (text_bytes - at')) (w.written inside ∙ ap text_of same-form) ∙ ap (λ (k : ℕ). take k (text_of (form_at mem entry))) (sym length-is)
-        ∙ take-length (text_of (form_at mem entry))
+  module _ (page : Page) (w : Written low (text_of (form_in links cells count entry)) page) where
+    text-is : drop page.at page.bytes ≡ text_of (form_at mem entry)
+    text-is = w.text ∙ ap text_of same-form
 
     fits-room : length (text_of (form_at mem entry)) ≤ min (length bytes) text_bytes
-    fits-room = let z = w.room inside in let q = length-is in let y = inside in omega arith
+    fits-room =
+        let z = w.room in
+        let q = sym (ap length text-is) ∙ length-drop page.at page.bytes in
+        let l = page.whole in
+        let i = page.inside in
+        omega arith
 
-    module _ (well : well_formed mem ≡ true) (held : entry < get_or heads 0 0) (k : ℕ) (e : k ≡ verdict (form_in links cells count entry)) where
-      judged-is : k ≡ judged (form_at mem entry) (text_of (form_at mem entry))
+    pub copies : length (drop page.at page.bytes) ≤ length bytes
+    copies = let f = fits-room in rw text-is (omega arith)
+
+    module _ (well : well_formed mem ≡ true) (held : entry < get_or heads 0 0) (k : Result (Unit {0}) Refusal)
+        (e : verdict_number k ≡ verdict (form_in links cells count entry)) where
+      judged-is : verdict_number k ≡ judged (form_at mem entry) (text_of (form_at mem entry))
       judged-is = e ∙ ap verdict same-form ∙ verdict-judged (form_at mem entry) (entry-printable mem well entry held) (entry-saturated mem well entry held)
 
-      pub held-refused : (k ≡ 0 → ⊥) → PrintsHeld mem entry bytes bytes (Refused k)
-      held-refused u = held-judged mem entry bytes fits-room k judged-is u
+      pub held-refused : (f : Refusal) → k ≡ Err f → (x : Result ℕ Refusal) → IsErrAnd x (λ g. g ≡ f) → PrintsHeld mem entry bytes bytes x
+      held-refused f u x w =
+          let y = err_from_is_err_and x w in
+          rw (y.1, y.2) (held-judged mem entry bytes fits-room f (rw u at judged-is))
 
-      pub held-done : k ≡ 0 → (bytes' : List ℕ) → bytes' ≡ take (length part) part ++ drop (length part) bytes
-          → PrintsHeld mem entry bytes bytes' (Done (text_bytes - at'))
-      held-done u bytes' b =
-          held-printed mem entry bytes fits-room (sym u ∙ judged-is) bytes' (rw (take-length, text-is) at b) (text_bytes - at') (sym length-is)
-
--- the text has room in the lent bytes, of which there are b
-pub copies : (b room low at' : ℕ) (out t : List ℕ) → room ≡ min b text_bytes → low ≡ text_bytes - room → Writes low t at' out → (at' ≡ stopped_at → ⊥)
-    → length (take (text_bytes - at') (drop at' out)) ≤ b
-copies b room low at' out t q l w n =
-    let k : at' ≤ text_bytes = (let z = w.within in omega arith) in
-    let r = w.room k in
-    let y = w.whole in
-    rw (length-take, length-drop) (omega arith)
+      pub held-done : (done : Unit {0}) → k ≡ Ok done → (text bytes' : List ℕ) → text ≡ drop page.at page.bytes → bytes' ≡ text ++ drop (length text) bytes
+          → (l : ℕ) → l ≡ length text → PrintsHeld mem entry bytes bytes' (Ok l)
+      held-done done u text bytes' t b l q =
+          let z : text ≡ text_of (form_at mem entry) = t ∙ text-is in
+          held-printed mem entry bytes fits-room (rw u at judged-is) bytes' (rw z at b) l (q ∙ ap length z)
 
 -- the whole call
-pub print-refused : (m : Memory) (n : ℕ) (bytes : List ℕ) (r : ℕ) → r ≡ refusal m n → (r ≡ 0 → ⊥) → Prints m n bytes bytes (Refused r)
-unfolding print_answer refusal filled
-print-refused m n bytes r e u =
-    split (fits m)
+pub print-refused : (m : Memory) (n : ℕ) (bytes : List ℕ) (r : Result (Unit {0}) Refusal) → r ≡ checked m n → (e : Refusal) → r ≡ Err e
+    → (x : Result ℕ Refusal) → IsErrAnd x (λ f. f ≡ e) → Prints m n bytes bytes x
+unfolding print_answer checked filled
+print-refused m n bytes r q e u x w =
+    let y = err_from_is_err_and x w in
+    rw (y.1, y.2) (split (fits m)
     (λ f. split (well_formed m)
     (λ w. split (ltb n (entry_count m))
-    (λ l. absurd (u (rw (f, w, l) at e)))
-    (λ l. let q : r ≡ 14 = rw (f, w, l) at e in record { answer = rw (f, w, l, q); filled = rw (f, w, l) }))
-    (λ w. let q : r ≡ 4 = rw (f, w) at e in record { answer = rw (f, w, q); filled = rw (f, w) }))
-    (λ f. let q : r ≡ 3 = rw f at e in record { answer = rw (f, q); filled = rw f })
+    (λ l. absurd (false≢true (let z = rw (f, w, l) at q in cc)))
+    (λ l. let z : e ≡ NoSuchEntry = (let k = rw (f, w, l) at q in cc) in record { answer = rw (f, w, l, z); filled = rw (f, w, l) }))
+    (λ w. let z : e ≡ CacheIllFormed = (let k = rw (f, w) at q in cc) in record { answer = rw (f, w, z); filled = rw (f, w) }))
+    (λ f. let z : e ≡ MemoryTooSmall = (let k = rw f at q in cc) in record { answer = rw (f, z); filled = rw f }))
 
-pub print-done : (m : Memory) (n : ℕ) (bytes bytes' : List ℕ) (x : Printed) (r : ℕ) → r ≡ refusal m n → r ≡ 0 → PrintsHeld m n bytes bytes' x
-    → Prints m n bytes bytes' x
-unfolding print_answer
-print-done m n bytes bytes' x r e z p =
-    let a = accepted m n (sym e ∙ z) in
-    let f = a.whole in
-    let w = a.well in
-    let l = a.held in
-    record { answer = rw (f, w, l) p.answer; filled = rw (f, w, l) p.filled }
+module _ (rs : List ℤ) (heads links cells : List ℕ) (n : ℕ) (r : Result (Unit {0}) Refusal) (e : r ≡ checked (memory rs heads links cells) n)
+    (done : Unit {0}) (z : r ≡ Ok done) where
+  pub print-done : (bytes bytes' : List ℕ) (x : Result ℕ Refusal) → PrintsHeld (memory rs heads links cells) n bytes bytes' x
+      → Prints (memory rs heads links cells) n bytes bytes' x
+  unfolding print_answer
+  print-done bytes bytes' x p =
+      let a = accepted (memory rs heads links cells) n (sym e ∙ z) in
+      let f = a.whole in
+      let w = a.well in
+      let l = a.held in
+      record { answer = rw (f, w, l) p.answer; filled = rw (f, w, l) p.filled }
 
-pub print-ready : (rs : List ℤ) (heads links cells : List ℕ) (n r : ℕ) → r ≡ refusal (memory rs heads links cells) n → r ≡ 0
-    → (n < get_or heads 0 0) × ((xs : List ℤ) → well_formed (memory xs heads links cells) ≡ true) × (get_or heads 0 0 ≤ table_entries)
-print-ready rs heads links cells n r e z =
-    let a = accepted (memory rs heads links cells) n (sym e ∙ z) in
-    (ltb-true n (get_or heads 0 0) a.held, any-readings rs heads links cells a.well, (well-parts (memory rs heads links cells) a.well).few)
+  pub print-ready : (n < get_or heads 0 0) × ((xs : List ℤ) → well_formed (memory xs heads links cells) ≡ true) × (get_or heads 0 0 ≤ table_entries)
+  print-ready =
+      let a = accepted (memory rs heads links cells) n (sym e ∙ z) in
+      (ltb-true n (get_or heads 0 0) a.held, any-readings rs heads links cells a.well, (well-parts (memory rs heads links cells) a.well).few)

@@ -26,6 +26,9 @@ use Rattle.printing.proofs.JudgingLaws.{looked-few, opening-few, walked-few, wal
 use Rattle.demand.proofs.Cells.{name-some}
 use Rattle.writer.specs.NodeTexts.{function-node, ask-node, call-node}
 use Rattle.writer.specs.Writing.{form_in, Tabled}
+use Rattle.std.specs.Prelude.{Ok, Err}
+use Rattle.language.specs.declared.refusals.Refusal.TheVariants.{TextUnfit, OtherForm}
+use Rattle.printer.specs.Printing.{verdict_number}
 use Rattle.printer.specs.declared.judge.Scope.{Scope}
 use Rattle.printer.specs.Walking.{variables, Low, leaf_walked, Walks}
 
@@ -35,9 +38,9 @@ or-none : (b : Bool) → (b || false) ≡ b
 or-none true = refl
 or-none false = refl
 
-pub bound-names : (x : ℕ) (s : Scope) → is_name x ≡ true → Low s → (eqb x s.inner || eqb x s.outer) ≡ has_name x (map name_in (variables s))
+pub bound_names : (x : ℕ) (s : Scope) → is_name x ≡ true → Low s → (eqb x s.inner || eqb x s.outer) ≡ has_name x (map name_in (variables s))
 unfolding variables has_name
-bound-names x s h l =
+bound_names x s h l =
     let n = name-some x h in
     let near = l.0 in
     let far = l.1 in
@@ -76,17 +79,17 @@ module _ (x level : ℕ) (s : Scope) (named : is_name x ≡ true) (low : level <
   only y k h =
       split (eqb x y) (λ e. rw e (first-own y k h (eqb-true x y e) [])) (λ e. rw e (sym (first-other y k h (eqb-false x y e) [])))
 
-  pub own-inner : x ≡ s.inner → eqb level s.near ≡ is_innermost v (variables s)
+  pub own_inner : x ≡ s.inner → eqb level s.near ≡ is_innermost v (variables s)
   unfolding variables
-  own-inner e =
+  own_inner e =
       let n = name-some x named in
       let z : eqb s.inner 0 ≡ false = rw e at n in
       split (eqb s.outer 0) (λ o. rw (o, z) (first-own s.inner s.near l.0 e []))
       (λ o. rw o (first-own s.inner s.near l.0 e (with_level s.outer s.far ∷ [])))
 
-  pub own-outer : (x ≡ s.inner → ⊥) → (eqb x s.outer && eqb level s.far) ≡ is_innermost v (variables s)
+  pub own_outer : (x ≡ s.inner → ⊥) → (eqb x s.outer && eqb level s.far) ≡ is_innermost v (variables s)
   unfolding variables is_innermost
-  own-outer u =
+  own_outer u =
       let n = name-some x named in
       split (eqb s.outer 0)
       (λ o.
@@ -376,15 +379,19 @@ module _ (f : Form) (n : ℕ) (is : n ≡ walked 0 (variables (record { marks = 
   unfolding variables
   answered = ap refusal_of is
 
-  pub verdict-declined : n ≡ declined → 15 ≡ verdict f
+  pub verdict-declined : n ≡ declined → verdict_number (Err TextUnfit) ≡ verdict f
   unfolding refusal_of
   verdict-declined e = sym (rw (eq-eqb n declined e)) ∙ answered
 
   module _ (kept : n ≡ declined → ⊥) where
-    pub verdict-same : n % 2 ≡ 0 → 0 ≡ verdict f
+    pub verdict-same : n % 2 ≡ 0 → verdict_number (Ok tt) ≡ verdict f
     unfolding refusal_of
     verdict-same e = sym (rw (ne_eqb n declined kept, eq-eqb (n % 2) 0 e)) ∙ answered
 
-    pub verdict-other : (n % 2 ≡ 0 → ⊥) → 16 ≡ verdict f
+    pub verdict-other : (n % 2 ≡ 0 → ⊥) → verdict_number (Err OtherForm) ≡ verdict f
     unfolding refusal_of
     verdict-other u = sym (rw (ne_eqb n declined kept, ne_eqb (n % 2) 0 u)) ∙ answered
+
+pub ruleset depths = (depth-two, depth-one, depth-none)
+
+pub ruleset verdicts = (verdict-declined, verdict-same, verdict-other)

@@ -12,13 +12,15 @@ ghost use Rattle.meaning.specs.Evaluation.{has_name};
 ghost use Rattle.printing.specs.Bound.{is_innermost};
 ghost use Rattle.printing.specs.Judging.{declined, counted, looked, opening, admits, admits_function, walked, verdict};
 ghost use Rattle.writer.specs.Writing.{form_in, Tabled};
+ghost use Rattle.printer.specs.Printing.{verdict_number};
 ghost use Rattle.printer.specs.Walking.{variables, Low, leaf_walked};
 
 use language::limits::Text;
+use language::refusals::Refusal;
 use layout::nodes::{Shape, entry_of, node_at};
 
-// What is open around an entry: so many marks, and the functions among them: the inner one's name and level, and the outer one's; a name of 0 is
-// none.
+// What is open around an entry: so many marks, and the functions among them: the inner one's name and level, and the outer one's. A name of 0 is
+// none: no name is 0, so that one comparison looks a name up, whether or not a function is open.
 #[derive(Clone, Copy)]
 pub struct Scope {
     pub marks: u16,
@@ -28,10 +30,12 @@ pub struct Scope {
     pub far: u16,
 }
 
-// The reader would decline the text. Any other finding is twice the parts met, plus 1 if a name was met that would be read as something else.
+// The reader would decline the text. Any other finding is twice the parts met, plus 1 if a name was met that would be read as something else. It is
+// one number, as in the definition of the walk, so that each step's contract is one equation.
 const DECLINED: u16 = 2 * (Text::PARTS as u16 + 1) + 1;
 
 // A part more.
+#[tactic(auto, unfolding(printing::specs::Judging::counted))]
 fn count_part(found: u16) -> u16
     ensures { result ≡ counted found }
 {
@@ -43,6 +47,7 @@ fn count_part(found: u16) -> u16
 }
 
 // A name is met that is read as what it is, or as something else.
+#[tactic(auto, unfolding(printing::specs::Judging::looked))]
 fn look(same: bool, found: u16) -> u16
     requires { found ≤ declined }
     ensures { result ≡ looked same found }
@@ -51,6 +56,7 @@ fn look(same: bool, found: u16) -> u16
 }
 
 // A function of this name is around.
+#[tactic(auto, using(crate::specs::WalkingLaws::bound_names))]
 fn is_bound(x: u64, s: Scope) -> bool
     requires { (is_name x ≡ true) × Low s }
     ensures { result ≡ has_name x (map name_in (variables s)) }
@@ -59,6 +65,7 @@ fn is_bound(x: u64, s: Scope) -> bool
 }
 
 // The innermost function of this name has the level, so that the variable is its own.
+#[tactic(auto, using(crate::specs::WalkingLaws::own_inner, crate::specs::WalkingLaws::own_outer))]
 fn is_own(x: u64, level: u16, s: Scope) -> bool
     requires { (is_name x ≡ true) × (level < open_lambdas) × Low s }
     ensures { result ≡ is_innermost (with_level x level) (variables s) }
@@ -70,6 +77,7 @@ fn is_own(x: u64, level: u16, s: Scope) -> bool
 }
 
 // How many functions are around.
+#[tactic(auto, using(crate::specs::WalkingLaws::depths))]
 fn depth(s: Scope) -> u16
     ensures { result ≡ length (variables s) }
 {
@@ -83,6 +91,7 @@ fn depth(s: Scope) -> u16
 }
 
 // A call's brackets open.
+#[tactic(auto, unfolding(printing::specs::Judging::opening))]
 fn open_call(marks: u16, found: u16) -> u16
     ensures { result ≡ opening (admits marks) (counted found) }
 {
@@ -136,10 +145,7 @@ fn walk(links: &[u16], cells: &[u64], count: u16, entry: u16, s: Scope, found: u
         if n.second != 0 {
             let inside = Scope {
                 marks: s.marks + 1,
-                inner: s.inner,
-                near: s.near,
-                outer: s.outer,
-                far: s.far,
+                ..s
             };
             met = walk(links, cells, count, entry_of(n.second), inside, met);
         }
@@ -164,10 +170,11 @@ fn walk(links: &[u16], cells: &[u64], count: u16, entry: u16, s: Scope, found: u
     walk_leaf(n, s, met)
 }
 
-// The refusal of the text of an entry's form, 0 for none: 15, the reader would decline it; 16, read by itself it would have another form.
-pub fn judge(links: &[u16], cells: &[u64], count: u16, entry: u16) -> u8
+// Whether the text of an entry's form may be printed: 15, the reader would decline it; 16, read by itself it would have another form.
+#[tactic(auto, using(crate::specs::WalkingLaws::verdicts))]
+pub fn judge(links: &[u16], cells: &[u64], count: u16, entry: u16) -> Result<(), Refusal>
     requires { Tabled links.now cells.now count × (entry < count) }
-    ensures { result ≡ verdict (form_in links.now cells.now count entry) }
+    ensures { verdict_number result ≡ verdict (form_in links.now cells.now count entry) }
 {
     let whole = Scope {
         marks: 0,
@@ -178,10 +185,10 @@ pub fn judge(links: &[u16], cells: &[u64], count: u16, entry: u16) -> u8
     };
     let found = walk(links, cells, count, entry, whole, 0);
     if found == DECLINED {
-        return 15;
+        return Err(Refusal::TextUnfit);
     }
-    if found % 2 == 0 {
-        return 0;
+    if found % 2 != 0 {
+        return Err(Refusal::OtherForm);
     }
-    16
+    Ok(())
 }

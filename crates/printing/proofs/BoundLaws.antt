@@ -1,8 +1,8 @@
 -- 02, T-04: the forms of a printed form's tree. The tree's form is the form with its names looked up anew; and since the tree has no let, every
 -- form that it binds is the tree's form or lies below it. Assumes nothing.
 use Rattle.std.specs.Prelude.{◌≡◌, refl, true, List, [], ◌∷◌, ℕ}
+use Rattle.std.proofs.lemmas.Bool.{or_right}
 use Rattle.std.proofs.Common.{eq-eqb}
-use Rattle.language.specs.Cases.{or_right}
 use Rattle.language.specs.Names.{packed, data_word, is_data}
 use Rattle.members.specs.Members.{spelled}
 use Rattle.members.specs.MembersLaws.{name-found}

@@ -5,8 +5,8 @@ use Rattle.std.proofs.Math.Path.{refl}
 use Rattle.std.proofs.Math.Logic.Iff as Iff
 use Rattle.std.proofs.Math.Bool.{true, false, and-eq-true_iff}
 use Rattle.std.proofs.Common.{arith, eqb-true, eq-eqb, ltb-true, ltb-false, lt-ltb}
-use Rattle.std.proofs.lemmas.Bool.{eqb-false, not-true}
-use Rattle.language.specs.Cases.{impossible, split}
+use Rattle.std.proofs.lemmas.Bool.{eqb-false, not-true, false≢true}
+use Rattle.language.specs.Cases.{split}
 use Rattle.language.specs.Limits.{text_parts, open_marks, open_lambdas}
 use Rattle.language.specs.Names.{bytes, data_word, is_data}
 use Rattle.members.specs.Members.{spelled, arguments, takes}
@@ -101,7 +101,7 @@ module _ (c p : ℕ) {n : ℕ} {P Q R C : Type 0} where
   tested : (b : Bool) → (b ≡ true) ↔ P → Says n (R × Q) (c + p) C → Says (opening b (counted n)) ((P × R) × Q) (suc c + p) C
   unfolding opening
   tested true i s = restated (λ h. ((i.0 refl, h.0), h.1), λ h. (h.0.1, h.1)) (omega arith) Iff.rfl (one_more s)
-  tested false i s = broken (λ k. impossible (i.1 k.0.0.0)) refl
+  tested false i s = broken (λ k. absurd (false≢true (i.1 k.0.0.0))) refl
 
   always : P → Says n (R × Q) (c + p) C → Says (counted n) ((P × R) × Q) (suc c + p) C
   unfolding opening
@@ -111,7 +111,7 @@ module _ (c p : ℕ) {n : ℕ} {P Q R C : Type 0} where
 looked-at : {n p : ℕ} {Q C D : Type 0} (b : Bool) → (b ≡ true) ↔ D → Says n Q p C → Says (looked b n) Q p (D × C)
 unfolding looked
 looked-at true i s = restated Iff.rfl refl (λ h. (i.0 refl, h), λ h. h.1) s
-looked-at false i (kept h l d c) = kept h l (omega arith) (λ z. absurd (omega arith), λ k. impossible (i.1 k.0))
+looked-at false i (kept h l d c) = kept h l (omega arith) (λ z. absurd (omega arith), λ k. absurd (false≢true (i.1 k.0)))
 looked-at false i (broken h d) = rw d (broken h refl)
 
 -- ---- the limits at a place, as the walk tests them

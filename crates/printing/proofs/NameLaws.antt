@@ -5,8 +5,8 @@ use Rattle.std.proofs.Common.{sym, ap, ◌∙◌, arith, ne_eqb, ltb-true, ltb-f
 use Rattle.std.proofs.Math.Bool.{and-eq-true_iff}
 use mathlib.Core.List.{List, [], ◌∷◌}
 use mathlib.Mathlib.Data.Bool.Basic.{or-eq-false-eq-eq-false-and-eq-false as neither}
-use Rattle.std.proofs.lemmas.Bool.{eqb-false, not-true}
-use Rattle.language.specs.Cases.{impossible, split}
+use Rattle.std.proofs.lemmas.Bool.{eqb-false, not-true, false≢true}
+use Rattle.language.specs.Cases.{split}
 use Rattle.language.specs.Limits.{name_bytes}
 use Rattle.language.specs.Names.{bytes, is_letter, in_word, pack_onto, packed, let_word, word_in, data_word, is_data}
 use Rattle.language.specs.NamesLaws.{Each, word_byte}
@@ -38,7 +38,7 @@ letter-positive k h = let p = (word_byte k (rw h)).0 in ne_eqb k 0 (λ e. omega 
 
 unpacks : (n k : ℕ) (u : List ℕ) → word_number n k ≡ true → Each (λ b. in_word b ≡ true) u → Unpacks n k u (unpack_onto n k u)
 unfolding word_number unpack_onto pack_onto
-unpacks zero k u h r = impossible h
+unpacks zero k u h r = absurd (false≢true h)
 unpacks (suc n) k u h r =
     split (ltb k 256)
     (λ e.
@@ -114,7 +114,7 @@ all-in-word (b ∷ w) h = let both = (and-eq-true_iff (in_word b) (all_in_word w
 
 is_word_lem : (w : List ℕ) → is_word w ≡ true → IsWord w
 unfolding is_word
-is_word_lem [] h = impossible h
+is_word_lem [] h = absurd (false≢true h)
 is_word_lem (b ∷ w) h =
     let a = (and-eq-true_iff (is_letter b) _).0 h in
     let c = (and-eq-true_iff (all_in_word w) _).0 a.1 in

@@ -1,11 +1,12 @@
 -- A cache that a call accepts, whatever was in it, is accepted by the next call: none leaves a cache that refusal 4 declines or that no longer
 -- fits. And a preview of any cache works out as many entries as it says. Assumes nothing.
 use Rattle.std.specs.Prelude.{◌≡◌, true, ◌&&◌, ◌↔◌, List, ℕ, ◌+◌, leb, ltb, ℤ, length}
+use Rattle.std.proofs.lemmas.Bool.{false≢true}
 use Rattle.std.proofs.Common.{sym, ap, ◌∙◌, arith, ltb-true, ltb-false}
 use Rattle.std.proofs.Math.Bool.{and-eq-true_iff}
 use Rattle.std.proofs.Math.Logic.Iff as Iff
 use Rattle.language.specs.Limits.{text_bytes, text_parts, table_readings}
-use Rattle.language.specs.Cases.{impossible, split}
+use Rattle.language.specs.Cases.{split}
 use Rattle.grammar.specs.Grammar.{Expression}
 use Rattle.grammar.specs.Reading.{tree}
 use Rattle.grammar.specs.Machine.{read_text}
@@ -21,6 +22,7 @@ use Rattle.records.specs.Records.{records_of}
 use Rattle.schedule.specs.Works.{Work}
 use Rattle.interface.specs.Acceptance.{IsEdited}
 use Rattle.interface.proofs.AcceptanceLaws as Acceptance
+use Rattle.std.specs.Prelude.{Ok}
 use Rattle.interface.specs.Calls.{open_answer, open_memory, opened_memory, bound_to, edit_answer, edit_memory, work_on, worked_memory, previewed_as, previewed, preview_answer, preview_memory}
 use Rattle.interface.specs.Answers.{preview_reply}
 use Rattle.demand.proofs.Appended.{lengths, long-enough}
@@ -43,13 +45,13 @@ open-fits m r =
 pub open-well : (m : Memory) (r : List ℤ) → open_answer m r ≡ opened → well_formed (open_memory m r) ≡ true
 unfolding open_answer open_memory
 open-well m r h =
-    split (ltb table_readings (length r)) (λ p. impossible (let z : refused 2 0 ≡ opened = rw p at h in cc))
+    split (ltb table_readings (length r)) (λ p. absurd (false≢true (let z : refused 2 0 ≡ opened = rw p at h in cc)))
     (λ p. split (fits m)
     (λ q.
     let short = ltb-false table_readings (length r) p in
     let n = count-readings m r (lengths m q) short in
     rw (p, q) (well-empty (opened_memory m r) (count-zero m r (lengths m q) short) (omega arith)))
-    (λ q. impossible (let z : refused 3 0 ≡ opened = rw (p, q) at h in cc)))
+    (λ q. absurd (false≢true (let z : refused 3 0 ≡ opened = rw (p, q) at h in cc))))
 
 -- ---- edit
 
@@ -119,5 +121,5 @@ preview-rise m n a sound =
     (λ w. rw (f, w) (omega arith)))
     (λ f. rw f (omega arith))
   where
-    says : (w : Work) → (said formulas (preview_reply (previewed_as m n w))).worked ≡ w.count
+    says : (w : Work) → (said formulas (preview_reply (Ok (previewed_as m n w)))).worked ≡ w.count
     says w = split w.left (λ p. rw p) (λ p. rw p)

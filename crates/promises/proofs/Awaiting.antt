@@ -1,8 +1,9 @@
 -- The paper's delayed previews (Figure 5): which variables a form awaits, that a form with a free lambda variable is delayed or missing, and that
 -- one which is delayed has one. And a run of a function puts the number for its variable in the body. Assumes nothing.
 use Rattle.std.specs.Prelude.{◌≡◌, refl, ◌↔◌, ◌⊎◌, Bool, true, false, ◌||◌, List, map, ℕ, ℤ, pos}
+use Rattle.std.proofs.lemmas.Bool.{or_right, false≢true}
 use Rattle.std.proofs.Common.{sym, ap, ◌∙◌, inl, inr}
-use Rattle.language.specs.Cases.{or_right, impossible, split}
+use Rattle.language.specs.Cases.{split}
 use Rattle.members.specs.declared.Member.{Member}
 use Rattle.rules.specs.declared.Value.{Value}
 use Rattle.rules.specs.declared.Value.TheVariants.{Number, Window, Function, Delayed, Missing}
@@ -50,14 +51,14 @@ late0 : (m : Member) (xs : List ℤ) (v : Value) → late v ≡ true → late (a
 unfolding apply0
 late0 m xs v h =
     split (is_missing v) (λ p. rw p (rw p))
-    (λ p. split (is_delayed v) (λ q. rw (p, q)) (λ q. impossible (rw (p, q) at h)))
+    (λ p. split (is_delayed v) (λ q. rw (p, q)) (λ q. absurd (false≢true (rw (p, q) at h))))
 
 late1 : (m : Member) (xs : List ℤ) (v w : Value) (run : ℤ → Value) → (late v || late w) ≡ true → late (apply1 m xs v w run) ≡ true
 unfolding apply1
 late1 m xs v w run h =
     split (is_missing v) (λ p. rw p (rw p))
     (λ p. split (is_missing w) (λ q. rw (p, q) (rw q))
-    (λ q. split (is_delayed v || is_delayed w) (λ d. rw (p, q, d)) (λ d. impossible (sym d ∙ rw (p, q) at h))))
+    (λ q. split (is_delayed v || is_delayed w) (λ d. rw (p, q, d)) (λ d. absurd (false≢true (sym d ∙ rw (p, q) at h)))))
 
 late-function : (v : Value) (g : ℤ → Result) → late (value_of (function_of v false g)) ≡ true
 unfolding value_of
@@ -69,10 +70,10 @@ late-function (Missing r) g = refl
 
 unsettled : (xs : List ℤ) (ρ : Environment) (f : Form) → settled ρ f ≡ false → late (value_of (evaluate xs ρ f)) ≡ true
 unfolding settled evaluate value_of
-unsettled xs ρ (number z) h = impossible (sym h)
-unsettled xs ρ (variable x) h = split (is_delayed (lookup ρ x)) (λ p. or_right (is_missing (lookup ρ x)) _ p) (λ p. impossible (sym h ∙ rw p))
-unsettled xs ρ (unbound x) h = impossible (sym h)
-unsettled xs ρ readings h = impossible (sym h)
+unsettled xs ρ (number z) h = absurd (false≢true (sym h))
+unsettled xs ρ (variable x) h = split (is_delayed (lookup ρ x)) (λ p. or_right (is_missing (lookup ρ x)) _ p) (λ p. absurd (false≢true (sym h ∙ rw p)))
+unsettled xs ρ (unbound x) h = absurd (false≢true (sym h))
+unsettled xs ρ readings h = absurd (false≢true (sym h))
 unsettled xs ρ (ask m f) h = late0 m xs _ (unsettled xs ρ f h)
 unsettled xs ρ (call m f a) h =
     split (settled ρ f)
@@ -87,9 +88,9 @@ unfolding shows lookup
 free-shown xs f y h = by (value_of (evaluate xs nowhere f)) (unsettled xs nowhere f (settled-no nowhere f y h refl))
   where
     by : (v : Value) → late v ≡ true → (shown_as (name_in (name_of f)) (map name_in (awaited f)) v ≡ a_delay (map name_in (awaited f))) ⊎ ((r : ℕ) × (shown_as (name_in (name_of f)) (map name_in (awaited f)) v ≡ a_reason r))
-    by (Number z) e = impossible e
-    by (Window s l) e = impossible e
-    by Function e = impossible e
+    by (Number z) e = absurd (false≢true e)
+    by (Window s l) e = absurd (false≢true e)
+    by Function e = absurd (false≢true e)
     by Delayed e = inl refl
     by (Missing r) e = inr (r, refl)
 
@@ -99,11 +100,11 @@ unfolding shows
 delay-free xs f names h = by (value_of (evaluate xs nowhere f)) refl h
   where
     by : (v : Value) → value_of (evaluate xs nowhere f) ≡ v → shown_as (name_in (name_of f)) (map name_in (awaited f)) v ≡ a_delay names → (names ≡ map name_in (awaited f)) × ((y : ℕ) × (has_name y (awaited f) ≡ true))
-    by (Number z) e q = impossible (cc)
-    by (Window s l) e q = impossible (cc)
-    by Function e q = impossible (cc)
+    by (Number z) e q = absurd (false≢true (cc))
+    by (Window s l) e q = absurd (false≢true (cc))
+    by Function e q = absurd (false≢true (cc))
     by Delayed e q = let n : names ≡ map name_in (awaited f) = cc in let a = delayed-awaits xs f nowhere (rw e) in (n, (a.name, a.free))
-    by (Missing r) e q = impossible (cc)
+    by (Missing r) e q = absurd (false≢true (cc))
 
 -- ---- a run
 
@@ -116,8 +117,8 @@ run-of v true g z h = by v h
     by (Window i l) e = refl
     by Function e = refl
     by Delayed e = refl
-    by (Missing r) e = impossible (cc)
-run-of v false g z h = impossible (by v h)
+    by (Missing r) e = absurd (false≢true (cc))
+run-of v false g z h = absurd (false≢true (by v h))
   where
     by : (v : Value) → value_of (function_of v false g) ≡ Function → false ≡ true
     by (Number a) e = cc

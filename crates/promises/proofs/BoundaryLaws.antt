@@ -1,10 +1,11 @@
 -- Every run of a program in C gives what the reference model answers and leaves what it holds: a contract fixes what the call gives and leaves,
 -- and that is what the engine's definitions say, which implement the model. Assumes nothing.
 use Rattle.std.specs.Prelude.{◌≡◌, refl, true, List, map, ℕ, ℤ, take}
+use Rattle.std.proofs.lemmas.Bool.{false≢true}
 use Rattle.std.proofs.Common.{sym, ap, ◌∙◌, subst}
-use Rattle.language.specs.Cases.{impossible, split}
+use Rattle.language.specs.Cases.{split}
 use Rattle.model.specs.Lists.{All}
-use Rattle.model.specs.Model.{State, Request, Open, Edit, Preview, Print, refused, finished, written, filled}
+use Rattle.model.specs.Model.{State, Request, Open, Edit, Preview, Print, finished, written, filled}
 use Rattle.model.specs.Since.{Sendable}
 use Rattle.model.specs.Runs.{answers, after}
 use Rattle.model.specs.Engine.{Sent, told, machine}
@@ -13,17 +14,16 @@ use Rattle.model.specs.DemandLaws.{demand}
 use Rattle.formulas.specs.Formulas.{IsReading, formulas}
 use Rattle.bridge.specs.FormulaLaws.{formula-laws}
 use Rattle.layout.specs.Memory.{Memory, fits, recording_of}
-use Rattle.interface.specs.declared.answers.Opened.{Opened}
-use Rattle.interface.specs.declared.answers.Opened.TheVariants as O
+use Rattle.std.specs.Prelude.{Result, Ok, Err}
+use Rattle.language.specs.declared.refusals.Refusal.{Refusal}
+use Rattle.language.specs.declared.refusals.Refused.{Refused}
+use Rattle.language.specs.Refusals.{refusal_number}
 use Rattle.interface.specs.declared.answers.Edited.{Edited}
-use Rattle.interface.specs.declared.answers.Edited.TheVariants as E
 use Rattle.interface.specs.declared.answers.Previewed.{Previewed}
 use Rattle.interface.specs.declared.answers.Previewed.TheVariants as P
-use Rattle.interface.specs.Answers.{Reply, shown_of, open_reply, edit_reply, preview_reply, printed_as, open_number, edit_numbers, preview_numbers, print_numbers}
+use Rattle.interface.specs.Answers.{Reply, Opened, shown_of, open_reply, edit_reply, preview_reply, PrintReply, open_number, edit_numbers, preview_numbers, print_numbers}
 use Rattle.interface.specs.Calls.{previewed, print_answer}
 use Rattle.interface.specs.Effects.{OpensForC}
-use Rattle.interface.specs.Acceptance.{text_at}
-use Rattle.interface.proofs.Outcomes.{PrintOutcome, print-outcome}
 use Rattle.interface.proofs.AcceptanceLaws.{open-zero}
 use Rattle.promises.specs.Lending.{lend, back}
 use Rattle.promises.proofs.LendingLaws.{lent_fits}
@@ -35,51 +35,36 @@ use Rattle.promises.specs.Boundary.{AsC, open_done, open_refused, edit_done, edi
 
 -- the numbers of an answer are those of the model's
 open-numbers : (r : List ℤ) (x : Opened) → AsC (Open r) (open_reply x) (from_open (open_number x))
-open-numbers r O.Done = open_done r
-open-numbers r (O.Refused n) = open_refused r n 0
+open-numbers r (Ok done) = open_done r
+open-numbers r (Err e) = open_refused r (refusal_number e) 0
 
-edit-numbers : (ps t : List ℕ) (x : Edited) (places : List ℕ)
+edit-numbers : (ps t : List ℕ) (x : Result Edited Refused) (places : List ℕ)
     → AsC (Edit ps t) (edit_reply x places) (from_edit (edit_numbers x) (written formulas (edit_reply x places) ps))
 unfolding written
-edit-numbers ps t (E.Done w p k) places = edit_done ps t w p k (take p places)
-edit-numbers ps t (E.Refused n at) places = edit_refused ps t n at
+edit-numbers ps t (Ok x) places = edit_done ps t x (take x.parts places)
+edit-numbers ps t (Err e) places = edit_refused ps t e
 
 -- a finished preview is of memory of the cache's size
 module _ (m : Memory) (n a : ℕ) (sound : fits m ≡ true → All IsReading (recording_of m)) where
-  preview-numbers : (x : Previewed) → previewed m n a ≡ x → AsC (Preview n a) (preview_reply x) (from_preview (preview_numbers x))
-  preview-numbers (P.NotYet k) e = preview_left n a k
-  preview-numbers (P.Finished k v) e =
+  preview-numbers : (x : Result Previewed Refusal) → previewed m n a ≡ x → AsC (Preview n a) (preview_reply x) (from_preview (preview_numbers x))
+  preview-numbers (Ok (P.NotYet k)) e = preview_left n a k
+  preview-numbers (Ok (P.Finished k v)) e =
       split (fits m)
       (λ f.
       let p = preview-plain m n a k v e (sound f) in
-      subst (λ u. AsC (Preview n a) (finished k (shown_of v)) (from_preview (preview_numbers (P.Finished k u)))) (sym p) (preview_done n a k (shown_of v)))
-      (λ f. impossible (unfold previewed in let z = rw f at e in cc))
-  preview-numbers (P.Refused k) e = preview_refused n a k 0
+      subst (λ u. AsC (Preview n a) (finished k (shown_of v)) (from_preview (preview_numbers (Ok (P.Finished k u))))) (sym p) (preview_done n a k (shown_of v)))
+      (λ f. absurd (false≢true (unfold previewed in let z = rw f at e in cc)))
+  preview-numbers (Err f) e = preview_refused n a f
 
 moved : (q : Request formulas) {y z : Reply} {u x : ForC} → y ≡ z → u ≡ x → AsC q y u → AsC q z x
 moved q e f h = rw (← e, ← f) h
 
 -- a print is declined, or gives its text
-print-numbers : (m : Memory) (n : ℕ) (bs : List ℕ)
-    → AsC (Print n bs) (print_answer m n bs) (from_print (print_numbers (printed_as (print_answer m n bs))) (filled formulas (print_answer m n bs) bs))
+print-numbers : (n : ℕ) (bs : List ℕ) (x : Result ℕ Refusal) (y : Reply) → PrintReply x y
+    → AsC (Print n bs) y (from_print (print_numbers x) (filled formulas y bs))
 unfolding filled
-print-numbers m n bs = by (print-outcome m n bs)
-  where
-    Given : Reply → Type 0
-    Given y = AsC (Print n bs) y (from_print (print_numbers (printed_as y)) (filled formulas y bs))
-
-    declined : {k at : ℕ} → print_answer m n bs ≡ refused k at → Given (print_answer m n bs)
-    declined {k} {at} e = subst Given (sym e) (print_refused n bs k at)
-
-    by : PrintOutcome m n bs → Given (print_answer m n bs)
-    by (PrintOutcome.little f e) = declined e
-    by (PrintOutcome.ill w e) = declined e
-    by (PrintOutcome.none l e) = declined e
-    by (PrintOutcome.cramped q l e) = declined e
-    by (PrintOutcome.long q l e) = declined e
-    by (PrintOutcome.unread q j p u e) = declined e
-    by (PrintOutcome.other r d e) = declined e
-    by (PrintOutcome.taken r d e) = subst Given (sym e) (print_done n bs (text_at m n))
+print-numbers n bs (Ok l) y h = rw (h.1, h.2) (print_done n bs h.0)
+print-numbers n bs (Err e) y h = rw h (print_refused n bs e)
 
 -- one call
 step_given : (m : Memory) (q : Request formulas) (m' : Memory) (x : ForC) → (fits m ≡ true → All IsReading (recording_of m)) → Step m q m' x
@@ -94,9 +79,9 @@ step_given _ _ _ _ sound (previews m n a m' x s) =
     let e = s.previews.answer in
     (moved (Preview n a) (ap preview_reply e) (ap from_preview (sym s.numbers)) (preview-numbers m n a sound s.answer (sym e)), s.previews.memory)
 step_given _ _ _ _ sound (prints m n bs bs' x s) =
-    let e : ◌≡◌ {A = ForC} (from_print (print_numbers (printed_as (print_answer m n bs))) (filled formulas (print_answer m n bs) bs)) (from_print x bs') =
-    λ t. from_print (sym (s.numbers ∙ ap print_numbers s.prints.answer) t) (sym s.prints.filled t) in
-    (moved (Print n bs) refl e (print-numbers m n bs), refl)
+    let e : ◌≡◌ {A = ForC} (from_print (print_numbers s.answer) (filled formulas (print_answer m n bs) bs)) (from_print x bs') =
+    λ t. from_print (sym s.numbers t) (sym s.prints.filled t) in
+    (moved (Print n bs) refl e (print-numbers n bs s.answer (print_answer m n bs) s.prints.answer), refl)
 
 abbrev IsCache : Memory → Type 0
 IsCache = Cache formulas formula-laws engine implements

@@ -17,6 +17,7 @@ use Rattle.layout.specs.Nodes.{variable_kind, function_kind}
 use Rattle.evaluator.specs.Frames.{start_at}
 use Rattle.schedule.specs.declared.View.{View}
 use Rattle.schedule.specs.Works.{view, show_of}
+use Rattle.std.specs.Prelude.{Ok}
 use Rattle.interface.specs.declared.answers.Previewed.TheVariants.{Finished}
 use Rattle.interface.specs.Answers.{shown_of}
 use Rattle.interface.specs.Calls.{work_on, worked_memory, previewed, preview_memory, window_in, part_of, fetched}
@@ -80,7 +81,7 @@ fetch-windowless m n h =
         (λ q. no-window v (name_at m.cells n) (other_at m.cells n) (λ s l e. h s l (rw (p, q) e))))
 
 -- an entry whose preview is finished, in the cache that it leaves
-pub fetch-previewed : (m : Memory) (n a k : ℕ) (v : View) → previewed m n a ≡ Finished k v → All IsReading (recording_of m)
+pub fetch-previewed : (m : Memory) (n a k : ℕ) (v : View) → previewed m n a ≡ Ok (Finished k v) → All IsReading (recording_of m)
     → fetched (preview_memory m n a) n ≡ readings_of m.readings v
 fetch-previewed m n a k v e sound =
     let d = finished-by m n a k v e sound in

@@ -8,6 +8,7 @@ use Rattle.layout.specs.Memory.{Memory, fits, entry_count, reading_count, record
 use Rattle.table.specs.WellFormed.{well_formed}
 use Rattle.schedule.specs.declared.View.{View}
 use Rattle.schedule.specs.Works.{show_of}
+use Rattle.std.specs.Prelude.{Ok}
 use Rattle.interface.specs.declared.answers.Previewed.TheVariants.{Finished}
 use Rattle.interface.specs.Calls.{work_on, worked_memory, previewed, preview_memory}
 use Rattle.promises.proofs.Accepting.{preview-fits, preview-well}
@@ -19,7 +20,7 @@ pub record FinishedBy (m : Memory) (n a : ℕ) (v : View) : Type 0 where
   pub well : well_formed (worked_memory m (work_on m n a)) ≡ true
   pub shows : show_of (reading_count m) m.links (work_on m n a).cells n ≡ v
 
-pub finished-by : (m : Memory) (n a k : ℕ) (v : View) → previewed m n a ≡ Finished k v → All IsReading (recording_of m) → FinishedBy m n a v
+pub finished-by : (m : Memory) (n a k : ℕ) (v : View) → previewed m n a ≡ Ok (Finished k v) → All IsReading (recording_of m) → FinishedBy m n a v
 unfolding previewed preview_memory
 finished-by m n a k v e sound =
     split (fits m)

@@ -1,6 +1,7 @@
 -- A fresh cache: memory of any contents is opened, a text is its first edit, and the entry at one of the text's places is previewed again and again.
 -- In the end it shows what the form of the part at that place shows, and no finished preview before or after shows anything else. Assumes nothing.
 use Rattle.std.specs.Prelude.{◌≡◌, refl, true, ℤ, length, drop}
+use Rattle.std.proofs.lemmas.Bool.{false≢true}
 use Rattle.std.proofs.Common.{sym, ◌∙◌}
 use Rattle.std.proofs.Math.Path.{ap, subst}
 use mathlib.Core.List.{List, [], map}
@@ -8,7 +9,6 @@ use Rattle.std.proofs.Math.Option.{some}
 use Prim.Native.Nat.{ℕ, zero, suc, ◌-◌, ◌≤◌, ◌<◌, min}
 use native.Mathlib.Omega.{arith}
 use Rattle.std.proofs.Math.ListN.{get_or, get_elem?, length-map, get_or-append}
-use Rattle.language.specs.Cases.{impossible}
 use Rattle.language.specs.Limits.{text_bytes, text_parts, table_readings}
 use Rattle.grammar.specs.Grammar.{Expression}
 use Rattle.grammar.specs.Reading.{tree}
@@ -34,8 +34,10 @@ use Rattle.meaning.specs.Evaluation.{shows}
 use Rattle.layout.specs.Memory.{Memory, fits}
 use Rattle.schedule.specs.declared.View.{View}
 use Rattle.interface.specs.Views.{view_of}
+use Rattle.std.specs.Prelude.{Result, Ok, Err}
+use Rattle.language.specs.declared.refusals.Refusal.{Refusal}
 use Rattle.interface.specs.declared.answers.Previewed.{Previewed}
-use Rattle.interface.specs.declared.answers.Previewed.TheVariants.{NotYet, Finished, Refused}
+use Rattle.interface.specs.declared.answers.Previewed.TheVariants.{NotYet, Finished}
 use Rattle.interface.specs.Answers.{Reply, shown_of, preview_reply}
 use Rattle.interface.specs.Calls.{open_memory, edit_answer, edit_memory, edit_places, previewed, preview_answer, preview_memory}
 use Rattle.interface.specs.Acceptance.{IsEdited}
@@ -60,8 +62,8 @@ record Holding (r : List ℤ) (f : Form) (n k : ℕ) (m : Memory) : Type 0 where
 
 -- the previews of entry n in the cache m, repeated with any allowance: one of them shows v, and none shows anything else
 pub record Shows (m : Memory) (n : ℕ) (v : View) : Type 0 where
-  pub ends : (a : ℕ) → 1 ≤ a → (times : ℕ) × (worked : ℕ) × (previewed (previews times m n a) n a ≡ Finished worked v)
-  pub only : (a : ℕ) → 1 ≤ a → (times worked : ℕ) (w : View) → previewed (previews times m n a) n a ≡ Finished worked w → w ≡ v
+  pub ends : (a : ℕ) → 1 ≤ a → (times : ℕ) × (worked : ℕ) × (previewed (previews times m n a) n a ≡ Ok (Finished worked v))
+  pub only : (a : ℕ) → 1 ≤ a → (times worked : ℕ) (w : View) → previewed (previews times m n a) n a ≡ Ok (Finished worked w) → w ≡ v
 
 module _ (r : List ℤ) (f : Form) (n a : ℕ) where
   says : (m : Memory) → IsCache m → preview_answer m n a ≡ answer formulas (holds m) (previewing formulas n a)
@@ -90,22 +92,22 @@ module _ (r : List ℤ) (f : Form) (n a : ℕ) where
   turns h (suc times) k m c = let e : k - suc times ≡ k - 1 - times = omega arith in rw e (turns h times (k - 1) (preview_memory m n a) (turn h k m c))
 
   -- what is shown if it is finished, and that it is if nothing is left
-  shown : (k : ℕ) (m : Memory) → Holding r f n k m → (worked : ℕ) (w : View) → previewed m n a ≡ Finished worked w → w ≡ view_of (shows r f)
+  shown : (k : ℕ) (m : Memory) → Holding r f n k m → (worked : ℕ) (w : View) → previewed m n a ≡ Ok (Finished worked w) → w ≡ view_of (shows r f)
   shown k m c worked w e =
       let x = sym (says m c.cache) ∙ ap preview_reply e in
       let y = (finished-is formulas formula-laws (holds m) (previewing formulas n a) n a f worked (shown_of w) refl c.stands x).shown in
       preview-plain m n a worked w e c.cache.invariant.sound ∙ ap view_of (y ∙ ap (λ (s : List ℤ). shows s f) c.recorded)
 
-  at-end : (m : Memory) → Holding r f n 0 m → (worked : ℕ) × (previewed m n a ≡ Finished worked (view_of (shows r f)))
+  at-end : (m : Memory) → Holding r f n 0 m → (worked : ℕ) × (previewed m n a ≡ Ok (Finished worked (view_of (shows r f))))
   at-end m c = by (previewed m n a) refl
     where
       end : preview_answer m n a ≡ finished (min a (left formulas f (holds m).entries)) (shows (holds m).recording f)
       end = says m c.cache ∙ finishes formulas n a f (holds m) c.stands (let z = c.rest in omega arith)
 
-      by : (x : Previewed) → previewed m n a ≡ x → (worked : ℕ) × (previewed m n a ≡ Finished worked (view_of (shows r f)))
-      by (NotYet k) e = let z = rw e at end in impossible (cc)
-      by (Refused k) e = let z = rw e at end in impossible (cc)
-      by (Finished k w) e = (k, e ∙ ap (Finished k) (shown 0 m c k w e))
+      by : (x : Result Previewed Refusal) → previewed m n a ≡ x → (worked : ℕ) × (previewed m n a ≡ Ok (Finished worked (view_of (shows r f))))
+      by (Ok (NotYet k)) e = let z = rw e at end in absurd (false≢true (cc))
+      by (Err k) e = let z = rw e at end in absurd (false≢true (cc))
+      by (Ok (Finished k w)) e = (k, e ∙ ap (λ v. Ok (Finished k v)) (shown 0 m c k w e))
 
 repeated : (r : List ℤ) (f : Form) (n k : ℕ) (m : Memory) → Holding r f n k m → Shows m n (view_of (shows r f))
 repeated r f n k m c =

@@ -1,13 +1,14 @@
 -- Lending changes nothing that a cache holds: what is held depends only on the cells within the sizes. Memory under its size stays so when it
 -- is lent, and what comes back as it was lent leaves the cache as it was. Assumes nothing.
 use Rattle.std.specs.Prelude.{◌≡◌, true, false, List, [], ◌∷◌, ◌++◌, leb, ℤ, length, take, drop, get_or}
+use Rattle.std.proofs.lemmas.Bool.{false≢true}
 use Rattle.std.proofs.Math.Path.{refl}
 use Rattle.std.proofs.Common.{sym, ap, ◌∙◌, append-nil, inl, inr, arith, leb-true, leb-false, length-take, length-drop, length-append, take-append-drop, take_all, take_at, take-take, get_or-take}
 use Rattle.std.proofs.Math.Option.{none, some}
 use Prim.Native.Nat.{ℕ, zero, suc, ◌+◌, ◌<◌, ◌≤◌}
 use Rattle.std.proofs.Math.ListN.{get_elem?}
 use Rattle.language.specs.Limits.{table_readings, table_entries}
-use Rattle.language.specs.Cases.{impossible, split}
+use Rattle.language.specs.Cases.{split}
 use Rattle.model.specs.ListLaws.{nth-below, all-nth}
 use Rattle.model.specs.Model as Model
 use Rattle.model.specs.Invariant.{Invariant}
@@ -214,7 +215,7 @@ lent_fits n m f =
     (rw (lent_length table_links n.links m.links l.links, lent_length table_cells n.cells m.cells l.cells))
 
 pub lent-short : (n m : Memory) → fits n ≡ false → fits (lend n m) ≡ false
-lent-short n m f = split (fits (lend n m)) (λ e. impossible (sym f ∙ long-enough n (longer (lengths (lend n m) e)))) (λ e. e)
+lent-short n m f = split (fits (lend n m)) (λ e. absurd (false≢true (sym f ∙ long-enough n (longer (lengths (lend n m) e))))) (λ e. e)
   where
     longer : Lengths (lend n m) → Lengths n
     longer l =
@@ -285,8 +286,8 @@ module _ (m : Memory) (o : Ok m) (i : Invariant formulas formula-laws (holds m))
 marked_by : (fs : List Form) (es : List Entry) (n : ℕ) (e : Model.Entry formulas) → get_elem? (with_marks fs es) n ≡ some e
     → (x : Entry) × (get_elem? es n ≡ some x) × (e.mark ≡ mark_of x.kept)
 unfolding with_marks
-marked_by [] es n e h = impossible (cc)
-marked_by (f ∷ fs) [] n e h = impossible (cc)
+marked_by [] es n e h = absurd (false≢true (cc))
+marked_by (f ∷ fs) [] n e h = absurd (false≢true (cc))
 marked_by (f ∷ fs) (x ∷ es) zero e h = (x, refl, ap (λ (y : Model.Entry formulas). y.mark) (some_one h))
   where
     some_one : {u v : Model.Entry formulas} → some u ≡ some v → v ≡ u
@@ -304,4 +305,4 @@ keeps-none m o n e h bare =
   where
     none_written : (y : Entry) → Written y → mark_of y.kept ≡ none → y.kept ≡ nothing_kept
     none_written y (inl w) q = w
-    none_written y (inr w) q = let k = w.1 in let s = w.2 in impossible (let z = rw k at q in cc)
+    none_written y (inr w) q = let k = w.1 in let s = w.2 in absurd (false≢true (let z = rw k at q in cc))

@@ -1,15 +1,15 @@
 -- 02, T-03: a word of a text is the text's own bytes at its place, and words are told apart by their packed numbers. Assumes nothing.
+use Rattle.std.specs.Prelude.{Some}
+use Rattle.std.proofs.lemmas.Bool.{cond_both}
 use Rattle.std.specs.Prelude.{◌≡◌, refl, true, ◌↔◌, eqb, length, take, drop}
 use Rattle.std.proofs.Common.{sym, ap, ◌∙◌, subst, arith, drop-drop}
 use mathlib.Core.List.{List, [], ◌∷◌, ◌++◌}
 use Prim.Native.Nat.{ℕ, zero, suc, ◌+◌, ◌-◌, ◌^◌, ◌≤◌, ◌<◌}
 use Rattle.std.proofs.Math.Dec.{lit<}
-use Rattle.language.specs.Cases.{by_cond}
 use Rattle.language.specs.Limits.{name_bytes}
 use Rattle.language.specs.Names.{is_letter, is_digit, in_word, is_blank, bytes, packed, same_name, is_data, data_word, let_word, word_in}
 use Rattle.language.specs.NamesLaws.{Each, NameByte, each_map, word_byte, packed-word, packed-injective, same-name}
 use Rattle.members.specs.declared.Member.{Member}
-use Rattle.members.specs.declared.Found.TheVariants.{Is}
 use Rattle.members.specs.Members.{spelled, same_bytes, member_of}
 use Rattle.members.specs.MembersLaws.{name-found, name-own}
 use Rattle.grammar.specs.Tokens.{Token, k_let, k_in, k_equals, k_lambda, k_arrow, k_dot, k_open, k_shut, k_comma, word, number, other, leading}
@@ -48,17 +48,17 @@ take_same (suc n) (b ∷ t) = ap (λ (l : List ℕ). b ∷ l) (take_same n t)
 word-front : (n : ℕ) (t : List ℕ) → Each NameByte (take n t) → Front t (word_token (take n t))
 unfolding word_token is_word_token
 word-front n t h =
-    by_cond (Front t) (same_bytes (take n t) let_word) k_let _ (λ _. no_word t k_let refl)
-    (λ _. by_cond (Front t) (same_bytes (take n t) word_in) k_in _ (λ _. no_word t k_in refl)
+    cond_both (same_bytes (take n t) let_word) k_let _ (Front t) (λ _. no_word t k_let refl)
+    (λ _. cond_both (same_bytes (take n t) word_in) k_in _ (Front t) (λ _. no_word t k_in refl)
     (λ _ w e. let v : take n t ≡ w = cc in (rw (← v) (take_same n t), rw (← v) h)))
 
 mark-front : (t : List ℕ) (b : ℕ) → Front t (mark_token b)
 unfolding mark_token is_word_token
 mark-front t b =
-    by_cond (Front t) (eqb b 61) k_equals _ (λ _. no_word t k_equals refl) (λ _. by_cond (Front t) (eqb b 92) k_lambda _ (λ _. no_word t k_lambda refl)
-    (λ _. by_cond (Front t) (eqb b 46) k_dot _ (λ _. no_word t k_dot refl) (λ _. by_cond (Front t) (eqb b 40) k_open _ (λ _. no_word t k_open refl)
-    (λ _. by_cond (Front t) (eqb b 41) k_shut _ (λ _. no_word t k_shut refl)
-    (λ _. by_cond (Front t) (eqb b 44) k_comma (other b) (λ _. no_word t k_comma refl) (λ _. no_word t (other b) refl))))))
+    cond_both (eqb b 61) k_equals _ (Front t) (λ _. no_word t k_equals refl) (λ _. cond_both (eqb b 92) k_lambda _ (Front t) (λ _. no_word t k_lambda refl)
+    (λ _. cond_both (eqb b 46) k_dot _ (Front t) (λ _. no_word t k_dot refl) (λ _. cond_both (eqb b 40) k_open _ (Front t) (λ _. no_word t k_open refl)
+    (λ _. cond_both (eqb b 41) k_shut _ (Front t) (λ _. no_word t k_shut refl)
+    (λ _. cond_both (eqb b 44) k_comma (other b) (Front t) (λ _. no_word t k_comma refl) (λ _. no_word t (other b) refl))))))
 
 minus-front : (t bs : List ℕ) → Front t (minus_at bs).0
 unfolding minus_at is_word_token
@@ -66,7 +66,7 @@ minus-front t [] = no_word t (other 45) refl
 minus-front t (b ∷ bs) =
     let P : Lexeme → Type 0 = λ x. Front t x.0 in
     by-test P (is_digit b) _ _ (λ _. no_word t (number _) refl)
-    (λ _. by_cond P (eqb b 62) (k_arrow, 2) (other 45, 1) (λ _. no_word t k_arrow refl) (λ _. no_word t (other 45) refl))
+    (λ _. cond_both (eqb b 62) (k_arrow, 2) (other 45, 1) P (λ _. no_word t k_arrow refl) (λ _. no_word t (other 45) refl))
 
 token-front : (b : ℕ) (bs : List ℕ) → Front (b ∷ bs) (token_at b bs).0
 unfolding token_at word_at digits_at is_word_token
@@ -116,5 +116,5 @@ module _ (text text' : List ℕ) (p p' : ℕ) (v w : List ℕ) (h : HasWord text
   pub same-name-exactly : (same_name v w ≡ true) ↔ (v ≡ w)
   same-name-exactly = same-name v w (found text p v h).1 (found text' p' w h').1
 
-pub member-exactly : (w : List ℕ) (m : Member) → (member_of w ≡ Is m) ↔ (w ≡ spelled m)
+pub member-exactly : (w : List ℕ) (m : Member) → (member_of w ≡ Some m) ↔ (w ≡ spelled m)
 member-exactly w m = (name-own w m, λ e. ap member_of e ∙ name-found m)

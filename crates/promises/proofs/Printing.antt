@@ -1,10 +1,11 @@
 -- 02, T-04: when a print is accepted, exactly, and when it is declined with 15 and with 16; that what it prints is read as the same form again, and
 -- printed as the same text; and what it leaves of the lent bytes. Assumes nothing.
 use Rattle.std.specs.Prelude.{◌≡◌, true, ◌↔◌, ◌⊎◌, List, [], ◌∷◌, map, ℕ, ◌-◌, ◌≤◌, ◌<◌, ltb, length, get_or, take, drop}
+use Rattle.std.proofs.lemmas.Bool.{false≢true}
 use Rattle.std.proofs.Math.Path.{refl, ap}
 use Rattle.std.proofs.Common.{sym, ◌∙◌, inl, inr, ⊎_elim, arith, le-leb, le-ltb, ltb-true, ltb-false, take_at}
 use Rattle.std.proofs.Math.Seq.{drop_at}
-use Rattle.language.specs.Cases.{impossible, split}
+use Rattle.language.specs.Cases.{split}
 use Rattle.language.specs.Limits.{text_bytes, text_parts, table_entries}
 use Rattle.grammar.specs.Grammar.{Expression, spell_e}
 use Rattle.grammar.specs.KeptLimits.{KeepsLimits}
@@ -76,14 +77,14 @@ module _ (m : Memory) (n : ℕ) (bytes : List ℕ) where
     print-accepted = by (print-outcome m n bytes)
       where
         by : PrintOutcome m n bytes → (print_answer m n bytes ≡ printed t) ↔ CanPrint m n bytes t
-        by (PrintOutcome.little f e) = (λ h. impossible (cc), λ c. impossible (sym f ∙ c.whole))
-        by (PrintOutcome.ill w e) = (λ h. impossible (cc), λ c. impossible (sym w ∙ c.well))
-        by (PrintOutcome.none l e) = (λ h. impossible (cc), λ c. let z = c.inside in absurd (omega arith))
-        by (PrintOutcome.cramped q l e) = (λ h. impossible (cc), λ c. let z = c.room in let y = ap length c.is in absurd (omega arith))
-        by (PrintOutcome.long q l e) = (λ h. impossible (cc), λ c. let z = c.short in let y = ap length c.is in absurd (omega arith))
-        by (PrintOutcome.unread q j p u e) = (λ h. impossible (cc), λ c. let z = ap read_text (sym c.is) ∙ c.read in impossible (cc))
+        by (PrintOutcome.little f e) = (λ h. absurd (false≢true (cc)), λ c. absurd (false≢true (sym f ∙ c.whole)))
+        by (PrintOutcome.ill w e) = (λ h. absurd (false≢true (cc)), λ c. absurd (false≢true (sym w ∙ c.well)))
+        by (PrintOutcome.none l e) = (λ h. absurd (false≢true (cc)), λ c. let z = c.inside in absurd (omega arith))
+        by (PrintOutcome.cramped q l e) = (λ h. absurd (false≢true (cc)), λ c. let z = c.room in let y = ap length c.is in absurd (omega arith))
+        by (PrintOutcome.long q l e) = (λ h. absurd (false≢true (cc)), λ c. let z = c.short in let y = ap length c.is in absurd (omega arith))
+        by (PrintOutcome.unread q j p u e) = (λ h. absurd (false≢true (cc)), λ c. let z = ap read_text (sym c.is) ∙ c.read in absurd (false≢true (cc)))
         by (PrintOutcome.other r d e) =
-            (λ h. impossible (cc), λ c. let z = ap read_text (sym c.is) ∙ c.read in let x = r.read in let y : r.expression ≡ c.expression = cc in absurd (d (ap form_of y ∙ c.same)))
+            (λ h. absurd (false≢true (cc)), λ c. let z = ap read_text (sym c.is) ∙ c.read in let x = r.read in let y : r.expression ≡ c.expression = cc in absurd (d (ap form_of y ∙ c.same)))
         by (PrintOutcome.taken r d e) = (λ h. can-print r d (cc), λ c. e ∙ ap printed (sym c.is))
 
   -- when it is declined with 15, and when with 16
@@ -91,14 +92,14 @@ module _ (m : Memory) (n : ℕ) (bytes : List ℕ) where
   print-fifteen = by (print-outcome m n bytes)
     where
       by : PrintOutcome m n bytes → (print_answer m n bytes ≡ refused 15 0) ↔ (Held m n × ((length bytes < length (text_at m n)) ⊎ (¬ InLanguage (text_at m n))))
-      by (PrintOutcome.little f e) = (λ h. impossible (cc), λ c. impossible (sym f ∙ c.0.whole))
-      by (PrintOutcome.ill w e) = (λ h. impossible (cc), λ c. impossible (sym w ∙ c.0.well))
-      by (PrintOutcome.none l e) = (λ h. impossible (cc), λ c. let z = c.0.inside in absurd (omega arith))
+      by (PrintOutcome.little f e) = (λ h. absurd (false≢true (cc)), λ c. absurd (false≢true (sym f ∙ c.0.whole)))
+      by (PrintOutcome.ill w e) = (λ h. absurd (false≢true (cc)), λ c. absurd (false≢true (sym w ∙ c.0.well)))
+      by (PrintOutcome.none l e) = (λ h. absurd (false≢true (cc)), λ c. let z = c.0.inside in absurd (omega arith))
       by (PrintOutcome.cramped q l e) = (λ h. (q, inl l), λ c. e)
       by (PrintOutcome.long q l e) = (λ h. (q, inr (λ i. let z = i.0 in omega arith)), λ c. e)
       by (PrintOutcome.unread q j p u e) = (λ h. (q, inr (not-read (text_at m n) j p u)), λ c. e)
-      by (PrintOutcome.other r d e) = (λ h. impossible (cc), λ c. absurd (read_back r c.1))
-      by (PrintOutcome.taken r d e) = (λ h. impossible (cc), λ c. absurd (read_back r c.1))
+      by (PrintOutcome.other r d e) = (λ h. absurd (false≢true (cc)), λ c. absurd (read_back r c.1))
+      by (PrintOutcome.taken r d e) = (λ h. absurd (false≢true (cc)), λ c. absurd (read_back r c.1))
 
   pub print-sixteen : (print_answer m n bytes ≡ refused 16 0)
       ↔ (Held m n × (length (text_at m n) ≤ length bytes) × InLanguage (text_at m n)
@@ -108,15 +109,15 @@ module _ (m : Memory) (n : ℕ) (bytes : List ℕ) where
       by : PrintOutcome m n bytes → (print_answer m n bytes ≡ refused 16 0)
           ↔ (Held m n × (length (text_at m n) ≤ length bytes) × InLanguage (text_at m n)
           × ((e : Expression) → read_text (text_at m n) ≡ tree e → ¬ (form_of e ≡ form_at m n)))
-      by (PrintOutcome.little f e) = (λ h. impossible (cc), λ c. impossible (sym f ∙ c.0.whole))
-      by (PrintOutcome.ill w e) = (λ h. impossible (cc), λ c. impossible (sym w ∙ c.0.well))
-      by (PrintOutcome.none l e) = (λ h. impossible (cc), λ c. let z = c.0.inside in absurd (omega arith))
-      by (PrintOutcome.cramped q l e) = (λ h. impossible (cc), λ c. let z = c.1 in absurd (omega arith))
-      by (PrintOutcome.long q l e) = (λ h. impossible (cc), λ c. let z = c.2.0 in absurd (omega arith))
-      by (PrintOutcome.unread q j p u e) = (λ h. impossible (cc), λ c. absurd (not-read (text_at m n) j p u c.2))
+      by (PrintOutcome.little f e) = (λ h. absurd (false≢true (cc)), λ c. absurd (false≢true (sym f ∙ c.0.whole)))
+      by (PrintOutcome.ill w e) = (λ h. absurd (false≢true (cc)), λ c. absurd (false≢true (sym w ∙ c.0.well)))
+      by (PrintOutcome.none l e) = (λ h. absurd (false≢true (cc)), λ c. let z = c.0.inside in absurd (omega arith))
+      by (PrintOutcome.cramped q l e) = (λ h. absurd (false≢true (cc)), λ c. let z = c.1 in absurd (omega arith))
+      by (PrintOutcome.long q l e) = (λ h. absurd (false≢true (cc)), λ c. let z = c.2.0 in absurd (omega arith))
+      by (PrintOutcome.unread q j p u e) = (λ h. absurd (false≢true (cc)), λ c. absurd (not-read (text_at m n) j p u c.2))
       by (PrintOutcome.other r d e) =
           (λ h. (r.held, r.room, read-in (text_at m n) r.expression r.short r.read, λ x u q. let y = r.read in let z : r.expression ≡ x = cc in d (ap form_of z ∙ q)), λ c. e)
-      by (PrintOutcome.taken r d e) = (λ h. impossible (cc), λ c. absurd (c.3 r.expression r.read d))
+      by (PrintOutcome.taken r d e) = (λ h. absurd (false≢true (cc)), λ c. absurd (c.3 r.expression r.read d))
 
 -- ---- what the text of an entry is, whatever the cache
 

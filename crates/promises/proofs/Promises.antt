@@ -13,6 +13,7 @@
 --      the entry's form again and printed as the same bytes (Printing).
 --   3. Over every list of calls after an opening the engine answers as the reference model does, and ends holding what it holds (model's
 --      Demand), and so over every run of a program in C (Boundary).
+use Rattle.std.specs.Prelude.{Some, Result, Ok, Err}
 use Rattle.std.specs.Prelude.{◌≡◌, refl, true, false, ◌&&◌, ◌↔◌, ◌⊎◌, List, [], map, ℕ, ◌+◌, ◌-◌, ◌^◌, ◌≤◌, ◌<◌, ℤ, pos, neg_ℤ, ◌+ℤ◌, length, take, drop, get_or, ◌≤ℤ◌}
 use Rattle.std.proofs.Common.{sym, ap}
 use Rattle.std.specs.Int.Signed.{lt_z}
@@ -33,7 +34,6 @@ use Rattle.model.specs.DemandLaws.{demand}
 use Rattle.formulas.specs.Formulas.{IsReading, formulas}
 use Rattle.members.specs.declared.Member.{Member}
 use Rattle.members.specs.declared.Member.TheVariants.{Div, Skip, Take, At}
-use Rattle.members.specs.declared.Found.TheVariants.{Is}
 use Rattle.members.specs.Members.{spelled, member_of}
 use Rattle.rules.specs.declared.Value.{Value}
 use Rattle.rules.specs.declared.Value.TheVariants.{Number, Window, Function, Missing}
@@ -61,17 +61,19 @@ use Rattle.table.specs.WellFormed.{done_at, well_formed}
 use Rattle.schedule.specs.declared.View.{View}
 use Rattle.schedule.specs.Works.{show_of}
 use Rattle.interface.specs.Views.{view_of}
-use Rattle.interface.specs.declared.answers.Opened.{Opened}
+use Rattle.language.specs.declared.refusals.Refusal.{Refusal}
+use Rattle.language.specs.declared.refusals.Refusal.TheVariants.{TextTooLong, RecordingTooLong, NoSuchEntry}
+use Rattle.language.specs.declared.refusals.Refused.{Refused}
+use Rattle.language.specs.Refusals.{refusal_number}
 use Rattle.interface.specs.declared.answers.Edited.{Edited}
 use Rattle.interface.specs.declared.answers.Previewed.{Previewed}
-use Rattle.interface.specs.declared.answers.Previewed.TheVariants.{Finished, Refused}
-use Rattle.interface.specs.declared.answers.Printed.{Printed}
-use Rattle.interface.specs.declared.answers.Evaluated.TheVariants as Evaluate
+use Rattle.interface.specs.declared.answers.Previewed.TheVariants.{Finished}
+use Rattle.interface.specs.declared.answers.Evaluated.{Evaluated}
 use Rattle.interface.specs.declared.answers.EditAnswer.{EditAnswer}
 use Rattle.interface.specs.declared.answers.PreviewAnswer.{PreviewAnswer}
 use Rattle.interface.specs.declared.answers.PrintAnswer.{PrintAnswer}
 use Rattle.interface.specs.declared.answers.EvaluateAnswer.{EvaluateAnswer}
-use Rattle.interface.specs.Answers.{open_reply, edit_reply, preview_reply, printed_as, shown_of}
+use Rattle.interface.specs.Answers.{Opened, open_reply, edit_reply, preview_reply, PrintReply, declined, shown_of}
 use Rattle.interface.specs.Calls.{open_answer, open_memory, edit_answer, edit_memory, edit_places, previewed, preview_answer, preview_memory, part_of, fetched}
 use Rattle.interface.specs.Calls.{form_at, print_answer, print_bytes, evaluated}
 use Rattle.interface.specs.Effects.{Opens, Edits, Previews, Prints, OpensForC, EditsForC, PreviewsForC, PrintsForC, EvaluatesForC}
@@ -98,19 +100,19 @@ use Rattle.promises.proofs.Accepting as Accepting
 use Rattle.promises.proofs.Printing as Printing
 use Rattle.promises.proofs.Evaluating as Evaluating
 
--- What the functions answer is, by 01's numbers and values of their enums, the answer of Calls.
+-- What the functions answer is, by 01's numbers of the refusals and the values of their answers, the answer of Calls.
 pub open-answers : (m : Memory) (r : List ℤ) (m' : Memory) (x : Opened) → Opens m r m' x → open_reply x ≡ open_answer m r
 open-answers m r m' x p = p.answer
 
-pub edit-answers : (m : Memory) (places text : List ℕ) (m' : Memory) (places' : List ℕ) (x : Edited) → Edits m places text m' places' x
+pub edit-answers : (m : Memory) (places text : List ℕ) (m' : Memory) (places' : List ℕ) (x : Result Edited Refused) → Edits m places text m' places' x
     → edit_reply x places' ≡ edit_answer m places text
 edit-answers m places text m' places' x p = p.answer
 
-pub preview-answers : (m : Memory) (n a : ℕ) (m' : Memory) (x : Previewed) → Previews m n a m' x → preview_reply x ≡ preview_answer m n a
+pub preview-answers : (m : Memory) (n a : ℕ) (m' : Memory) (x : Result Previewed Refusal) → Previews m n a m' x → preview_reply x ≡ preview_answer m n a
 preview-answers m n a m' x p = ap preview_reply p.answer
 
 -- A print answers its text's length. Its contract has no memory afterwards: the cache is only read.
-pub print-answers : (m : Memory) (n : ℕ) (bytes bytes' : List ℕ) (x : Printed) → Prints m n bytes bytes' x → x ≡ printed_as (print_answer m n bytes)
+pub print-answers : (m : Memory) (n : ℕ) (bytes bytes' : List ℕ) (x : Result ℕ Refusal) → Prints m n bytes bytes' x → PrintReply x (print_answer m n bytes)
 print-answers m n bytes bytes' x p = p.answer
 
 -- 1. When a call is accepted. An open: the memory fits, and the recording has at most 1,024 readings.
@@ -124,7 +126,7 @@ edit-accepted = Accepting.edit-accepted
 
 -- A preview: the memory fits, the cache is well-formed, and it holds the entry.
 pub preview-accepted : (m : Memory) (n a : ℕ)
-    → ((k : ℕ) → ¬ (previewed m n a ≡ Refused k)) ↔ ((fits m ≡ true) × (well_formed m ≡ true) × (n < entry_count m))
+    → ((e : Refusal) → ¬ (previewed m n a ≡ Err e)) ↔ ((fits m ≡ true) × (well_formed m ≡ true) × (n < entry_count m))
 preview-accepted = Acceptance.preview-accepted
 
 -- 02, T-04: a print: the memory fits, the cache is well-formed, and it holds the entry; the text of the entry's let-free form fits the lent bytes
@@ -148,25 +150,26 @@ print-sixteen = Printing.print-sixteen
 -- 02, T-07: an evaluate: the text has at most 1,024 bytes and the recording at most 1,024 readings, the reader reads the text, and the place is
 -- below the number of its parts.
 pub evaluate-accepted : (text : List ℕ) (r : List ℤ) (p : ℕ)
-    → ((k : ℕ) × (v : View) × (evaluated text r p ≡ Evaluate.Done k v))
+    → ((x : Evaluated) × (evaluated text r p ≡ Ok x))
     ↔ ((length text ≤ text_bytes) × (length r ≤ table_readings) × ((e : Expression) × (read_text text ≡ tree e) × (p < parts_e e)))
 evaluate-accepted = Evaluating.evaluate-accepted
 
 -- Its refusals come in this order, each exactly where none before it does: 1, the text is too long; 2, the recording is; 5 to 12, the reader's
 -- numbers with their places; and last 14, there is no such place.
-pub evaluate-one : (text : List ℕ) (r : List ℤ) (p : ℕ) → (evaluated text r p ≡ Evaluate.Refused 1 0) ↔ (text_bytes < length text)
+pub evaluate-one : (text : List ℕ) (r : List ℤ) (p : ℕ) → (evaluated text r p ≡ Err (declined TextTooLong 0)) ↔ (text_bytes < length text)
 evaluate-one = EvaluateLaws.evaluate-one
 
 pub evaluate-two : (text : List ℕ) (r : List ℤ) (p : ℕ)
-    → (evaluated text r p ≡ Evaluate.Refused 2 0) ↔ ((length text ≤ text_bytes) × (table_readings < length r))
+    → (evaluated text r p ≡ Err (declined RecordingTooLong 0)) ↔ ((length text ≤ text_bytes) × (table_readings < length r))
 evaluate-two = EvaluateLaws.evaluate-two
 
-pub evaluate-read : (text : List ℕ) (r : List ℤ) (p n at : ℕ) → 5 ≤ n → n ≤ 12
-    → (evaluated text r p ≡ Evaluate.Refused n at) ↔ ((length text ≤ text_bytes) × (length r ≤ table_readings) × (read_text text ≡ refused_at n at))
+pub evaluate-read : (text : List ℕ) (r : List ℤ) (p : ℕ) (e : Refusal) (at : ℕ) → 5 ≤ refusal_number e → refusal_number e ≤ 12
+    → (evaluated text r p ≡ Err (declined e at))
+    ↔ ((length text ≤ text_bytes) × (length r ≤ table_readings) × (read_text text ≡ refused_at (refusal_number e) at))
 evaluate-read = EvaluateLaws.evaluate-read
 
 pub evaluate-fourteen : (text : List ℕ) (r : List ℤ) (p : ℕ)
-    → (evaluated text r p ≡ Evaluate.Refused 14 0)
+    → (evaluated text r p ≡ Err (declined NoSuchEntry 0))
     ↔ ((length text ≤ text_bytes) × (length r ≤ table_readings) × ((e : Expression) × (read_text text ≡ tree e) × (parts_e e ≤ p)))
 evaluate-fourteen = Evaluating.evaluate-fourteen
 
@@ -178,13 +181,14 @@ open-refusals = Acceptance.open-refusals
 pub edit-refusals : (m : Memory) (places text : List ℕ) (n at : ℕ) → edit_answer m places text ≡ refused n at → EditRefusal text n at
 edit-refusals = Acceptance.edit-refusals
 
-pub preview-refusals : (m : Memory) (n a k : ℕ) → previewed m n a ≡ Refused k → PreviewRefusal k
+pub preview-refusals : (m : Memory) (n a : ℕ) (e : Refusal) → previewed m n a ≡ Err e → PreviewRefusal (refusal_number e)
 preview-refusals = Acceptance.preview-refusals
 
 pub print-refusals : (m : Memory) (n : ℕ) (bytes : List ℕ) (k at : ℕ) → print_answer m n bytes ≡ refused k at → PrintRefusal k × (at ≡ 0)
 print-refusals = Acceptance.print-refusals
 
-pub evaluate-refusals : (text : List ℕ) (r : List ℤ) (p n at : ℕ) → evaluated text r p ≡ Evaluate.Refused n at → EvaluateRefusal text n at
+pub evaluate-refusals : (text : List ℕ) (r : List ℤ) (p : ℕ) (e : Refusal) (at : ℕ) → evaluated text r p ≡ Err (declined e at)
+    → EvaluateRefusal text (refusal_number e) at
 evaluate-refusals = EvaluateLaws.evaluate-refusals
 
 -- The number that a caller in C gets is 0 exactly if the call was accepted.
@@ -196,7 +200,7 @@ pub edit-zero : (m : Memory) (places text : List ℕ) (m' : Memory) (places' : L
 edit-zero = Acceptance.edit-zero
 
 pub preview-zero : (m : Memory) (n a : ℕ) (m' : Memory) (c : PreviewAnswer) → PreviewsForC m n a m' c
-    → (c.refusal ≡ 0) ↔ ((k : ℕ) → ¬ (previewed m n a ≡ Refused k))
+    → (c.refusal ≡ 0) ↔ ((e : Refusal) → ¬ (previewed m n a ≡ Err e))
 preview-zero = Acceptance.preview-zero
 
 pub print-zero : (m : Memory) (n : ℕ) (bytes bytes' : List ℕ) (c : PrintAnswer) → PrintsForC m n bytes bytes' c
@@ -204,7 +208,7 @@ pub print-zero : (m : Memory) (n : ℕ) (bytes bytes' : List ℕ) (c : PrintAnsw
 print-zero = Acceptance.print-zero
 
 pub evaluate-zero : (text : List ℕ) (r : List ℤ) (p : ℕ) (c : EvaluateAnswer) → EvaluatesForC text r p c
-    → (c.refusal ≡ 0) ↔ ((k : ℕ) × (v : View) × (evaluated text r p ≡ Evaluate.Done k v))
+    → (c.refusal ≡ 0) ↔ ((x : Evaluated) × (evaluated text r p ≡ Ok x))
 evaluate-zero = EvaluateLaws.evaluate-zero
 
 -- A declined call changes nothing.
@@ -215,7 +219,7 @@ pub edit-declined : (m : Memory) (places text : List ℕ) (n at : ℕ) → edit_
     → (edit_memory m places text ≡ m) × (edit_places m places text ≡ places)
 edit-declined = Declined.edit-declined
 
-pub preview-declined : (m : Memory) (n a k : ℕ) → previewed m n a ≡ Refused k → preview_memory m n a ≡ m
+pub preview-declined : (m : Memory) (n a : ℕ) (e : Refusal) → previewed m n a ≡ Err e → preview_memory m n a ≡ m
 preview-declined = Declined.preview-declined
 
 pub print-declined : (m : Memory) (n : ℕ) (bytes : List ℕ) (k at : ℕ) → print_answer m n bytes ≡ refused k at → print_bytes m n bytes ≡ bytes
@@ -291,7 +295,7 @@ same-name-exactly = Naming.same-name-exactly
 pub data-exactly : (text : List ℕ) (p : ℕ) (w : List ℕ) → HasWord text p w → (is_data w ≡ true) ↔ (w ≡ data_word)
 data-exactly = Naming.data-exactly
 
-pub member-exactly : (w : List ℕ) (m : Member) → (member_of w ≡ Is m) ↔ (w ≡ spelled m)
+pub member-exactly : (w : List ℕ) (m : Member) → (member_of w ≡ Some m) ↔ (w ≡ spelled m)
 member-exactly = Naming.member-exactly
 
 -- Where neither 3 nor 4 comes up, an edit is declined with 1 or a number from 5 to 12 exactly if the text is over 1,024 bytes or no tree of the
@@ -460,7 +464,7 @@ pub delay-free : (xs : List ℤ) (f : Form) (names : List ℕ) → shows xs f �
 delay-free = Awaiting.delay-free
 
 -- A field of an answer that has no value is 0: what a finished preview gives are the numbers and names of what it shows.
-pub preview-plain : (m : Memory) (n a k : ℕ) (v : View) → previewed m n a ≡ Finished k v → All IsReading (recording_of m) → v ≡ view_of (shown_of v)
+pub preview-plain : (m : Memory) (n a k : ℕ) (v : View) → previewed m n a ≡ Ok (Finished k v) → All IsReading (recording_of m) → v ≡ view_of (shown_of v)
 preview-plain = Showing.preview-plain
 
 -- Fetch hands out the readings of the window that the entry shows, and so those that a finished preview showed; the empty part at the start
@@ -469,7 +473,7 @@ pub fetch-shown : (m : Memory) (n : ℕ) → fits m ≡ true → well_formed m �
     → fetched m n ≡ readings_of m.readings (show_of (reading_count m) m.links m.cells n)
 fetch-shown = Fetching.fetch-shown
 
-pub fetch-previewed : (m : Memory) (n a k : ℕ) (v : View) → previewed m n a ≡ Finished k v → All IsReading (recording_of m)
+pub fetch-previewed : (m : Memory) (n a k : ℕ) (v : View) → previewed m n a ≡ Ok (Finished k v) → All IsReading (recording_of m)
     → fetched (preview_memory m n a) n ≡ readings_of m.readings v
 fetch-previewed = Fetching.fetch-previewed
 
@@ -483,23 +487,23 @@ fetch-none = Fetching.fetch-none
 -- 02, T-07: evaluate answers the number of parts, and of the part at the place what evaluation gives for its let-free form, as the numbers and names
 -- that a finished preview gives.
 pub evaluate-shows : (text : List ℕ) (r : List ℤ) (p : ℕ) (e : Expression) → length text ≤ text_bytes → length r ≤ table_readings
-    → read_text text ≡ tree e → p < parts_e e → evaluated text r p ≡ Evaluate.Done (parts_e e) (view_of (shows r (get_or (forms_by_place e) p readings)))
+    → read_text text ≡ tree e → p < parts_e e → evaluated text r p ≡ Ok (record { parts = parts_e e; shown = view_of (shows r (get_or (forms_by_place e) p readings)) })
 evaluate-shows = Evaluating.evaluate-shows
 
 -- It is what a fresh cache finally shows there. Memory of any contents is opened with the recording and edited with the text, both are accepted,
 -- and the number written at the place is previewed again and again, with any allowance from 1 on: in the end the preview is finished and shows it.
-pub evaluate-finally : (m : Memory) (r : List ℤ) (places text : List ℕ) (p k : ℕ) (v : View) (a : ℕ) → fits m ≡ true → text_parts ≤ length places
-    → All IsReading r → 1 ≤ a → evaluated text r p ≡ Evaluate.Done k v
+pub evaluate-finally : (m : Memory) (r : List ℤ) (places text : List ℕ) (p : ℕ) (x : Evaluated) (a : ℕ) → fits m ≡ true → text_parts ≤ length places
+    → All IsReading r → 1 ≤ a → evaluated text r p ≡ Ok x
     → let n : ℕ = get_or (edit_places (open_memory m r) places text) p 0 in
     (open_answer m r ≡ opened) × IsEdited (edit_answer (open_memory m r) places text)
-    × ((times : ℕ) × (worked : ℕ) × (previewed (previews times (edit_memory (open_memory m r) places text) n a) n a ≡ Finished worked v))
+    × ((times : ℕ) × (worked : ℕ) × (previewed (previews times (edit_memory (open_memory m r) places text) n a) n a ≡ Ok (Finished worked x.shown)))
 evaluate-finally = Evaluating.evaluate-finally
 
 -- And no finished preview of that number, however often it is sent, shows anything else.
-pub evaluate-only : (m : Memory) (r : List ℤ) (places text : List ℕ) (p k : ℕ) (v : View) (a : ℕ) → fits m ≡ true → text_parts ≤ length places
-    → All IsReading r → 1 ≤ a → evaluated text r p ≡ Evaluate.Done k v
+pub evaluate-only : (m : Memory) (r : List ℤ) (places text : List ℕ) (p : ℕ) (x : Evaluated) (a : ℕ) → fits m ≡ true → text_parts ≤ length places
+    → All IsReading r → 1 ≤ a → evaluated text r p ≡ Ok x
     → let n : ℕ = get_or (edit_places (open_memory m r) places text) p 0 in
-    (times worked : ℕ) (w : View) → previewed (previews times (edit_memory (open_memory m r) places text) n a) n a ≡ Finished worked w → w ≡ v
+    (times worked : ℕ) (w : View) → previewed (previews times (edit_memory (open_memory m r) places text) n a) n a ≡ Ok (Finished worked w) → w ≡ x.shown
 evaluate-only = Evaluating.evaluate-only
 
 -- Nor does one in any session: memory of any contents is opened, and then any calls are sent. Whenever a preview of a part is finished, it shows what
@@ -507,7 +511,7 @@ evaluate-only = Evaluating.evaluate-only
 pub evaluate-in-session : (m : Memory) (r : List ℤ) (cs : List (Sent engine)) → open_answer m r ≡ opened → All IsReading r
     → Sendable formulas (map (told engine) cs) → (x : Part formulas) → Given formulas engine m r cs x
     → (c : Sent engine) (v : Shown) → Finishes formulas engine (last formulas engine m r cs) c x.number v
-    → (k : ℕ) × (evaluated x.text (holds (last formulas engine m r cs)).recording x.place ≡ Evaluate.Done k (view_of v))
+    → (k : ℕ) × (evaluated x.text (holds (last formulas engine m r cs)).recording x.place ≡ Ok (record { parts = k; shown = view_of v }))
 evaluate-in-session = Evaluating.evaluate-in-session
 
 -- 02, T-04. Of any cache that passes 4: the text of an entry's form has, longest first, the tokens that the form's tree spells; so the reader

@@ -1,9 +1,10 @@
 -- A field of an answer that has no value is 0: the numbers and names that preview gives are those of what it shows, and no others.
 -- Assumes nothing.
 use Rattle.std.specs.Prelude.{◌≡◌, refl, true, false, ◌&&◌, ◌||◌, ℕ, ◌<◌, ltb, eqb}
+use Rattle.std.proofs.lemmas.Bool.{false≢true}
 use Rattle.std.proofs.Common.{sym, ap, ◌∙◌, arith, eqb-true}
 use Rattle.std.proofs.Math.Bool.{and-eq-true_iff}
-use Rattle.language.specs.Cases.{impossible, split}
+use Rattle.language.specs.Cases.{split}
 use Rattle.rules.specs.declared.Value.{Value}
 use Rattle.rules.specs.declared.Value.TheVariants.{Number, Window, Function, Delayed, Missing}
 use Rattle.values.specs.Packing.{function_cell, delayed_cell, unpack_of}
@@ -19,6 +20,7 @@ use Rattle.evaluator.specs.Frames.{leaf_of, start_at}
 use Rattle.schedule.specs.Works.{view, show_of}
 use Rattle.interface.specs.Views.{view_of}
 use Rattle.formulas.specs.Formulas.{IsReading}
+use Rattle.std.specs.Prelude.{Ok}
 use Rattle.interface.specs.declared.answers.Previewed.TheVariants.{Finished}
 use Rattle.interface.specs.Answers.{shown_of}
 use Rattle.interface.specs.Calls.{work_on, worked_memory, previewed}
@@ -68,7 +70,7 @@ kept-named k h =
     delayed e z =
         split (nameless k)
         (λ p. eqb-true k.other 0 ((and-eq-true_iff (eqb k.name 0) _).0 p).1)
-        (λ p. impossible (sym (name-some k.name ((and-eq-true_iff _ _).0 (rw p at e)).0) ∙ rw z))
+        (λ p. absurd (false≢true (sym (name-some k.name ((and-eq-true_iff _ _).0 (rw p at e)).0) ∙ rw z)))
 
 -- an entry of a well-formed cache
 module _ (m : Memory) (n : ℕ) where
@@ -95,7 +97,7 @@ module _ (m : Memory) (n : ℕ) where
       (λ q. rw (p, q) (view-plain value (name_at m.cells n) (other_at m.cells n) (names-kept q (kept-names m n w l)))))
 
 -- what a finished preview shows
-pub preview-plain : (m : Memory) (n a k : ℕ) (v : View) → previewed m n a ≡ Finished k v → All IsReading (recording_of m) → v ≡ view_of (shown_of v)
+pub preview-plain : (m : Memory) (n a k : ℕ) (v : View) → previewed m n a ≡ Ok (Finished k v) → All IsReading (recording_of m) → v ≡ view_of (shown_of v)
 preview-plain m n a k v e sound =
     let d = finished-by m n a k v e sound in
     sym d.shows ∙ show-plain (worked_memory m (work_on m n a)) n d.well d.held ∙ ap (λ (u : View). view_of (shown_of u)) d.shows

@@ -9,9 +9,12 @@ use Rattle.formulas.specs.Formulas.{formulas}
 use Rattle.meaning.specs.Evaluation.{Shown}
 use Rattle.layout.specs.Memory.{Memory}
 use Rattle.interface.specs.Views.{view_of}
-use Rattle.interface.specs.declared.answers.Edited.TheVariants as Edit
+use Rattle.std.specs.Prelude.{Ok, Err}
+use Rattle.language.specs.declared.refusals.Refusal.{Refusal}
+use Rattle.language.specs.declared.refusals.Refused.{Refused}
+use Rattle.language.specs.Refusals.{refusal_number}
+use Rattle.interface.specs.declared.answers.Edited.{Edited}
 use Rattle.interface.specs.declared.answers.Previewed.TheVariants as Preview
-use Rattle.interface.specs.declared.answers.Printed.TheVariants as Print
 use Rattle.interface.specs.declared.answers.EditAnswer.{EditAnswer}
 use Rattle.interface.specs.declared.answers.PreviewAnswer.{PreviewAnswer}
 use Rattle.interface.specs.declared.answers.PrintAnswer.{PrintAnswer}
@@ -52,14 +55,14 @@ pub data Run : Memory → List (Sent engine) → List ForC → Memory → Type 0
 pub data AsC : Request formulas → Reply → ForC → Type 0 where
   open_done : (r : List ℤ) → AsC (Open r) opened (from_open 0)
   open_refused : (r : List ℤ) (n at : ℕ) → AsC (Open r) (refused n at) (from_open n)
-  edit_done : (ps t : List ℕ) (w p k : ℕ) (ns : List ℕ)
-      → AsC (Edit ps t) (edited w p k ns) (from_edit (edit_numbers (Edit.Done w p k)) (written formulas (edited w p k ns) ps))
-  edit_refused : (ps t : List ℕ) (n at : ℕ) → AsC (Edit ps t) (refused n at) (from_edit (edit_numbers (Edit.Refused n at)) ps)
-  preview_left : (n a k : ℕ) → AsC (Preview n a) (not_yet k) (from_preview (preview_numbers (Preview.NotYet k)))
-  preview_done : (n a k : ℕ) (v : Shown) → AsC (Preview n a) (finished k v) (from_preview (preview_numbers (Preview.Finished k (view_of v))))
-  preview_refused : (n a k at : ℕ) → AsC (Preview n a) (refused k at) (from_preview (preview_numbers (Preview.Refused k)))
-  print_done : (n : ℕ) (bs t : List ℕ) → AsC (Print n bs) (printed t) (from_print (print_numbers (Print.Done (length t))) (filled formulas (printed t) bs))
-  print_refused : (n : ℕ) (bs : List ℕ) (k at : ℕ) → AsC (Print n bs) (refused k at) (from_print (print_numbers (Print.Refused k)) bs)
+  edit_done : (ps t : List ℕ) (x : Edited) (ns : List ℕ)
+      → AsC (Edit ps t) (edited x.whole x.parts x.added ns) (from_edit (edit_numbers (Ok x)) (written formulas (edited x.whole x.parts x.added ns) ps))
+  edit_refused : (ps t : List ℕ) (e : Refused) → AsC (Edit ps t) (refused (refusal_number e.refusal) e.place) (from_edit (edit_numbers (Err e)) ps)
+  preview_left : (n a k : ℕ) → AsC (Preview n a) (not_yet k) (from_preview (preview_numbers (Ok (Preview.NotYet k))))
+  preview_done : (n a k : ℕ) (v : Shown) → AsC (Preview n a) (finished k v) (from_preview (preview_numbers (Ok (Preview.Finished k (view_of v)))))
+  preview_refused : (n a : ℕ) (e : Refusal) → AsC (Preview n a) (refused (refusal_number e) 0) (from_preview (preview_numbers (Err e)))
+  print_done : (n : ℕ) (bs t : List ℕ) → AsC (Print n bs) (printed t) (from_print (print_numbers (Ok (length t))) (filled formulas (printed t) bs))
+  print_refused : (n : ℕ) (bs : List ℕ) (e : Refusal) → AsC (Print n bs) (refused (refusal_number e) 0) (from_print (print_numbers (Err e)) bs)
 
 -- of a list of calls
 pub data AllAsC : List (Sent engine) → List Reply → List ForC → Type 0 where

@@ -1,6 +1,7 @@
-// What reading a text comes to: how many parts and records there are and the record of the whole text, or a refusal's number and place.
+// What a text was read to: how many parts and how many records there are, and the record of the whole text.
 #[derive(Clone, Copy)]
-pub enum Read {
-    Done { parts: u16, records: u16, root: u16 },
-    Refused { number: u8, place: usize },
+pub struct Read {
+    pub parts: u16,
+    pub records: u16,
+    pub root: u16,
 }

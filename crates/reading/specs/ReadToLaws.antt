@@ -1,15 +1,18 @@
 -- Why the reader leaves what its text was read into. Assumes nothing.
 use Rattle.std.proofs.Math.Path.{◌≡◌}
-use Rattle.std.specs.Prelude.{refl, List, [], ◌∷◌, ℕ, suc, ◌*◌, ◌/◌, ◌%◌, ◌<◌, eqb, length, get_or, drop}
-use Rattle.std.proofs.Common.{sym, ◌∙◌, arith, eqb-true, length-append, length-drop, take_at}
+use Rattle.std.specs.Prelude.{refl, List, [], ◌∷◌, ℕ, suc, ◌*◌, ◌/◌, ◌%◌, ◌<◌, eqb, length, get_or, drop, Result, Ok, Err}
+use Rattle.std.proofs.Common.{sym, ap, ◌∙◌, arith, eqb-true, length-append, length-drop, take_at}
 use Rattle.std.proofs.lemmas.Bool.{eqb-false}
 use Rattle.language.specs.Limits.{text_parts}
 use Rattle.language.specs.Cases.{split}
+use Rattle.language.specs.declared.refusals.Refused.{Refused}
+use Rattle.language.specs.Refusals.{refusal_number, text_refusal}
+use Rattle.language.specs.RefusalsLaws.{refusal-numbered}
 use Rattle.grammar.specs.Tokens.{when}
 use Rattle.grammar.specs.Grammar.{Expression}
 use Rattle.grammar.specs.Reading.{tree, refused as refused_at}
 use Rattle.grammar.specs.Machine.{read_text}
-use Rattle.grammar.proofs.Theorems.{text-read-plainly}
+use Rattle.grammar.proofs.Theorems.{text-read-plainly, text-number}
 use Rattle.model.specs.Lists.{All}
 use Rattle.layout.specs.Memory.{Node}
 use Rattle.layout.specs.Numbered.{numbered}
@@ -18,10 +21,9 @@ use Rattle.records.specs.Records.{records_of}
 use Rattle.bridge.specs.Recorded.{unfolds, levels-low}
 use Rattle.descent.specs.Descent.{State, read_into}
 use Rattle.descent.specs.Decoding as D
-use Rattle.descent.specs.Theorems.{Held, Result, into}
+use Rattle.descent.specs.Theorems.{Held, Result as Result-of, into}
 use Rattle.reader.specs.Results.{ReadsInto, answer_of, no_binders}
 use Rattle.reader.specs.declared.answer.Read.{Read}
-use Rattle.reader.specs.declared.answer.Read.TheVariants.{Done, Refused}
 use Rattle.reading.specs.ReadTo.{ReadTo}
 
 -- The records that the reader wrote are those that binding reads.
@@ -68,38 +70,44 @@ held-read text R P x s n size root R' P' q h lp qn qs qr q_r q_p =
       room = rw (q_p, h.places) (simp (length-append, length-drop) (omega (arith, h.parts, h.few_parts)));
     }
 
-module _ (text R P : List ℕ) (r : Read) (R' P' : List ℕ) (reading : ReadsInto text R P r R' P') (lr : length R ≡ text_words)
+module _ (text R P : List ℕ) (r : Result Read Refused) (R' P' : List ℕ) (reading : ReadsInto text R P r R' P') (lr : length R ≡ text_words)
     (lp : length P ≡ text_parts) where
   abbrev after : State
   after = read_into text R P no_binders
 
-  result : Result text R P after
+  result : Result-of text R P after
   result = into text R P no_binders lr lp refl
 
-  module _ (number place : ℕ) (e : r ≡ Refused number place) where
-    refusal : (after.cursor.number ≡ 0 → ⊥) × (after.cursor.number ≡ number) × (after.cursor.place ≡ place)
+  module _ (f : Refused) (e : r ≡ Err f) where
+    refusal : (after.cursor.number ≡ 0 → ⊥) × (text_refusal after.cursor.number ≡ f.refusal) × (after.cursor.place ≡ f.place)
     unfolding answer_of when
     refusal =
         split (eqb after.cursor.number 0)
-        (λ q. let z = rw q at reading.answer in let y : ◌≡◌ {A = ℕ} 0 1 = cc in absurd (omega arith))
+        (λ q. let z = rw q at reading.answer in absurd (cc))
         (λ q. let z = rw q at reading.answer in (eqb-false after.cursor.number 0 q, cc, cc))
 
-    pub read_number : (number ≡ 0 → ⊥)
-    read_number z = refusal.0 (refusal.1 ∙ z)
+    declined : read_text text ≡ refused_at after.cursor.number after.cursor.place
+    declined = result.declines refusal.0
 
-    pub read-refused : read_text text ≡ refused_at number place
-    read-refused = result.declines refusal.0 ∙ rw (refusal.1, refusal.2)
+    numbered-so : after.cursor.number ≡ refusal_number f.refusal
+    numbered-so = sym (refusal-numbered after.cursor.number (text-number text after.cursor.number after.cursor.place declined)) ∙ ap refusal_number refusal.1
 
-  module _ (n size root : ℕ) (e : r ≡ Done n size root) where
-    counts : (after.cursor.number ≡ 0) × (after.cursor.parts ≡ n) × (after.cursor.count ≡ size) × (after.cursor.root ≡ root)
+    pub read_number : (refusal_number f.refusal ≡ 0 → ⊥)
+    read_number z = refusal.0 (numbered-so ∙ z)
+
+    pub read-refused : read_text text ≡ refused_at (refusal_number f.refusal) f.place
+    read-refused = declined ∙ rw (numbered-so, refusal.2)
+
+  module _ (a : Read) (e : r ≡ Ok a) where
+    counts : (after.cursor.number ≡ 0) × (after.cursor.parts ≡ a.parts) × (after.cursor.count ≡ a.records) × (after.cursor.root ≡ a.root)
     unfolding answer_of when
     counts =
         split (eqb after.cursor.number 0)
         (λ q. let z = rw q at reading.answer in (eqb-true after.cursor.number 0 q, cc, cc, cc))
-        (λ q. let z = rw q at reading.answer in let y : ◌≡◌ {A = ℕ} 0 1 = cc in absurd (omega arith))
+        (λ q. let z = rw q at reading.answer in absurd (cc))
 
-    pub read_done : ReadTo text n size root R' P'
+    pub read_done : ReadTo text a.parts a.records a.root R' P'
     read_done =
-        let a = result.accepts counts.0 in
-        held-read text R P a.0 after n size root R' P' a.1 (result.reads a.0 a.1) lp counts.1 counts.2 counts.3
+        let x = result.accepts counts.0 in
+        held-read text R P x.0 after a.parts a.records a.root R' P' x.1 (result.reads x.0 x.1) lp counts.1 counts.2 counts.3
         reading.records reading.places

@@ -1,9 +1,9 @@
 -- The free names of a form: what it comes to depends on the environment at these alone. Assumes nothing.
 use Rattle.std.specs.Prelude.{◌≡◌, refl, Bool, true, false, not, ◌&&◌, ◌||◌, List, [], ◌∷◌, ℕ, eqb, ℤ, pos}
 use Rattle.std.proofs.Common.{sym, ap, ◌∙◌, subst, eq-eqb, ne_eqb, eqb-true}
-use Rattle.std.proofs.lemmas.Bool.{false≢true, eqb-false, not-false}
+use Rattle.std.proofs.lemmas.Bool.{false≢true, eqb-false, not-false, or_right}
 use Rattle.std.proofs.Math.Bool.{and-eq-true_iff}
-use Rattle.language.specs.Cases.{split, either, or_right}
+use Rattle.language.specs.Cases.{split, either}
 use Rattle.members.specs.declared.Member.{Member}
 use Rattle.rules.specs.declared.Value.{Value}
 use Rattle.rules.specs.declared.Value.TheVariants.{Number, Delayed}

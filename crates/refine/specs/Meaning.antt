@@ -1,6 +1,7 @@
 -- What apply computes for a member or a function is what its form comes to, in every environment whose values the frame holds.
 -- Assumes nothing.
 use Rattle.std.specs.Prelude.{◌≡◌, Bool, ◌&&◌, eqb, leb, ℤ, pos, nat_abs, ◌+ℤ◌, length, take, drop}
+use Rattle.std.proofs.lemmas.Bool.{or_right}
 use Rattle.std.proofs.Math.Path.{refl, sym, ap, subst}
 use Rattle.std.proofs.Common.{◌∙◌}
 use Rattle.std.proofs.Math.Logic.{inl, inr}
@@ -15,7 +16,7 @@ use Rattle.std.proofs.Math.ListN.{get_or}
 use Rattle.std.specs.Int.Signed.{mag}
 use Rattle.table.specs.WaitsLaws.{variable_at}
 use Rattle.table.specs.NodeKinds.{Fine, a_number, a_variable, an_unbound, the_readings, a_function, an_ask, a_call}
-use Rattle.language.specs.Cases.{split, either, or_right}
+use Rattle.language.specs.Cases.{split, either}
 use Rattle.language.specs.Limits.{table_entries, table_readings}
 use Rattle.members.specs.Members.{arguments}
 use Rattle.members.specs.declared.Member.{Member}
@@ -48,7 +49,10 @@ use Rattle.columns.specs.Calling.{bounded_of, ask_of, call_of}
 use Rattle.chunks.specs.Rows.{Go, bound, fill_of, over_of}
 use Rattle.evaluator.specs.Reach.{gathered}
 use Rattle.evaluator.specs.Frames as Code
-use Rattle.evaluator.specs.Applying.{graph, done_of, task_of, judge_of, run_of as task_run, follow_of, plan_of, conclude_of, finish_of, apply_at}
+use Rattle.evaluator.specs.declared.working.Task.TheVariants.{Known, Body}
+use Rattle.evaluator.specs.declared.working.Purpose.TheVariants.{Judge, Over}
+use Rattle.columns.specs.Calling.{conclude_of}
+use Rattle.evaluator.specs.Applying.{graph, judge_of, run_of as task_run, follow_of, plan_of, finish_of, apply_at}
 use Rattle.refine.specs.Free.{free, never, dec_eq, free-variable, free-call, free-function, unbound-same, settled-no, settled-find}
 use Rattle.refine.specs.Tables.{Good, Parts, fine, parts, PlainValue, Plain, plain-lookup, kept_entry, Link, Sees, here, down, sees-free, sees_below}
 use Rattle.refine.specs.Kinds.{is_function, ask-none, call_none}
@@ -130,7 +134,7 @@ module _ (links waits : List ℕ) (xs : List ℤ) (frame : List ℕ) (i : ℕ) w
   back d = omega arith
 
   plan-ask : (m : Member) (d : ℕ) → kind_at links i ≡ member_kind m → first_at links i ≡ suc d → second_at links i ≡ 0 → d < i
-      → plan_of (graph links waits xs) frame i ≡ done_of (pack_of (apply0 m xs (unpack_of (get_or frame d 0))))
+      → plan_of (graph links waits xs) frame i ≡ Known (pack_of (apply0 m xs (unpack_of (get_or frame d 0))))
   unfolding plan_of ask_of
   plan-ask m d k f s l =
       rw (
@@ -169,17 +173,17 @@ module _ (links waits : List ℕ) (xs : List ℤ) (frame : List ℕ) (i : ℕ) w
   unfolding plan_of
   plan-function b k f l = rw (k, f, le-leb 1 (suc b) (omega arith), le-leb (suc b) i l, back b)
 
-  judge-kept : (b : ℕ) → own_of (get_or waits b 0) (get_or waits i 0) ≡ 0 → judge_of waits frame i b (get_or frame b 0) ≡ done_of (Code.function_of frame (get_or waits i 0) (get_or frame b 0))
+  judge-kept : (b : ℕ) → own_of (get_or waits b 0) (get_or waits i 0) ≡ 0 → judge_of waits frame i b (get_or frame b 0) ≡ Known (Code.function_of frame (get_or waits i 0) (get_or frame b 0))
   unfolding judge_of
   judge-kept b e = rw e
 
   judge-again : (b j : ℕ) → own_of (get_or waits b 0) (get_or waits i 0) ≡ suc j → j < table_entries
-      → judge_of waits frame i b (get_or frame b 0) ≡ task_of function_kind 0 0 b (suc j)
+      → judge_of waits frame i b (get_or frame b 0) ≡ Body b (suc j) Judge
   unfolding judge_of
   judge-again b j e h = rw (e, le-leb 1 (suc j) (omega arith), le-leb (suc j) table_entries h)
 
   run-task : (kind a b s l v : ℕ) → kind_at links a ≡ function_kind → first_at links a ≡ suc b → b < a → own_of (get_or waits b 0) (get_or waits a 0) ≡ v
-      → v ≤ table_entries → task_run links waits a kind s l ≡ task_of kind s l b v
+      → v ≤ table_entries → task_run links waits a kind s l ≡ Body b v (Over kind s l)
   unfolding task_run
   run-task kind a b s l v k f h o m = rw (k, f, le-leb 1 (suc b) (omega arith), le-leb (suc b) a h, back b, o, le-leb v table_entries m)
 
@@ -461,7 +465,6 @@ module _ (links cells waits : List ℕ) (xs : List ℤ) (n : ℕ) (φ : ℕ → 
         unfolding finish_of
         finish-run v o h =
             ap (finish_of (graph links waits xs) go frame i) (run-task links waits xs frame i (member_kind m) a b s l v entry.kind entry.first entry.low o h)
-            ∙ rw (ne_eqb (member_kind m) function_kind (λ e. omega arith))
 
         -- a body that does not await the variable comes to the same for every reading
         still : free x' (φ b) ≡ false → (zs : List ℤ) (t : Tally) → over_of go b (gathered links waits 0 b) 0 frame t zs ≡ Tallies.gathered t (map run zs)

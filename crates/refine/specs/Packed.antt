@@ -1,5 +1,7 @@
 -- Working an entry out over any table and any frame whose cells are empty or packed values that may be kept gives such a value; and a
 -- function only for a function's own entry. By the fuel, and by what the entry asks for. Assumes nothing.
+use Rattle.std.specs.Prelude.{Option, Some, None}
+use Rattle.std.proofs.lemmas.Bool.{cond_both}
 use Rattle.std.specs.Prelude.{◌≡◌, Bool, true, false, cond, ◌&&◌, ◌⊎◌, ltb, eqb, pos, length, get_or, set, replicate}
 use Rattle.std.proofs.Math.Path.{refl, sym, ap, subst}
 use Rattle.std.proofs.Common.{◌∙◌, ⊎_elim}
@@ -11,11 +13,9 @@ use borrow.Author.Tests.{le-leb, leb-true, eqb-true}
 use Rattle.std.proofs.Math.Dec.{leb}
 use Rattle.std.proofs.Math.IntN.{ℤ}
 use Rattle.std.specs.Int.Signed.{mag}
-use Rattle.language.specs.Cases.{split, by_cond}
+use Rattle.language.specs.Cases.{split}
 use Rattle.language.specs.Limits.{table_entries, table_readings}
 use Rattle.members.specs.declared.Member.{Member}
-use Rattle.members.specs.declared.Found.{Found}
-use Rattle.members.specs.declared.Found.TheVariants.{Is, Unknown}
 use Rattle.rules.specs.declared.Value.{Value}
 use Rattle.rules.specs.declared.Value.TheVariants.{Number, Window, Function, Delayed, Missing}
 use Rattle.values.specs.declared.apply.Applied.{Applied}
@@ -40,11 +40,14 @@ use Rattle.layout.specs.Nodes.{number_kind, variable_kind, unbound_kind, functio
 use Rattle.columns.specs.Calling.{bounded_of, ask_of, call_of}
 use Rattle.chunks.specs.Rows.{Go, bound, fill_of, set_of, over_of}
 use Rattle.evaluator.specs.declared.working.Task.{Task}
+use Rattle.evaluator.specs.declared.working.Task.TheVariants.{Known, Body}
+use Rattle.evaluator.specs.declared.working.Purpose.TheVariants.{Judge, Over}
 use Rattle.layout.specs.Links.{kind_at, first_at, second_at, is_below}
 use Rattle.table.specs.Waits.{own_of}
 use Rattle.evaluator.specs.Reach.{gathered as list}
 use Rattle.evaluator.specs.Frames.{leaf_of, start_at, start_from, is_open, function_of}
-use Rattle.evaluator.specs.Applying.{Graph, done_of, task_of, judge_of, run_of, follow_of, plan_of, conclude_of, finish_of, apply_at}
+use Rattle.columns.specs.Calling.{conclude_of}
+use Rattle.evaluator.specs.Applying.{Graph, judge_of, run_of, follow_of, plan_of, finish_of, apply_at}
 use Rattle.refine.specs.Kinds.{is_function, concluded-none, ask-none, call_none}
 
 -- a cell that is empty, or a packed value that may be kept beside n readings; a frame of such cells
@@ -102,16 +105,16 @@ module _ (g : Graph) (n : ℕ) (short : n ≤ 65535) (small : (k : ℕ) → k < 
 
   bounded-kept : (v : Value) → Keepable n v → Keepable n (bounded_of v)
   unfolding bounded_of
-  bounded-kept (Window s l) k = by_cond (Keepable n) (leb (s + l) 65535) _ _ (λ h. k) (λ h. kept-wrong)
+  bounded-kept (Window s l) k = cond_both (leb (s + l) 65535) _ _ (Keepable n) (λ h. k) (λ h. kept-wrong)
   bounded-kept (Number z) k = k
   bounded-kept Function k = k
   bounded-kept Delayed k = k
   bounded-kept (Missing r) k = k
 
-  right-ask : (kind : ℕ) (f : Found) (a : ℕ) → Cell n a → Right n kind (ask_of f g.xs a)
+  right-ask : (kind : ℕ) (f : Option Member) (a : ℕ) → Cell n a → Right n kind (ask_of f g.xs a)
   unfolding ask_of
-  right-ask kind (Is m) a c = right-value n kind _ (kept-apply0 n short m g.xs small (unpack_of a) (value-kept n a c)) (ask-none m g.xs (unpack_of a))
-  right-ask kind Unknown a c = right-wrong kind
+  right-ask kind (Some m) a c = right-value n kind _ (kept-apply0 n short m g.xs small (unpack_of a) (value-kept n a c)) (ask-none m g.xs (unpack_of a))
+  right-ask kind None a c = right-wrong kind
 
   -- what a member is done with is no function, and its runs are over a window that may be kept
   abbrev Follows : Applied → Type 0
@@ -131,63 +134,51 @@ module _ (g : Graph) (n : ℕ) (short : n ≤ 65535) (small : (k : ℕ) → k < 
           (k, ap is_function s ∙ call_none m g.xs v w run)
       by (Run s l) e k = k
 
-  follows-call : (f : Found) (a b : ℕ) → Cell n a → Cell n b → Follows (call_of f g.xs a b)
+  follows-call : (f : Option Member) (a b : ℕ) → Cell n a → Cell n b → Follows (call_of f g.xs a b)
   unfolding call_of
-  follows-call (Is m) a b c d = follows-applied m (bounded_of (unpack_of a)) (unpack_of b) (bounded-kept (unpack_of a) (value-kept n a c)) (value-kept n b d)
-  follows-call Unknown a b c d = (kept-wrong, refl)
+  follows-call (Some m) a b c d = follows-applied m (bounded_of (unpack_of a)) (unpack_of b) (bounded-kept (unpack_of a) (value-kept n a c)) (value-kept n b d)
+  follows-call None a b c d = (kept-wrong, refl)
 
   -- ---- what an entry asks for
 
-  record Planned (k : ℕ) (p : Task) : Type 0 where
-    value : p.done ≡ true → Right n k p.value
-    kind : p.done ≡ false → p.kind ≡ k
-    window : Keepable n (Window p.start p.length)
-
-  no-window : Keepable n (Window 0 0)
-  no-window = record { held = (omega arith, omega arith); inside = omega arith; reasoned = tt }
-
-  planned-done : (kind c : ℕ) → Right n kind c → Planned kind (done_of c)
-  planned-done kind c r = record { value = λ e. r; kind = λ e. never e; window = no-window }
-
-  planned-task : (kind s l body v : ℕ) → Keepable n (Window s l) → Planned kind (task_of kind s l body v)
-  planned-task kind s l body v w = record { value = λ e. never (sym e); kind = λ e. refl; window = w }
-
-  planned-wrong : (kind : ℕ) → Planned kind (done_of wrong_cell)
-  planned-wrong kind = planned-done kind wrong_cell (right-wrong kind)
+  Planned : ℕ → Task → Type 0
+  Planned k (Known c) = Right n k c
+  Planned k (Body body v Judge) = k ≡ function_kind
+  Planned k (Body body v (Over kind s l)) = (kind ≡ k) × Keepable n (Window s l)
 
   module _ (frame : List ℕ) (cells : Cells n frame) where
     planned-judge : (i body a : ℕ) → Cell n a → Planned function_kind (judge_of g.waits frame i body a)
-    unfolding judge_of
+    unfolding judge_of Planned
     planned-judge i body a c =
-        by_cond (Planned function_kind) (leb 1 (own_of (get_or g.waits body 0) (get_or g.waits i 0))) _ _
-        (λ e. by_cond (Planned function_kind) (leb (own_of (get_or g.waits body 0) (get_or g.waits i 0)) table_entries) _ _
-        (λ h. planned-task function_kind 0 0 body _ no-window)
-        (λ h. planned-wrong function_kind))
-        (λ e. planned-done function_kind _ (record { packed = function-packed n frame (get_or g.waits i 0) a c; function = λ h. refl }))
+        cond_both (leb 1 (own_of (get_or g.waits body 0) (get_or g.waits i 0))) _ _ (Planned function_kind)
+        (λ e. cond_both (leb (own_of (get_or g.waits body 0) (get_or g.waits i 0)) table_entries) _ _ (Planned function_kind)
+        (λ h. refl)
+        (λ h. right-wrong function_kind))
+        (λ e. (record { packed = function-packed n frame (get_or g.waits i 0) a c; function = λ h. refl }))
 
     planned-follow : (f kind : ℕ) (a : Applied) → Follows a → Planned kind (follow_of g.links g.waits f kind a)
-    unfolding follow_of run_of
-    planned-follow f kind (Done v) k = planned-done kind (pack_of v) (right-value n kind v k.0 k.1)
+    unfolding follow_of run_of Planned
+    planned-follow f kind (Done v) k = right-value n kind v k.0 k.1
     planned-follow f kind (Run s l) k =
         let own : ℕ = own_of (get_or g.waits (first_at g.links f - 1) 0) (get_or g.waits f 0) in
-        by_cond (Planned kind) (eqb (kind_at g.links f) function_kind && (is_below (first_at g.links f) f && leb own table_entries)) _ _
-        (λ e. planned-task kind s l _ _ k) (λ e. planned-wrong kind)
+        cond_both (eqb (kind_at g.links f) function_kind && (is_below (first_at g.links f) f && leb own table_entries)) _ _ (Planned kind)
+        (λ e. (refl, k)) (λ e. right-wrong kind)
 
     planned : (i : ℕ) → ltb (kind_at g.links i) function_kind ≡ false → Planned (kind_at g.links i) (plan_of g frame i)
-    unfolding plan_of
+    unfolding plan_of Planned
     planned i high =
         let kind : ℕ = kind_at g.links i in
         let first : ℕ = first_at g.links i in
         let second : ℕ = second_at g.links i in
-        by_cond (Planned kind) (ltb kind function_kind) _ _ (λ e. never (sym e ∙ high))
-        (λ e. by_cond (Planned kind) (is_below first i) _ _
-        (λ e. by_cond (Planned kind) (eqb kind function_kind) _ _
+        cond_both (ltb kind function_kind) _ _ (Planned kind) (λ e. never (sym e ∙ high))
+        (λ e. cond_both (is_below first i) _ _ (Planned kind)
+        (λ e. cond_both (eqb kind function_kind) _ _ (Planned kind)
         (λ e. subst (λ (k : ℕ). Planned k (judge_of g.waits frame i (first - 1) (get_or frame (first - 1) 0)))
         (sym (eqb-true kind function_kind e)) (planned-judge i (first - 1) _ (cells (first - 1))))
-        (λ e. by_cond (Planned kind) (is_below second i) _ _
+        (λ e. cond_both (is_below second i) _ _ (Planned kind)
         (λ e. planned-follow (second - 1) kind _ (follows-call (member_of_kind kind) _ _ (cells (first - 1)) (cells (second - 1))))
-        (λ e. planned-done kind _ (right-ask kind (member_of_kind kind) _ (cells (first - 1))))))
-        (λ e. planned-wrong kind))
+        (λ e. right-ask kind (member_of_kind kind) _ (cells (first - 1)))))
+        (λ e. right-wrong kind))
 
   -- ---- the runs, where each entry comes to an empty cell or a packed value
 
@@ -229,32 +220,30 @@ module _ (g : Graph) (n : ℕ) (short : n ≤ 65535) (small : (k : ℕ) → k < 
         (record { values = x ∷ []; same = refl; kept = (k, tt); few = omega arith })
         (record { values = x ∷ w.values; same = w.same; kept = (k, w.kept); few = omega (arith, w.few) })
 
-    right-conclude : (kind : ℕ) (f : Found) (s l : ℕ) (t : Tally) → Keepable n (Window s l) → Tallied l begun t → Right n kind (conclude_of f t)
+    right-conclude : (kind : ℕ) (f : Option Member) (s l : ℕ) (t : Tally) → Keepable n (Window s l) → Tallied l begun t → Right n kind (conclude_of f t)
     unfolding conclude_of of_runs
-    right-conclude kind Unknown s l t w k = right-wrong kind
-    right-conclude kind (Is m) s l t w k =
+    right-conclude kind None s l t w k = right-wrong kind
+    right-conclude kind (Some m) s l t w k =
         let e : finished m t ≡ of_runs m k.values = ap (finished m) k.same ∙ finished-is m k.values in
         rw e (right-value n kind (of_runs m k.values) (closed-runs (Keepable n) (kept-closed n short) s l w m k.values k.few k.kept) (concluded-none m (results k.values)))
 
     right-finish : (frame : List ℕ) (i kind : ℕ) (p : Task) → Cells n frame → Planned kind p → Right n kind (finish_of g go frame i p)
-    unfolding finish_of
-    right-finish frame i kind p c h =
-        let js = list g.links g.waits p.variable p.body in
-        let zs = readings_in g.xs p.start p.length in
-        split p.done (λ e. rw e (h.value e))
-        (λ e. rw e (split (eqb p.kind function_kind)
-        (λ q. rw q
-        (record {
+    unfolding finish_of Planned
+    right-finish frame i kind (Known a) c h = h
+    right-finish frame i kind (Body body v Judge) c h =
+        let js = list g.links g.waits v body in
+        record {
           packed =
               function-packed n frame (get_or g.waits i 0) _
-              (begins (p.body + 1) js p.variable delayed_cell frame c (kept-passes n Delayed (record { held = tt; inside = tt; reasoned = tt })) p.body);
-          function = λ z. sym (h.kind e) ∙ eqb-true p.kind function_kind q;
-        }))
-        (λ q. rw q
-        (let r = readings-small (Keepable n) (kept-closed n short) g.xs small in
-        let t = tallied p.body js p.variable frame begun zs c (readings-of (Keepable n) (kept-closed n short) g.xs p.start p.length r) in
-        right-conclude kind (member_of_kind p.kind) p.start p.length _ h.window
-        (record { values = t.values; same = t.same; kept = t.kept; few = omega (arith, t.few, readings-short g.xs p.start p.length) })))))
+              (begins (body + 1) js v delayed_cell frame c (kept-passes n Delayed (record { held = tt; inside = tt; reasoned = tt })) body);
+          function = λ z. h;
+        }
+    right-finish frame i kind (Body body v (Over k s l)) c h =
+        let js = list g.links g.waits v body in
+        let zs = readings_in g.xs s l in
+        let r = readings-small (Keepable n) (kept-closed n short) g.xs small in
+        let t = tallied body js v frame begun zs c (readings-of (Keepable n) (kept-closed n short) g.xs s l r) in
+        right-conclude kind (member_of_kind k) s l _ h.1 (record { values = t.values; same = t.same; kept = t.kept; few = omega (arith, t.few, readings-short g.xs s l) })
 
   -- ---- the entries
 

@@ -1,4 +1,5 @@
 pub mod Values
+pub mod Reasons
 pub mod Numbers
 pub mod Windows
 pub mod Stretches

@@ -2,7 +2,7 @@
 #![tactic(auto)]
 
 // What an entry shows: kind 1 number, 2 window, 3 function, 4 delayed, 5 missing; first is the number, the start or the reason, second the
-// length; then the names of a function or of a delay.
+// length; then the names of a function or of a delay. Its fields are those of the answers for C, a kind by its number.
 #[derive(Clone, Copy)]
 pub struct View {
     pub kind: u32,

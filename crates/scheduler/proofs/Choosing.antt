@@ -167,6 +167,4 @@ module _ (size : ℕ) (links cells : List ℕ) (n c : ℕ) (e : c ≡ start_at s
   unfolding show_of
   show-kept name other m h o u = rw (← k, ne_eqb _ _ m, le-ltb _ _ h, ← o, ← u, ← shown)
 
-pub ruleset showing = (rules, show-variable, show-leaf, show-kept)
-
-pub ruleset choosing = (rules, raise-yes, raise-no, chosen-out, chosen-leaf, chosen_is, slot-yes, slot-no, name-function, name-delayed, name-none, other-delayed, other_none, keep-is)
+pub ruleset choosing = (rules, raise-yes, raise-no, chosen-out, chosen-leaf, chosen_is, slot-yes, slot-no, name-function, name-delayed, name-none, other-delayed, other_none, keep-is, show-variable, show-leaf, show-kept)

@@ -1,53 +1,49 @@
 -- What each path through a function of scratch.rt gives, from its tests and calls, over plain variables. Assumes nothing.
+use Rattle.std.specs.Prelude.{Option, Some, None, Result, Ok, Err}
 use mathlib.Core.Path.{◌≡◌, refl, ap, sym, ◌∙◌}
-use mathlib.Core.Bool.{Bool, true, false, true≢false}
+use mathlib.Core.Bool.{Bool, true, false, cond}
 use mathlib.Core.List.{List}
 use Prim.Native.Nat.{ℕ, zero, suc, ◌+◌, ◌*◌, ◌-◌, ◌≤◌, ◌<◌}
 use native.Mathlib.Numerals.{add-one}
 use native.Mathlib.Omega.{arith}
 use lib.Dec.{eqb}
-use lib.IntN.{ℤ, pos, nat_abs, ◌+ℤ◌}
+use lib.IntN.{ℤ}
 use lib.ListN.{length, set}
-use mir.Syntax.{w32, w64}
-use mir.Val.{SFits, to_z, of_z}
-use borrow.Author.Tests.{eq-eqb, ne_eqb, eqb-true}
-use Rattle.language.specs.Cases.{by_cond}
+use borrow.Author.Tests.{eq-eqb, ne_eqb}
 use Rattle.language.specs.Limits.{text_parts}
 use Rattle.language.specs.Names.{is_long, packed, data_word}
-use Rattle.rules.specs.declared.Value.TheVariants.{Number}
-use Rattle.values.proofs.PackingRules.{pack-number}
-use Rattle.values.proofs.Signed.{wide}
 use Rattle.grammar.specs.Tokens.{when}
 use Rattle.grammar.proofs.TokensLaws.{by-test}
 use Rattle.records.specs.Records.{number_key}
 use Rattle.layout.specs.Memory.{node_with, node}
 use Rattle.layout.specs.Nodes.{number_kind, variable_kind, unbound_kind, readings_kind}
 use Rattle.descent.specs.Cursor as C
-use Rattle.descent.specs.Descent.{State, moved}
+use Rattle.descent.specs.Descent.{State, moved, then}
 use Rattle.descent.specs.Descent as D
 use Rattle.descent.specs.Moves.{not-refused, part-fits}
 use Rattle.descent.specs.Paths.{then-stop, then-go}
 use Rattle.steps.specs.declared.cursor.Cursor.{Cursor}
 use Rattle.steps.specs.declared.scratch.Call.{Call}
+use Rattle.language.specs.declared.refusals.Refusal.{Refusal}
+use Rattle.language.specs.declared.refusals.Refusal.TheVariants.{NumberOutside, NameTooLong}
+use Rattle.language.specs.declared.refusals.Refused.{Refused}
 use Rattle.lexer.specs.declared.tokens.Lexed.{Lexed}
-use Rattle.lexer.specs.declared.tokens.Literal.{Literal}
-use Rattle.lexer.specs.declared.tokens.Literal.TheVariants.{In, Beyond}
-use Rattle.lexer.specs.Lexing.{lex_at, tokens_from, bytes_at, value_of, judged, name_at}
+use Rattle.lexer.specs.Lexing.{tokens_from, bytes_at, value_of, judged, name_at}
 use Rattle.lexer.specs.LexingLaws.{judged-in, judged-beyond, name-whole}
-use Rattle.steps.specs.Cursors.{state_of, passed_or_refused, part_or_refused, passing, passing_part, name_fault, number_fault}
-use Rattle.steps.specs.CursorsLaws.{head-word, head-value, judged-here, judged-part-here}
-use Rattle.steps.specs.Scratch.{Wrote, WroteIn, WroteFor, WroteCall, Linked, Recorded, BoundRoom, ScopedRoom, NameRoom, NameAhead, NumberAhead, ShutAhead, is_beyond, key_of}
+use Rattle.steps.specs.Cursors.{state_of, refused_at, fault_of, part_to, passed_or_refused, part_or_refused, Comes, Leaves}
+use Rattle.steps.specs.CursorsLaws.{head-word, head-value, refused-number, refused-here, judged-here, judged-part-here}
+use Rattle.steps.specs.Scratch.{Wrote, WroteIn, WroteFor, WroteCall, Linked, Recorded, ScopedRoom, NameRoom, NameAhead, NumberAhead}
 
 -- ---- put
 pub put-path : (c : Cursor) (p k y f s l : ℕ) (records places : List ℕ)
     → Wrote (D.put p (node_with k y f s l)) c records places
-    (record { at = c.at; parts = c.parts; count = c.count + 1; root = c.count; name = c.name; takes = c.takes; number = c.number; place = c.place })
+    (record { at = c.at; parts = c.parts; count = c.count + 1; root = c.count; name = c.name; takes = c.takes })
     (set (set records (2 * c.count) (k + 32 * f + 8192 * s + 2097152 * l)) (2 * c.count + 1) y) (set places p c.count)
 unfolding D.put D.counted D.link_word
 put-path c p k y f s l records places =
     record {
       same = λ text scope i. record {
-        cursor = record { rest = tokens_from text c.at; parts = c.parts; count = add-one c.count i; root = c.count; name = c.name; takes = c.takes; number = c.number; place = c.place };
+        cursor = record { rest = tokens_from text c.at; parts = c.parts; count = add-one c.count i; root = c.count; name = c.name; takes = c.takes; number = 0; place = 0 };
         records = set (set records (2 * c.count) (k + 32 * f + 8192 * s + 2097152 * l)) (2 * c.count + 1) y;
         places = set places p c.count;
         scope = scope;
@@ -87,8 +83,7 @@ module _ (p x : ℕ) (c : Cursor) (records places : List ℕ) (r : Cursor) (reco
     unfolding D.put_name when
     name-scoped depth b t q n e h = record { same = λ text. rw (sym q ∙ n, ← e) (h.same text) }
 
-pub bound-room : (c : Cursor) (p b : ℕ) (scope : List ℕ) → ScopedRoom c p b scope → (b ≡ 0 → ⊥) → BoundRoom c p (C.binder_link scope (b - 1))
-bound-room c p b scope h n = record { count = h.count; place = h.place; link = h.link n }
+pub ruleset putting = (put-path, bound-variable, bound-record, scoped-none, scoped-bound, name-data, name-scoped)
 
 -- a binder that is found is one of the scope, and its link is bounded as all are
 module _ (scope : List ℕ) (x : ℕ) where
@@ -112,125 +107,141 @@ module _ (scope : List ℕ) (x : ℕ) where
       let d = h.depth in
       record { count = h.count; place = h.place; binder = omega arith; link = λ n. rw e (binder-link depth h.links (λ z. n (e ∙ z))) }
 
--- ---- a number's key
-pub key-path : (z : ℤ) → SFits w32 z → (v : Literal) → v ≡ In z → nat_abs (to_z w64 (of_z w64 (wide z +ℤ pos 2147483648))) ≡ key_of v
-key-path z f v e =
-    let h : nat_abs (to_z w64 (of_z w64 (wide z +ℤ pos 2147483648))) + 1 ≡ suc (nat_abs (z +ℤ pos 2147483648)) = pack-number z f (Number z) refl in
-    let k : nat_abs (to_z w64 (of_z w64 (wide z +ℤ pos 2147483648))) ≡ number_key z = omega arith in
-    k ∙ ap key_of (sym e)
+-- ---- a refusal and a way on, as states
+module _ (text : List ℕ) (R P S : List ℕ) where
+  pub refused-leaves : (c : Cursor) (f : Refused) (d : C.Cursor) (k : State → State) → Comes text (Err f) d
+      → Leaves text (Err f) R P S (then (moved (state_of text c R P S) d) k)
+  refused-leaves c f d k h =
+      rw (then-stop k (refl {a = moved (state_of text c R P S) d}) (refused-number text f d h)) (record { cursor = h; records = refl; places = refl; scope = refl })
+
+  pub passed-on : (c a : Cursor) (d : C.Cursor) (k : State → State) → Comes text (Ok a) d → (s : State) → s ≡ k (state_of text a R P S)
+      → s ≡ then (moved (state_of text c R P S) d) k
+  passed-on c a d k h s e = sym (then-go k (ap (moved (state_of text c R P S)) (sym h)) refl (sym e))
+
+  pub leaves_ok : (r : Cursor) (s : State) → state_of text r R P S ≡ s → Leaves text (Ok r) R P S s
+  leaves_ok r s e =
+      record { cursor = ap (λ (v : State). v.cursor) e; records = ap (λ (v : State). v.records) e; places = ap (λ (v : State). v.places) e; scope = ap (λ (v : State). v.scope) e }
 
 -- ---- a token that is passed
-module _ (x : Lexed) (c a : Cursor) (n : ℕ) (pa : a ≡ part_or_refused x n c) where
-  passed-zero : a.number ≡ 0 → n ≡ 0
-  passed-zero = rw pa (by_cond (λ (b : Cursor). b.number ≡ 0 → n ≡ 0) (eqb n 0) _ _ (λ t _. eqb-true n 0 t) (λ _ z. z))
+module _ (x : Lexed) (c a : Cursor) (v : Result (Unit {0}) Refusal) where
+  pub passed-part : Ok a ≡ part_or_refused x v c → (fault_of v ≡ 0) × (a.count ≡ c.count)
+  passed-part = go v
+    where
+      go : (v : Result (Unit {0}) Refusal) → Ok a ≡ part_or_refused x v c → (fault_of v ≡ 0) × (a.count ≡ c.count)
+      go (Ok u) q = let e : a ≡ part_to c x.end = cc in (refl, ap (λ (b : Cursor). b.count) e)
+      go (Err f) q = (cc, cc)
 
-  same_count : a.count ≡ c.count
-  same_count = rw pa (by_cond (λ (b : Cursor). b.count ≡ c.count) (eqb n 0) _ _ (λ _. refl) (λ _. refl))
+  module _ (w : Bool) (f : fault_of v ≡ cond w 9 (C.at_part c.parts)) (q : Ok a ≡ part_or_refused x v c) where
+    few-parts : c.parts < text_parts
+    few-parts = part-fits c.parts (not-refused w 8 _ (sym f ∙ (passed-part q).0)).1
 
-  module _ (w : Bool) (z : a.number ≡ 0) where
-    module _ (long : Bool) (f : n ≡ name_fault w long c.parts) where
-      not-long : long ≡ false
-      not-long = (not-refused long 6 _ (sym f ∙ passed-zero z)).0
+    pub name-room : (text : List ℕ) (depth : ℕ) (scope : List ℕ) → NameAhead text x depth c scope → NameRoom a c.parts depth scope
+    name-room text depth scope h =
+        let few = few-parts in
+        let e = (passed-part q).1 in
+        let m = h.count in
+        record { count = omega arith; place = few; depth = h.depth; links = λ b i. let l = h.links b i in omega arith }
 
-      few-parts : c.parts < text_parts
-      few-parts = part-fits c.parts (not-refused w 8 _ (not-refused long 6 _ (sym f ∙ passed-zero z)).1).1
-
-      pub name-room : (text : List ℕ) (depth : ℕ) (scope : List ℕ) → NameAhead text x depth c scope → NameRoom a c.parts depth scope
-      name-room text depth scope h =
-          let few = few-parts in
-          let e = same_count in
-          let m = h.count in
-          record { count = omega arith; place = few; depth = h.depth; links = λ b i. let l = h.links b i in omega arith }
-
-    module _ (beyond : Bool) (f : n ≡ number_fault w beyond c.parts) where
-      not_beyond : beyond ≡ false
-      not_beyond = (not-refused beyond 5 _ (sym f ∙ passed-zero z)).0
-
-      pub number-room : (text : List ℕ) → NumberAhead text x c → Recorded a c.parts 0 0 0
-      number-room text h =
-          let few = part-fits c.parts (not-refused w 8 _ (not-refused beyond 5 _ (sym f ∙ passed-zero z)).1).1 in
-          let e = same_count in
-          let m = h.count in
-          record { count = omega arith; place = few; kind = omega arith; first = omega arith; second = omega arith }
+    pub number-room : (text : List ℕ) → NumberAhead text x c → Recorded a c.parts 0 0 0
+    number-room text h =
+        let few = few-parts in
+        let e = (passed-part q).1 in
+        let m = h.count in
+        record { count = omega arith; place = few; kind = omega arith; first = omega arith; second = omega arith }
 
 -- ---- read_name and read_number
-module _ (text : List ℕ) (w : Bool) (c a : Cursor) (x : Lexed) (n : ℕ) (pa : a ≡ part_or_refused x n c) (records places : List ℕ) where
-  part-is : x ≡ lex_at text c.at → (m : ℕ) → n ≡ m → (scope : List ℕ) → moved (state_of text c records places scope) (passing_part text m c) ≡ state_of text a records places scope
-  part-is e m p scope = ap (λ (b : C.Cursor). moved (state_of text c records places scope) b) (sym (judged-part-here text c x e a n m p pa))
-
+module _ (text : List ℕ) (w : Bool) (c : Cursor) (x : Lexed) (records places : List ℕ) where
   abbrev bytes-there : List ℕ
   bytes-there = bytes_at text x.start x.end
 
-  module _ (depth : ℕ) (scope : List ℕ) (long : Bool) (l : long ≡ is_long bytes-there) (f : n ≡ name_fault w long c.parts) (h : NameAhead text x depth c scope) where
+  module _ (depth : ℕ) (scope : List ℕ) (long : Bool) (l : long ≡ is_long bytes-there) (h : NameAhead text x depth c scope) where
     abbrev read_name : State
     read_name = D.read_name (length text) w depth (state_of text c records places scope)
 
     the_word : C.head_word (tokens_from text c.at) ≡ bytes-there
     the_word = head-word text c.at x h.next h.kind
 
-    name-number : n ≡ C.at_name w (C.head_word (tokens_from text c.at)) c.parts
+    name-number : C.at_name w (C.head_word (tokens_from text c.at)) c.parts ≡ cond long 7 (cond w 9 (C.at_part c.parts))
     unfolding C.at_name
-    name-number = f ∙ rw (l, the_word)
+    name-number = rw (l, the_word)
 
-    pub name-stopped : (a.number ≡ 0 → ⊥) → state_of text a records places scope ≡ read_name
+    pub name-long : long ≡ true → (f : Refused) → f ≡ refused_at x NameTooLong → Leaves text (Err f) records places scope read_name
     unfolding D.read_name
-    name-stopped z = sym (then-stop _ (part-is h.next _ name-number scope) (ne_eqb a.number 0 z))
+    name-long t f q = rw q (refused-leaves text records places scope c _ _ _ (refused-here text c x h.next NameTooLong _ (sym (name-number ∙ rw t)) _))
 
-    pub name-read : (m : ℕ) (r : Cursor) (records' places' : List ℕ) → a.number ≡ 0 → m ≡ name_at bytes-there
-        → WroteIn scope (D.put_name c.parts m depth) a records places r records' places' → state_of text r records' places' scope ≡ read_name
-    unfolding D.read_name
-    name-read m r records' places' z q k =
-        let y : m ≡ packed (C.head_word (tokens_from text c.at)) = q ∙ name-whole bytes-there (sym l ∙ not-long x c a n pa w z long f) ∙ ap packed (sym the_word) in
-        sym (then-go _ (part-is h.next _ name-number scope) (eq-eqb a.number 0 z) (rw (← y) (sym (k.same text))))
+    module _ (t : long ≡ false) (v : Result (Unit {0}) Refusal) (p : fault_of v ≡ cond w 9 (C.at_part c.parts)) where
+      verdict : fault_of v ≡ C.at_name w (C.head_word (tokens_from text c.at)) c.parts
+      verdict = p ∙ sym (name-number ∙ rw t)
 
-  module _ (value : Literal) (beyond : Bool) (v : value ≡ judged (value_of bytes-there)) (b : beyond ≡ is_beyond value) (f : n ≡ number_fault w beyond c.parts) (h : NumberAhead text x c) where
+      pub name-stopped : (f : Refused) → Err f ≡ part_or_refused x v c → Leaves text (Err f) records places scope read_name
+      unfolding D.read_name
+      name-stopped f q = refused-leaves text records places scope c f _ _ (judged-part-here text c x h.next _ v verdict (Err f) q)
+
+      pub name-read : (a : Cursor) → Ok a ≡ part_or_refused x v c → (m : ℕ) → m ≡ name_at bytes-there → (r : Cursor) (records' places' : List ℕ)
+          → WroteIn scope (D.put_name c.parts m depth) a records places r records' places' → Leaves text (Ok r) records' places' scope read_name
+      unfolding D.read_name
+      name-read a q m e r records' places' k =
+          let y : m ≡ packed (C.head_word (tokens_from text c.at)) = e ∙ name-whole bytes-there (sym l ∙ t) ∙ ap packed (sym the_word) in
+          leaves_ok text records' places' scope r _
+          (passed-on text records places scope c a _ _ (judged-part-here text c x h.next _ v verdict (Ok a) q) _
+          (k.same text ∙ ap (λ (n : ℕ). D.put_name c.parts n depth (state_of text a records places scope)) y))
+
+  module _ (value : Option ℤ) (v : value ≡ judged (value_of bytes-there)) (h : NumberAhead text x c) where
     the_value : C.head_value (tokens_from text c.at) ≡ value_of bytes-there
     the_value = head-value text c.at x h.next h.kind
 
-    outside-is : (u : Literal) → u ≡ judged (value_of bytes-there) → is_beyond u ≡ C.is_outside (value_of bytes-there)
-    outside-is (In z) q = sym (judged-in (value_of bytes-there) z (sym q)).1
-    outside-is Beyond q = sym (judged-beyond (value_of bytes-there) (sym q))
-
-    number-number : n ≡ C.at_number w (C.head_value (tokens_from text c.at)) c.parts
+    number-number : (t : Bool) → C.is_outside (value_of bytes-there) ≡ t → C.at_number w (C.head_value (tokens_from text c.at)) c.parts ≡ cond t 6 (cond w 9 (C.at_part c.parts))
     unfolding C.at_number
-    number-number = f ∙ rw (b ∙ outside-is value v, the_value)
+    number-number t e = rw (the_value, e)
 
-    key-is : (u : Literal) → u ≡ judged (value_of bytes-there) → is_beyond u ≡ false → key_of u ≡ number_key (C.head_value (tokens_from text c.at))
-    key-is (In z) q o = ap number_key ((judged-in (value_of bytes-there) z (sym q)).0 ∙ sym the_value)
-    key-is Beyond q o = absurd (true≢false o)
-
-    pub number-stopped : (a.number ≡ 0 → ⊥) → WroteFor text (D.read_number (length text) w) c records places a records places
+    pub number-outside : value ≡ None → (f : Refused) → f ≡ refused_at x NumberOutside → WroteFor text (D.read_number (length text) w) c records places (Err f) records places
     unfolding D.read_number
-    number-stopped z = record { same = λ scope. sym (then-stop _ (part-is h.next _ number-number scope) (ne_eqb a.number 0 z)) }
+    number-outside n f q =
+        record {
+          leaves = λ scope.
+              rw q (refused-leaves text records places scope c _ _ _
+              (refused-here text c x h.next NumberOutside _ (sym (number-number true (judged-beyond (value_of bytes-there) (sym v ∙ n)))) _));
+        }
 
-    pub number_read : (m : ℕ) (r : Cursor) (records' places' : List ℕ) → a.number ≡ 0 → m ≡ key_of value
-        → Wrote (D.put c.parts (node number_kind m 0 0)) a records places r records' places'
-        → WroteFor text (D.read_number (length text) w) c records places r records' places'
-    unfolding D.read_number
-    number_read m r records' places' z q k =
-        let y : m ≡ number_key (C.head_value (tokens_from text c.at)) = q ∙ key-is value v (sym b ∙ not_beyond x c a n pa w z beyond f) in
-        record { same = λ scope. sym (then-go _ (part-is h.next _ number-number scope) (eq-eqb a.number 0 z) (rw (← y) (sym (k.same text scope)))) }
+    module _ (z : ℤ) (i : value ≡ Some z) (u : Result (Unit {0}) Refusal) (p : fault_of u ≡ cond w 9 (C.at_part c.parts)) where
+      inside : (z ≡ value_of bytes-there) × (C.is_outside (value_of bytes-there) ≡ false)
+      inside = judged-in (value_of bytes-there) z (sym v ∙ i)
+
+      number-verdict : fault_of u ≡ C.at_number w (C.head_value (tokens_from text c.at)) c.parts
+      number-verdict = p ∙ sym (number-number false inside.1)
+
+      pub number-stopped : (f : Refused) → Err f ≡ part_or_refused x u c → WroteFor text (D.read_number (length text) w) c records places (Err f) records places
+      unfolding D.read_number
+      number-stopped f q =
+          record { leaves = λ scope. refused-leaves text records places scope c f _ _ (judged-part-here text c x h.next _ u number-verdict (Err f) q) }
+
+      pub number_read : (a : Cursor) → Ok a ≡ part_or_refused x u c → (m : ℕ) → m ≡ number_key z → (r : Cursor) (records' places' : List ℕ)
+          → Wrote (D.put c.parts (node number_kind m 0 0)) a records places r records' places'
+          → WroteFor text (D.read_number (length text) w) c records places (Ok r) records' places'
+      unfolding D.read_number
+      number_read a q m e r records' places' k =
+          let y : m ≡ number_key (C.head_value (tokens_from text c.at)) = e ∙ ap number_key (inside.0 ∙ sym the_value) in
+          record {
+            leaves = λ scope.
+                leaves_ok text records' places' scope r _
+                (passed-on text records places scope c a _ _ (judged-part-here text c x h.next _ u number-verdict (Ok a) q) _
+                (k.same text scope ∙ ap (λ (n : ℕ). D.put c.parts (node number_kind n 0 0) (state_of text a records places scope)) y));
+          }
 
 -- ---- read_shut
-module _ (x : Lexed) (k : Call) (c a : Cursor) (n : ℕ) (f : n ≡ C.at_shut k.takes) (pa : a ≡ passed_or_refused x n c) (records places : List ℕ) where
-  shut-is : (text scope : List ℕ) → x ≡ lex_at text c.at → moved (state_of text c records places scope) (passing text (C.at_shut k.takes) c) ≡ state_of text a records places scope
-  shut-is text scope e = ap (λ (b : C.Cursor). moved (state_of text c records places scope) b) (sym (judged-here text c x e a n _ f pa))
-
-  pub shut-room : ShutAhead k c → Recorded a k.place k.kind (k.receiver + 1) k.argument
-  shut-room h =
-      let e : a.count ≡ c.count = rw pa (by_cond (λ (b : Cursor). b.count ≡ c.count) (eqb n 0) _ _ (λ _. refl) (λ _. refl)) in
-      let m = h.count in
-      let r = h.receiver in
-      record { count = omega arith; place = h.place; kind = h.kind; first = omega arith; second = h.argument }
-
-  pub shut-stopped : (a.number ≡ 0 → ⊥) → WroteCall x k c records places a records places
+module _ (x : Lexed) (k : Call) (c : Cursor) (v : Result (Unit {0}) Refusal) (p : fault_of v ≡ C.at_shut k.takes) (records places : List ℕ) where
+  pub shut-stopped : (f : Refused) → Err f ≡ passed_or_refused x v c → WroteCall x k c records places (Err f) records places
   unfolding D.read_shut
-  shut-stopped z = record { same = λ text scope e. sym (then-stop _ (shut-is text scope e) (ne_eqb a.number 0 z)) }
+  shut-stopped f q = record { leaves = λ text scope e. refused-leaves text records places scope c f _ _ (judged-here text c x e _ v p (Err f) q) }
 
-  pub shut-read : (r : Cursor) (records' places' : List ℕ) → a.number ≡ 0
+  pub shut-read : (a : Cursor) → Ok a ≡ passed_or_refused x v c → (r : Cursor) (records' places' : List ℕ)
       → Wrote (D.put k.place (node k.kind 0 (k.receiver + 1) k.argument)) a records places r records' places'
-      → WroteCall x k c records places r records' places'
+      → WroteCall x k c records places (Ok r) records' places'
   unfolding D.read_shut
-  shut-read r records' places' z h =
-      let y : k.receiver + 1 ≡ suc k.receiver = add-one k.receiver in
-      record { same = λ text scope e. sym (then-go _ (shut-is text scope e) (eq-eqb a.number 0 z) (rw (← y) (sym (h.same text scope)))) }
+  shut-read a q r records' places' h =
+      record {
+        leaves = λ text scope e.
+            leaves_ok text records' places' scope r _
+            (passed-on text records places scope c a _ _ (judged-here text c x e _ v p (Ok a) q) _
+            (h.same text scope ∙ ap (λ (n : ℕ). D.put k.place (node k.kind 0 n k.argument) (state_of text a records places scope)) (add-one k.receiver)));
+      }

@@ -1,6 +1,9 @@
 -- The code's cursor stands for descent's: the tokens that are left are those from its place on. Assumes nothing: these are definitions.
-use Rattle.std.specs.Prelude.{◌≡◌, Bool, cond, List, ℕ, ◌+◌, ◌≤◌, leb, eqb, length}
-use Rattle.language.specs.Limits.{open_marks, text_parts}
+use Rattle.std.specs.Prelude.{◌≡◌, List, ℕ, ◌+◌, ◌≤◌, length, Result, Ok, Err}
+use Rattle.language.specs.declared.refusals.Refusal.{Refusal}
+use Rattle.language.specs.declared.refusals.Refused.{Refused}
+use Rattle.language.specs.Limits.{text_parts}
+use Rattle.language.specs.Refusals.{refusal_number}
 use Rattle.descent.specs.Cursor as D
 use Rattle.descent.specs.Descent.{State}
 use Rattle.steps.specs.declared.cursor.Cursor.{Cursor}
@@ -9,41 +12,58 @@ use Rattle.lexer.specs.Lexing.{lex_at, tokens_from}
 
 abbrev pub cursor_of : List ℕ → Cursor → D.Cursor
 cursor_of text c =
-    record { rest = tokens_from text c.at; parts = c.parts; count = c.count; root = c.root; name = c.name; takes = c.takes; number = c.number; place = c.place }
+    record { rest = tokens_from text c.at; parts = c.parts; count = c.count; root = c.root; name = c.name; takes = c.takes; number = 0; place = 0 }
 
 -- with the three arrays
 abbrev pub state_of : List ℕ → Cursor → (records places scope : List ℕ) → State
 state_of text c records places scope = record { cursor = cursor_of text c; records = records; places = places; scope = scope }
 
--- the code's cursor at another place, behind the token of a part, behind a name, and with a refusal
+-- the code's cursor at another place, behind the token of a part, and behind a name
 abbrev pub passed_to : Cursor → ℕ → Cursor
-passed_to c at = record { at = at; parts = c.parts; count = c.count; root = c.root; name = c.name; takes = c.takes; number = c.number; place = c.place }
+passed_to c at = record { at = at; parts = c.parts; count = c.count; root = c.root; name = c.name; takes = c.takes }
 
 abbrev pub part_to : Cursor → ℕ → Cursor
-part_to c at = record { at = at; parts = c.parts + 1; count = c.count; root = c.root; name = c.name; takes = c.takes; number = c.number; place = c.place }
+part_to c at = record { at = at; parts = c.parts + 1; count = c.count; root = c.root; name = c.name; takes = c.takes }
 
 abbrev pub named_to : Cursor → ℕ → ℕ → ℕ → Cursor
-named_to c at name takes = record { at = at; parts = c.parts; count = c.count; root = c.root; name = name; takes = takes; number = c.number; place = c.place }
+named_to c at name takes = record { at = at; parts = c.parts; count = c.count; root = c.root; name = name; takes = takes }
 
-abbrev pub refused_at : Cursor → ℕ → ℕ → Cursor
-refused_at c n place = record { at = c.at; parts = c.parts; count = c.count; root = c.root; name = c.name; takes = c.takes; number = n; place = place }
+-- the refusal of the token x
+abbrev pub refused_at : Lexed → Refusal → Refused
+refused_at x e = record { refusal = e; place = x.start }
 
--- the code's cursor where the token x is next, which is refused by a number other than 0 and else passed, or passed as a part
-abbrev pub passed_or_refused : Lexed → ℕ → Cursor → Cursor
-passed_or_refused x n c = cond (eqb n 0) (passed_to c x.end) (refused_at c n x.start)
+-- the number of a verdict on a token: its refusal's, 0 for none
+abbrev pub fault_of : Result (Unit {0}) Refusal → ℕ
+fault_of (Ok u) = 0
+fault_of (Err e) = refusal_number e
 
-abbrev pub part_or_refused : Lexed → ℕ → Cursor → Cursor
-part_or_refused x n c = cond (eqb n 0) (part_to c x.end) (refused_at c n x.start)
+-- the code's cursor where the token x is next, which is refused by the verdict or passed, or passed as a part
+abbrev pub passed_or_refused : Lexed → Result (Unit {0}) Refusal → Cursor → Result Cursor Refused
+passed_or_refused x (Ok u) c = Ok (passed_to c x.end)
+passed_or_refused x (Err e) c = Err (refused_at x e)
+
+abbrev pub part_or_refused : Lexed → Result (Unit {0}) Refusal → Cursor → Result Cursor Refused
+part_or_refused x (Ok u) c = Ok (part_to c x.end)
+part_or_refused x (Err e) c = Err (refused_at x e)
+
+-- what the code comes to where descent comes to the cursor d: a cursor that stands for it, or its refusal
+abbrev pub Comes : List ℕ → Result Cursor Refused → D.Cursor → Type 0
+Comes text (Ok c) d = cursor_of text c ≡ d
+Comes text (Err e) d = (refusal_number e.refusal ≡ d.number) × (e.place ≡ d.place)
+
+-- and where it comes to the state s, with the arrays
+pub record Leaves (text : List ℕ) (r : Result Cursor Refused) (R P S : List ℕ) (s : State) : Type 0 where
+  pub cursor : Comes text r s.cursor
+  pub records : R ≡ s.records
+  pub places : P ≡ s.places
+  pub scope : S ≡ s.scope
 
 -- the token x is next, and a part can be counted
 pub record PartAhead (text : List ℕ) (x : Lexed) (c : Cursor) : Type 0 where
   pub next : x ≡ lex_at text c.at
   pub parts : c.parts ≤ text_parts
 
--- the token at the cursor is refused; or refused by a number other than 0 and else passed, as a part, or as a name
-abbrev pub refusing : List ℕ → ℕ → Cursor → D.Cursor
-refusing text n c = D.refuse (length text) n (cursor_of text c)
-
+-- the token at the cursor is refused by a number other than 0 and else passed, as a part, or as a name
 abbrev pub passing : List ℕ → ℕ → Cursor → D.Cursor
 passing text n c = D.judge (length text) n (cursor_of text c) (λ _. D.pass (cursor_of text c))
 
@@ -58,17 +78,3 @@ member_named text c = D.judge (length text) (D.at_member (tokens_from text c.at)
 
 abbrev pub call_opened : List ℕ → ℕ → Cursor → D.Cursor
 call_opened text marks c = D.judge (length text) (D.at_call_open marks (tokens_from text c.at)) (cursor_of text c) (λ _. D.pass (cursor_of text c))
-
--- the faults of a name and of a number in use, from the tests of the token there
-abbrev pub name_fault : (w long : Bool) (parts : ℕ) → ℕ
-name_fault w long parts = cond long 7 (cond w 9 (D.at_part parts))
-
-abbrev pub number_fault : (w beyond : Bool) (parts : ℕ) → ℕ
-number_fault w beyond parts = cond beyond 6 (cond w 9 (D.at_part parts))
-
--- the faults where a name or a call's bracket is due, from the tests of the token there
-abbrev pub binder_fault : (word long reserved : Bool) → ℕ
-binder_fault word long reserved = cond word (cond long 7 (cond reserved 8 0)) 5
-
-abbrev pub open_fault : Bool → (marks : ℕ) → ℕ
-open_fault bracket marks = cond bracket (cond (leb open_marks marks) 12 0) 5

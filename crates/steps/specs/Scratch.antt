@@ -1,33 +1,32 @@
 -- The code's cursor with the lent arrays stands for descent's state, and the room that is needed to write. Assumes nothing: these are
 -- definitions.
-use Rattle.std.specs.Prelude.{◌≡◌, Bool, true, false, List, ℕ, ◌-◌, ◌≤◌, ◌<◌, length, set}
+use Rattle.std.specs.Prelude.{◌≡◌, List, ℕ, ◌-◌, ◌≤◌, ◌<◌, length, set, Result}
 use Rattle.language.specs.Limits.{text_parts, open_marks}
 use Rattle.layout.specs.Held.{kind_base}
-use Rattle.records.specs.Records.{number_key}
-use Rattle.descent.specs.Cursor.{word_kind, digits_kind, binder_link}
+use Rattle.descent.specs.Cursor.{binder_link}
 use Rattle.descent.specs.Descent.{State}
 use Rattle.descent.specs.Descent as D
 use Rattle.steps.specs.declared.cursor.Cursor.{Cursor}
 use Rattle.steps.specs.declared.scratch.Call.{Call}
 use Rattle.lexer.specs.declared.tokens.Lexed.{Lexed}
-use Rattle.lexer.specs.declared.tokens.Literal.{Literal}
-use Rattle.lexer.specs.declared.tokens.Literal.TheVariants.{In, Beyond}
+use Rattle.lexer.specs.declared.tokens.TokenKind.TheVariants as K
+use Rattle.language.specs.declared.refusals.Refused.{Refused}
 use Rattle.lexer.specs.Lexing.{lex_at}
-use Rattle.steps.specs.Cursors.{state_of}
+use Rattle.steps.specs.Cursors.{state_of, Leaves}
 
--- what a function that writes records and places does: whatever the text and the scope, in a scope, and for a text
+-- what a function that writes records and places does: whatever the text and the scope, in a scope, and for a text, where it may refuse
 pub record Wrote (does : State → State) (c : Cursor) (records places : List ℕ) (r : Cursor) (records' places' : List ℕ) : Type 0 where
   pub same : (text scope : List ℕ) → state_of text r records' places' scope ≡ does (state_of text c records places scope)
 
 pub record WroteIn (scope : List ℕ) (does : State → State) (c : Cursor) (records places : List ℕ) (r : Cursor) (records' places' : List ℕ) : Type 0 where
   pub same : (text : List ℕ) → state_of text r records' places' scope ≡ does (state_of text c records places scope)
 
-pub record WroteFor (text : List ℕ) (does : State → State) (c : Cursor) (records places : List ℕ) (r : Cursor) (records' places' : List ℕ) : Type 0 where
-  pub same : (scope : List ℕ) → state_of text r records' places' scope ≡ does (state_of text c records places scope)
+pub record WroteFor (text : List ℕ) (does : State → State) (c : Cursor) (records places : List ℕ) (r : Result Cursor Refused) (records' places' : List ℕ) : Type 0 where
+  pub leaves : (scope : List ℕ) → Leaves text r records' places' scope (does (state_of text c records places scope))
 
 -- the code's cursor with another record last read
 abbrev pub rooted_at : Cursor → ℕ → Cursor
-rooted_at c j = record { at = c.at; parts = c.parts; count = c.count; root = j; name = c.name; takes = c.takes; number = c.number; place = c.place }
+rooted_at c j = record { at = c.at; parts = c.parts; count = c.count; root = j; name = c.name; takes = c.takes }
 
 pub record Linked (p j : ℕ) (c : Cursor) (places : List ℕ) (r : Cursor) (places' : List ℕ) : Type 0 where
   pub cursor : r ≡ rooted_at c j
@@ -63,7 +62,7 @@ pub record NameRoom (c : Cursor) (p d : ℕ) (scope : List ℕ) : Type 0 where
 -- the token x is next, a name or a number, and there is room for what it writes; room for what the bracket that ends a call writes
 pub record NameAhead (text : List ℕ) (x : Lexed) (d : ℕ) (c : Cursor) (scope : List ℕ) : Type 0 where
   pub next : x ≡ lex_at text c.at
-  pub kind : x.kind ≡ word_kind
+  pub kind : x.kind ≡ K.Word
   pub parts : c.parts ≤ text_parts
   pub count : c.count ≤ c.parts
   pub depth : d ≤ open_marks
@@ -71,7 +70,7 @@ pub record NameAhead (text : List ℕ) (x : Lexed) (d : ℕ) (c : Cursor) (scope
 
 pub record NumberAhead (text : List ℕ) (x : Lexed) (c : Cursor) : Type 0 where
   pub next : x ≡ lex_at text c.at
-  pub kind : x.kind ≡ digits_kind
+  pub kind : x.kind ≡ K.Number
   pub parts : c.parts ≤ text_parts
   pub count : c.count ≤ c.parts
 
@@ -86,15 +85,6 @@ abbrev pub call_of : Call → D.Call
 call_of k = record { kind = k.kind; takes = k.takes; receiver = k.receiver; place = k.place; argument = k.argument }
 
 -- what reading the bracket that ends a call does, in each text that has it, the token x, at the cursor
-pub record WroteCall (x : Lexed) (k : Call) (c : Cursor) (records places : List ℕ) (r : Cursor) (records' places' : List ℕ) : Type 0 where
-  pub same : (text scope : List ℕ) → x ≡ lex_at text c.at
-      → state_of text r records' places' scope ≡ D.read_shut (length text) (call_of k) (state_of text c records places scope)
-
--- of a number's value: is it refused, and its key; one that is refused has any
-abbrev pub is_beyond : Literal → Bool
-is_beyond (In z) = false
-is_beyond Beyond = true
-
-abbrev pub key_of : Literal → ℕ
-key_of (In z) = number_key z
-key_of Beyond = 0
+pub record WroteCall (x : Lexed) (k : Call) (c : Cursor) (records places : List ℕ) (r : Result Cursor Refused) (records' places' : List ℕ) : Type 0 where
+  pub leaves : (text scope : List ℕ) → x ≡ lex_at text c.at
+      → Leaves text r records' places' scope (D.read_shut (length text) (call_of k) (state_of text c records places scope))

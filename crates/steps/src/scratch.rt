@@ -1,22 +1,24 @@
 // The records that a text is read to, written into lent arrays: two words a record, the record of each part by place, and two cells a binder.
-// Each function is the function of its name in descent's Descent.
+// Each function is the function of its name in descent's Descent. The lent arrays and the scope are parameters of their own, as in the parser.
 ghost use Rattle.std.specs.Prelude.{◌≡◌, ◌+◌, ◌*◌, ◌≤◌, ◌<◌, length, set};
 ghost use Rattle.language.specs.Limits.{text_parts, open_marks};
 ghost use Rattle.layout.specs.Memory.{node_with};
 ghost use Rattle.descent.specs.Descent.{put, put_bound, put_scoped, put_name, read_name, read_number};
-ghost use Rattle.steps.specs.Cursors.{state_of};
-ghost use Rattle.steps.specs.Scratch.{Wrote, WroteIn, WroteFor, WroteCall, Linked, Recorded, BoundRoom, ScopedRoom, NameRoom, NameAhead, NumberAhead, ShutAhead, is_beyond, key_of};
+ghost use Rattle.records.specs.Records.{number_key};
+ghost use Rattle.steps.specs.Cursors.{state_of, Leaves};
+ghost use Rattle.steps.specs.Scratch.{Wrote, WroteIn, WroteFor, WroteCall, Linked, Recorded, BoundRoom, ScopedRoom, NameRoom, NameAhead, NumberAhead, ShutAhead};
 
 use crate::cursor;
 use crate::cursor::{Cursor, SCOPE_CELLS};
 use language::limits::Text;
 use language::names;
+use language::refusals::{Refusal, Refused};
 use layout::nodes::{KIND_BASE, RECORD_LEVEL, RECORD_WEIGHT, Shape, TEXT_WORDS};
 use lexer::tokens;
-use lexer::tokens::{Lexed, Literal};
+use lexer::tokens::Lexed;
 
 // A call being read: its member's kind, how many arguments are still to come, the receiver's record, its part's place, and its first
-// argument, 0 for none or one more than a record.
+// argument, 0 for none or one more than a record. Kind and argument are numbers, as the packed word of a record has them.
 #[derive(Clone, Copy)]
 pub struct Call {
     pub kind: u8,
@@ -27,6 +29,7 @@ pub struct Call {
 }
 
 // A record for the part of place p: its kind, its number or name, what it depends on, each 0 for none or one more than a record, and its level.
+#[tactic(auto, using(crate::proofs::ScratchPaths::putting))]
 pub fn put(
     c: Cursor,
     p: u16,
@@ -49,14 +52,9 @@ pub fn put(
     records[2 * n + 1] = key;
     places[p as usize] = c.count;
     Cursor {
-        at: c.at,
-        parts: c.parts,
         count: c.count + 1,
         root: c.count,
-        name: c.name,
-        takes: c.takes,
-        number: c.number,
-        place: c.place,
+        ..c
     }
 }
 
@@ -66,16 +64,7 @@ fn link(c: Cursor, p: u16, j: u16, places: &mut [u16; Text::PARTS]) -> Cursor
     ensures { Linked p j c places.old result places.new }
 {
     places[p as usize] = j;
-    Cursor {
-        at: c.at,
-        parts: c.parts,
-        count: c.count,
-        root: j,
-        name: c.name,
-        takes: c.takes,
-        number: c.number,
-        place: c.place,
-    }
+    Cursor { root: j, ..c }
 }
 
 // The record last read, for the part of place p.
@@ -96,6 +85,7 @@ pub fn enter(depth: usize, x: u64, j: u64, scope: &mut [u64; SCOPE_CELLS])
 }
 
 // A bound name stands for a variable, which has its lambda's level, or for a record.
+#[tactic(auto, using(crate::proofs::ScratchPaths::putting))]
 fn put_bound(
     c: Cursor,
     p: u16,
@@ -116,6 +106,7 @@ fn put_bound(
 }
 
 // b: one more than the binder's number, 0 for none.
+#[tactic(auto, using(crate::proofs::ScratchPaths::putting))]
 fn put_scoped(
     c: Cursor,
     p: u16,
@@ -138,6 +129,7 @@ fn put_scoped(
 }
 
 // The packed name x in use.
+#[tactic(auto, using(crate::proofs::ScratchPaths::putting))]
 fn put_name(
     c: Cursor,
     p: u16,
@@ -165,23 +157,11 @@ fn put_name(
     }
 }
 
-fn is_beyond(value: Literal) -> bool
-    ensures { result ≡ is_beyond value }
-{
-    match value {
-        Literal::In(_) => false,
-        Literal::Beyond => true,
-    }
-}
-
 // A number is kept as itself plus 2^31.
-fn key_of(value: Literal) -> u64
-    ensures { result ≡ key_of value }
+fn key_of(value: i32) -> u64
+    ensures { result ≡ number_key value }
 {
-    match value {
-        Literal::In(z) => (z as i64 + 2147483648) as u64,
-        Literal::Beyond => 0,
-    }
+    (value as i64 + 2147483648) as u64
 }
 
 // A name in use.
@@ -194,27 +174,18 @@ pub fn read_name(
     scope: &[u64; SCOPE_CELLS],
     records: &mut [u64; TEXT_WORDS],
     places: &mut [u16; Text::PARTS],
-) -> Cursor
+) -> Result<Cursor, Refused>
     requires { NameAhead text.now x depth c scope.now }
-    ensures { state_of text.now result records.new places.new scope.now
-        ≡ read_name (length text.now) w depth
-        (state_of text.now c records.old places.old scope.now) }
+    ensures { Leaves text.now result records.new places.new scope.now
+        (read_name (length text.now) w depth
+        (state_of text.now c records.old places.old scope.now)) }
 {
-    let number = cursor::at_name(w, tokens::is_long(text, x.start, x.end), c.parts);
-    let a = cursor::judged_part(x, number, c);
-    if a.number == 0 {
-        put_name(
-            a,
-            c.parts,
-            tokens::name(text, x.start, x.end),
-            depth,
-            scope,
-            records,
-            places,
-        )
-    } else {
-        a
+    if tokens::is_long(text, x.start, x.end) {
+        return Err(cursor::refused(x, Refusal::NameTooLong));
     }
+    let a = cursor::judged_part(x, cursor::at_atom(w, c.parts), c)?;
+    let name = tokens::name(text, x.start, x.end);
+    Ok(put_name(a, c.parts, name, depth, scope, records, places))
 }
 
 // A number.
@@ -225,28 +196,25 @@ pub fn read_number(
     c: Cursor,
     records: &mut [u64; TEXT_WORDS],
     places: &mut [u16; Text::PARTS],
-) -> Cursor
+) -> Result<Cursor, Refused>
     requires { NumberAhead text.now x c }
     ensures { WroteFor text.now (read_number (length text.now) w) c records.old places.old result records.new places.new }
 {
-    let value = tokens::number(text, x.start, x.end);
-    let number = cursor::at_number(w, is_beyond(value), c.parts);
-    let a = cursor::judged_part(x, number, c);
-    if a.number == 0 {
-        put(
-            a,
-            c.parts,
-            Shape::NUMBER,
-            key_of(value),
-            0,
-            0,
-            0,
-            records,
-            places,
-        )
-    } else {
-        a
-    }
+    let Some(value) = tokens::number(text, x.start, x.end) else {
+        return Err(cursor::refused(x, Refusal::NumberOutside));
+    };
+    let a = cursor::judged_part(x, cursor::at_atom(w, c.parts), c)?;
+    Ok(put(
+        a,
+        c.parts,
+        Shape::NUMBER,
+        key_of(value),
+        0,
+        0,
+        0,
+        records,
+        places,
+    ))
 }
 
 // The bracket that ends a call.
@@ -256,24 +224,20 @@ pub fn read_shut(
     c: Cursor,
     records: &mut [u64; TEXT_WORDS],
     places: &mut [u16; Text::PARTS],
-) -> Cursor
+) -> Result<Cursor, Refused>
     requires { ShutAhead k c }
     ensures { WroteCall x k c records.old places.old result records.new places.new }
 {
-    let a = cursor::judged(x, cursor::at_shut(k.takes), c);
-    if a.number == 0 {
-        put(
-            a,
-            k.place,
-            k.kind as u16,
-            0,
-            k.receiver + 1,
-            k.argument,
-            0,
-            records,
-            places,
-        )
-    } else {
-        a
-    }
+    let a = cursor::judged(x, cursor::at_shut(k.takes), c)?;
+    Ok(put(
+        a,
+        k.place,
+        k.kind as u16,
+        0,
+        k.receiver + 1,
+        k.argument,
+        0,
+        records,
+        places,
+    ))
 }

@@ -1,1 +1,2 @@
 pub mod Waiting
+mod AllBelow

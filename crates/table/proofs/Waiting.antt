@@ -136,6 +136,8 @@ pub ruleset waiting = (
   at_leaf,
   at-function,
   at-member,
+  waits-turn,
+  waits_end,
   covers-is,
   few-here,
   own_first,

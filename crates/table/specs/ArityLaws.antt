@@ -1,12 +1,12 @@
 -- How many dependencies an entry has: two at most, and a right node's links are given or 0 as its kind says. Assumes nothing.
+use Rattle.std.specs.Prelude.{Option, Some, None}
+use Rattle.members.specs.declared.Member.{Member}
 use Rattle.std.specs.Prelude.{◌≡◌, true, ℕ, ◌≤◌, ◌<◌, leb, eqb}
 use Rattle.std.proofs.Math.Bool.{and-eq-true_iff}
 use Rattle.std.proofs.Common.{arith}
 use borrow.Author.Tests.{eqb-true, eq-eqb, ne_eqb, lt-ltb}
 use Rattle.language.specs.Cases.{split}
 use Rattle.members.specs.MembersLaws.{few-arguments}
-use Rattle.members.specs.declared.Found.{Found}
-use Rattle.members.specs.declared.Found.TheVariants.{Is, Unknown}
 use Rattle.layout.specs.Memory.{Node}
 use Rattle.layout.specs.Nodes.{function_kind, first_member, member_of_kind, member_arity, arity}
 use Rattle.table.specs.WellFormed.{arity_right}
@@ -17,9 +17,9 @@ pub arity-few : (k : ℕ) → arity k ≤ 2
 unfolding arity
 arity-few k = split (eqb k function_kind) (λ p. rw p (omega arith)) (λ p. rw p (by (member_of_kind k)))
   where
-    by : (f : Found) → member_arity f ≤ 2
-    by (Is m) = omega (arith, few-arguments m)
-    by Unknown = omega arith
+    by : (f : Option Member) → member_arity f ≤ 2
+    by (Some m) = omega (arith, few-arguments m)
+    by None = omega arith
 
 pub function-arity : (k : ℕ) → k ≡ function_kind → arity k ≡ 1
 unfolding arity

@@ -1,4 +1,6 @@
 -- A node awaits what its form awaits, and so few is few either way. Assumes nothing.
+use Rattle.std.specs.Prelude.{Option, Some, None}
+use Rattle.members.specs.declared.Member.{Member}
 use Rattle.std.specs.Prelude.{◌≡◌, refl, false, cond, ◌&&◌, List, [], ◌∷◌, ◌++◌, map, ℕ, suc, ◌-◌, eqb, leb, length, get_or}
 use Rattle.std.proofs.Common.{sym, ap, ◌∙◌, arith}
 use Rattle.std.proofs.lemmas.List.{map-append}
@@ -7,8 +9,6 @@ use Rattle.std.proofs.Math.ListN.{get_or-map}
 use Rattle.language.specs.Cases.{split}
 use Rattle.members.specs.Members.{arguments}
 use Rattle.members.specs.MembersLaws.{few-arguments}
-use Rattle.members.specs.declared.Found.{Found}
-use Rattle.members.specs.declared.Found.TheVariants.{Is, Unknown}
 use Rattle.model.specs.Decoding.{decode_from}
 use Rattle.meaning.specs.Forms.{Form, readings}
 use Rattle.meaning.specs.Evaluation.{joined, awaited}
@@ -19,11 +19,11 @@ use Rattle.table.specs.Awaits.{awaited_by, awaited_after, few_awaited}
 use Rattle.table.specs.ArityLaws.{function-arity, leaf-arity}
 
 -- what a member awaits, by the number of its dependencies
-member-awaits : (f : Found) (g a : Form) (k : ℕ) → k ≡ member_arity f
+member-awaits : (f : Option Member) (g a : Form) (k : ℕ) → k ≡ member_arity f
     → cond (eqb k 1) (awaited g) (cond (eqb k 2) (joined (awaited g) (awaited a)) []) ≡ awaited (member_form f g a)
 unfolding awaited
-member-awaits Unknown g a k e = rw e
-member-awaits (Is m) g a k e =
+member-awaits None g a k e = rw e
+member-awaits (Some m) g a k e =
     let l = few-arguments m in
     split (eqb (arguments m) 0)
     (λ p. let z : arguments m ≡ 0 = eqb-true _ _ p in let o : k ≡ 1 = omega arith in rw (o, p))

@@ -1,5 +1,5 @@
 -- The hash chains of entries by number: what their cells hold, and what a search finds. Assumes nothing: these are definitions.
-use Rattle.std.specs.Prelude.{◌≡◌, Bool, true, cond, List, ℕ, zero, suc, ◌+◌, ◌*◌, ◌%◌, ◌<◌, eqb, length, get_or, set}
+use Rattle.std.specs.Prelude.{◌≡◌, Bool, true, cond, List, ℕ, zero, suc, ◌+◌, ◌-◌, ◌*◌, Option, None, Some, ◌%◌, ◌<◌, eqb, length, get_or, set}
 use Rattle.language.specs.Limits.{text_parts, table_entries}
 use Rattle.layout.specs.Memory.{Node}
 use Rattle.layout.specs.Nodes.{same_node}
@@ -26,6 +26,10 @@ latest ν h (suc n) = cond (eqb (hash_of (ν n)) h) (suc n) (latest ν h n)
 unfoldable pub last_same : (ℕ → Node) → Node → ℕ → ℕ
 last_same ν x zero = 0
 last_same ν x (suc n) = cond (same_node (ν n) x) (suc n) (last_same ν x n)
+
+-- the number that is one less, if there is one
+abbrev pub number_before : ℕ → Option ℕ
+number_before c = cond (eqb c 0) None (Some (c - 1))
 
 -- no node before number i is equal to node i
 abbrev pub new_at : (ℕ → Node) → ℕ → Bool

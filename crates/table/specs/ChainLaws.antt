@@ -1,5 +1,7 @@
 -- Laws of nodes by number and of their hash chains. Assumes nothing.
-use Rattle.std.specs.Prelude.{◌≡◌, Bool, ◌&&◌, ◌||◌, List, [], ◌∷◌, ◌++◌, eqb, length, get_or, set, replicate}
+use Rattle.std.specs.Prelude.{◌≡◌, Option, None, Some, Bool, ◌&&◌, ◌||◌, List, [], ◌∷◌, ◌++◌, eqb, length, get_or, set, replicate}
+use Rattle.std.proofs.lemmas.Bool.{false≢true}
+use Rattle.std.specs.Option.{is_some}
 use Rattle.std.proofs.Math.Path.{refl, sym, ap, subst}
 use Rattle.std.proofs.Common.{◌∙◌, get_or-set_same}
 use Rattle.std.proofs.Math.Bool.{true, false, cond, not, and-eq-true_iff, or-true, or-false}
@@ -12,7 +14,7 @@ use borrow.Author.Tests.{eqb-true, eqb-false, eq-eqb, ne_eqb, lt-ltb, not-true}
 use Rattle.std.proofs.Math.ListN.{length-set, length-append}
 use Rattle.std.proofs.lemmas.List.{length-replicate, get_or-replicate}
 use Rattle.std.proofs.Math.Seq.{get_or-set_other}
-use Rattle.language.specs.Cases.{impossible, split}
+use Rattle.language.specs.Cases.{split}
 use Rattle.language.specs.Limits.{text_parts, table_entries}
 use Rattle.layout.specs.Memory.{Node, node_at}
 use Rattle.layout.specs.Nodes.{same_node}
@@ -20,8 +22,9 @@ use Rattle.table.specs.WellFormed.{has_node, distinct}
 use Rattle.model.specs.Lists.{index}
 use Rattle.layout.specs.Numbered.{all_from, numbered}
 use Rattle.table.specs.RightLaws.{all-stop, all_end}
-use Rattle.layout.specs.Held.{held_at}
-use Rattle.table.specs.Chain.{hash_of, latest, last_same, new_at, Chained, linked, Entered, hashes}
+use Rattle.layout.specs.Held.{shaped, held_at}
+use Rattle.layout.specs.declared.nodes.Shape.{Shape}
+use Rattle.table.specs.Chain.{hash_of, latest, last_same, number_before, new_at, Chained, linked, Entered, hashes}
 
 -- the test is equality
 pub same-equal : (a b : Node) → same_node a b ≡ true → a ≡ b
@@ -52,7 +55,13 @@ pub same-sym : (a b : Node) → same_node a b ≡ same_node b a
 same-sym a b =
     split (same_node a b)
     (λ p. rw p (sym (rw (same-equal a b p) (same_self b))))
-    (λ p. rw p (split (same_node b a) (λ q. impossible (sym p ∙ (rw (same-equal b a q) (same_self a)))) (λ q. sym q)))
+    (λ p. rw p (split (same_node b a) (λ q. absurd (false≢true (sym p ∙ (rw (same-equal b a q) (same_self a))))) (λ q. sym q)))
+
+-- and that of nodes as the code has them
+pub same-is : (a b : Shape) (r : Bool) → r ≡ (eqb a.kind b.kind && (eqb a.key b.key && (eqb a.first b.first && (eqb a.second b.second && eqb a.level b.level))))
+    → r ≡ same_node (shaped a) (shaped b)
+unfolding same_node
+same-is a b r e = e
 
 -- nodes by number
 module _ {A : Type 0} where
@@ -131,17 +140,17 @@ distinct_snoc m (a ∷ ms) = rw (has-snoc a m ms, distinct_snoc m ms, same-sym m
 pub find_none : (x : Node) (ms : List Node) → has_node x ms ≡ false → index same_node x ms ≡ length ms
 unfolding has_node index
 find_none x [] h = refl
-find_none x (m ∷ ms) h = split (same_node m x) (λ p. impossible (sym (rw p at h))) (λ p. rw p (ap suc (find_none x ms (rw p at h))))
+find_none x (m ∷ ms) h = split (same_node m x) (λ p. absurd (false≢true (sym (rw p at h)))) (λ p. rw p (ap suc (find_none x ms (rw p at h))))
 
 find-snoc : (x m : Node) (ms : List Node) → has_node x ms ≡ true → index same_node x (ms ++ (m ∷ [])) ≡ index same_node x ms
 unfolding has_node index
-find-snoc x m [] h = impossible h
+find-snoc x m [] h = absurd (false≢true h)
 find-snoc x m (a ∷ ms) h = split (same_node a x) (λ p. rw p) (λ p. rw p (ap suc (find-snoc x m ms (rw p at h))))
 
 find-new : (x m : Node) (ms : List Node) → has_node x ms ≡ false → same_node m x ≡ true → index same_node x (ms ++ (m ∷ [])) ≡ length ms
 unfolding has_node index
 find-new x m [] h q = rw q
-find-new x m (a ∷ ms) h q = split (same_node a x) (λ p. impossible (sym (rw p at h))) (λ p. rw p (ap suc (find-new x m ms (rw p at h) q)))
+find-new x m (a ∷ ms) h q = split (same_node a x) (λ p. absurd (false≢true (sym (rw p at h)))) (λ p. rw p (ap suc (find-new x m ms (rw p at h) q)))
 
 positive : (n : ℕ) → eqb (suc n) 0 ≡ false
 positive n = ne_eqb (suc n) 0 (λ e. omega arith)
@@ -193,7 +202,7 @@ module _ (ν : ℕ → Node) where
       some l h = rw (not-true (eqb l 0) h)
 
       none : (l : ℕ) → not (eqb l 0) ≡ false → {k : ℕ} → k ≡ suc n → k ≡ cond (eqb l 0) (suc n) (l - 1)
-      none l h e = split (eqb l 0) (λ p. rw p e) (λ p. impossible (sym (rw p at h)))
+      none l h e = split (eqb l 0) (λ p. rw p e) (λ p. absurd (false≢true (sym (rw p at h))))
 
   pub last-le : (x : Node) (n : ℕ) → last_same ν x n ≤ n
   unfolding last_same
@@ -208,21 +217,25 @@ module _ (ν : ℕ → Node) where
   -- a search that goes down, at number c - 1
   module _ (x : Node) (total c : ℕ) (all : last_same ν x total ≡ last_same ν x c) where
     module _ (some : 0 < c) (m : Node) (s : Bool) (qs : s ≡ same_node m x) (qm : m ≡ ν (c - 1)) where
-      pub last-hit : s ≡ true → c ≡ last_same ν x total
-      last-hit t = sym (all ∙ last-at x c some ∙ rw (← qm) (rw (sym qs ∙ t)))
+      last_hit : s ≡ true → c ≡ last_same ν x total
+      last_hit t = sym (all ∙ last-at x c some ∙ rw (← qm) (rw (sym qs ∙ t)))
+
+      pub last-hit : s ≡ true → Some (c - 1) ≡ number_before (last_same ν x total)
+      last-hit t = rw (← last_hit t, ne_eqb c 0 (λ e. omega arith))
+
+      pub new-hit : s ≡ true → x ≡ ν total → false ≡ new_at ν total
+      new-hit t q = rw (← q, ← last_hit t) (sym (ne_eqb c 0 (λ e. omega arith)))
 
       pub last-go : s ≡ false → last_same ν x total ≡ last_same ν x (c - 1)
       last-go t = all ∙ last-at x c some ∙ rw (← qm) (rw (sym qs ∙ t))
 
-      pub new-hit : s ≡ true → x ≡ ν total → false ≡ new_at ν total
-      new-hit t q = rw (← q, ← last-hit t) (sym (ne_eqb c 0 (λ e. omega arith)))
-
-    pub last_end : c ≤ 0 → 0 ≡ last_same ν x total
+    pub last_end : c ≤ 0 → None ≡ number_before (last_same ν x total)
     unfolding last_same
-    last_end h = let z : c ≡ 0 = omega arith in sym (all ∙ rw z)
+    last_end h = let z : c ≡ 0 = omega arith in rw (all, z)
 
     pub new-end : c ≤ 0 → x ≡ ν total → true ≡ new_at ν total
-    new-end h q = rw (← q, ← last_end h)
+    unfolding last_same
+    new-end h q = let z : c ≡ 0 = omega arith in rw (← q, all, z)
 
   -- chains
   pub latest-le : (h n : ℕ) → latest ν h n ≤ n
@@ -329,17 +342,23 @@ pub hash-low : (h : ℕ) (m : Node) → h ≡ hash_of m → h < hashes
 unfolding hash_of
 hash-low h m q = omega arith
 
-module _ (ν : ℕ → Node) (i : ℕ) (chain' : List ℕ) (s : ℕ) (m : Node) (qs : s ≡ last_same ν m i) (qm : m ≡ ν i) where
-  pub entered-new : (chain : List ℕ) (h : ℕ) → Chained ν chain i → chain' ≡ linked chain h i → h ≡ hash_of m → s ≡ 0 → i < table_entries + text_parts
+module _ (ν : ℕ → Node) (i : ℕ) (chain' : List ℕ) (o : Option ℕ) (f : Bool) (m : Node) (qo : o ≡ number_before (last_same ν m i)) (qf : f ≡ is_some o) (qm : m ≡ ν i) where
+  none : new_at ν i ≡ not f
+  none = rw (qf, qo, qm) (by (last_same ν (ν i) i))
+    where
+      by : (k : ℕ) → eqb k 0 ≡ not (is_some (number_before k))
+      by k = split (eqb k 0) (λ p. rw p) (λ p. rw p)
+
+  pub entered-new : (chain : List ℕ) (h : ℕ) → Chained ν chain i → chain' ≡ linked chain h i → h ≡ hash_of m → i < table_entries + text_parts → f ≡ false
       → Entered ν i chain' true
-  entered-new chain h ch e q z l =
+  entered-new chain h ch e q l z =
       record {
-        new = sym (rw (← qm) (rw (← qs) (eq-eqb s 0 z)));
+        new = sym (none ∙ rw z);
         chained = λ t. chained_more ν chain chain' i h ch e (q ∙ ap hash_of qm) (hash-low h m q) l;
       }
 
-  pub entered-old : (s ≡ 0 → ⊥) → Entered ν i chain' false
-  entered-old z = record { new = sym (rw (← qm) (rw (← qs) (ne_eqb s 0 z))); chained = λ t. impossible t }
+  pub entered-old : f ≡ true → Entered ν i chain' false
+  entered-old z = record { new = sym (none ∙ rw z); chained = λ t. absurd (false≢true t) }
 
 -- a node entered without a test, and all of them
 pub chained-entered : (ν : ℕ → Node) (i : ℕ) (chain chain' : List ℕ) (m : Node) (h : ℕ) → chain' ≡ linked chain h i → h ≡ hash_of m → m ≡ ν i
@@ -377,6 +396,7 @@ module _ (links cells : List ℕ) (n i : ℕ) (all : all_from (new_at (node_at l
   distinct-end h = distinct-new links cells n true (all_end (new_at (node_at links cells)) n i all h)
 
 pub ruleset chains = (
+  same-is,
   hash-low,
   entered-new,
   entered-old,

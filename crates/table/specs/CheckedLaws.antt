@@ -12,7 +12,7 @@ use Rattle.language.specs.Limits.{table_entries, table_readings}
 use Rattle.values.specs.Packing.{function_cell, delayed_cell, is_packed}
 use Rattle.layout.specs.Links.{kind_at, value_at, name_at, other_at}
 use Rattle.layout.specs.Memory.{Node, Entry, node_at, kept_at, entry_at, entries_from, nodes_of, memory}
-use Rattle.layout.specs.Nodes.{works_kind, arity, listed, kids, is_name}
+use Rattle.layout.specs.Nodes.{function_kind, works_kind, arity, listed, kids, is_name}
 use Rattle.table.specs.WellFormed.{every, kind_known, key_right, level_right, arity_right, lower, distinct, awaits_few, is_done, done_at, all_done, settled, names_right, kept_right, well_formed}
 use Rattle.table.specs.Right.{node_right, right_at}
 use Rattle.layout.specs.Numbered.{all_from, numbered}
@@ -64,6 +64,16 @@ done-is links cells n j k v p q =
     split (ltb j n)
     (λ t. rw t (rw (p, q) (sym (done-in links cells 0 n j (ltb-true j n t) ∙ rw z))))
     (λ t. rw t (sym (done-out links cells 0 n j (ltb-false j n t))))
+
+below : (k : ℕ) → ltb k function_kind ≡ not (works_kind k)
+below k =
+    split (ltb k function_kind)
+    (λ t. rw (t, lt-leb function_kind k (ltb-true k function_kind t)))
+    (λ t. rw (t, le-leb function_kind k (ltb-false k function_kind t)))
+
+pub done-below : (links cells : List ℕ) (n j k v : ℕ) → k ≡ kind_at links j → v ≡ value_at cells j
+    → (ltb j n && (ltb k function_kind || leb 1 v)) ≡ done_at (entries_from links cells 0 n) j
+done-below links cells n j k v p q = rw (below k) (done-is links cells n j k v p q)
 
 module _ (es : List Entry) (x : Shape) (m : Node) (qm : shaped x ≡ m) (a : ℕ) (qa : a ≡ arity x.kind) where
   kids-by : (k : ℕ) → a ≡ k → kids m ≡ listed k m
@@ -119,8 +129,12 @@ module _ (links cells : List ℕ) (n readings i value name other : ℕ) (r : Boo
   kept-none t e = sym (kept-as ∙ rw (t, eq-eqb value 0 e))
 
   pub kept-some : (d p : Bool) (kind : ℕ) → d ≡ all_done (entries_from links cells 0 n) (kids (node_at links cells i)) → p ≡ is_packed value readings → kind ≡ kind_at links i
-      → r ≡ true → (value ≡ 0 → ⊥) → (d && (works_kind kind && p)) ≡ kept_ok links cells n readings i
-  kept-some d p kind qd qp qk t u = sym (kept-as ∙ rw (t, ne_eqb value 0 u, ← qd, ← qp, ← qk))
+      → r ≡ true → (value ≡ 0 → ⊥) → ((d && works_kind kind) && p) ≡ kept_ok links cells n readings i
+  kept-some d p kind qd qp qk t u = sym (kept-as ∙ rw (t, ne_eqb value 0 u, ← qd, ← qp, ← qk) (by d (works_kind kind) p))
+    where
+      by : (a b c : Bool) → (a && (b && c)) ≡ ((a && b) && c)
+      by true b c = refl
+      by false b c = refl
 
   pub kept-bad : r ≡ false → false ≡ kept_ok links cells n readings i
   kept-bad t = sym (kept-as ∙ rw t (by (eqb value 0 || all_done (entries_from links cells 0 n) (kids (node_at links cells i)))))
@@ -238,7 +252,7 @@ module _ (rs : List ℤ) (heads links cells : List ℕ) where
   well-entries n m r q p o h k = q ∙ sym (well-is ∙ rw (← p, ← o, le-leb n table_entries h, le-leb m table_readings k))
 
 pub ruleset checks = (
-  done-is,
+  done-below,
   kids-none,
   kids-one,
   kids-two,

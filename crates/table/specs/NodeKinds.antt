@@ -1,4 +1,5 @@
 -- Nodes by their kinds: a right node has what its kind has, and nothing else, and the form that it builds goes by that. Assumes nothing.
+use Rattle.std.specs.Prelude.{Some}
 use Rattle.std.specs.Prelude.{◌≡◌, Bool, true, false, ◌&&◌, List, [], ◌∷◌, eqb, length}
 use Rattle.std.proofs.Math.Path.{refl}
 use Rattle.std.proofs.Common.{sym, ◌∙◌, subst, arith}
@@ -7,9 +8,8 @@ use Prim.Native.Nat.{ℕ, zero, suc, ◌+◌, ◌-◌, ◌≤◌, ◌<◌}
 use borrow.Author.Tests.{eqb-true, eqb-false, ne_eqb, ltb-true, le-ltb}
 use Rattle.language.specs.Cases.{split}
 use Rattle.members.specs.Members.{arguments, members, member_number, member_at}
-use Rattle.members.specs.MembersLaws.{found_in, none_of, number-found, few-arguments}
+use Rattle.members.specs.MembersLaws.{found_in, none_of, few-arguments}
 use Rattle.members.specs.declared.Member.{Member}
-use Rattle.members.specs.declared.Found.TheVariants.{Is}
 use Rattle.meaning.specs.Forms.{Form, with_level, number, variable, unbound, readings, ask, call, function}
 use Rattle.layout.specs.Memory.{Node, node_with, node}
 use Rattle.layout.specs.KindsLaws.{member-found}
@@ -50,7 +50,7 @@ pub member-arity : (m : Member) → arity (member_kind m) ≡ suc (arguments m)
 unfolding arity
 member-arity m = rw (not-member m function_kind (omega arith), member-found m)
 
-build-member : (m : Member) (f a : ℕ) (φ : ℕ → Form) → build (node (member_kind m) 0 f a) φ ≡ member_form (Is m) (φ (f - 1)) (φ (a - 1))
+build-member : (m : Member) (f a : ℕ) (φ : ℕ → Form) → build (node (member_kind m) 0 f a) φ ≡ member_form (Some m) (φ (f - 1)) (φ (a - 1))
 unfolding build
 build-member m f a φ =
     let no = not-member m in
@@ -92,7 +92,7 @@ build-fine (a_call m f a e) φ = build-call m f a φ e
 -- ---- the member of a kind
 record Numbered (ms : List Member) (j n : ℕ) : Type 0 where
   member : Member
-  is : found_in ms n ≡ Is member
+  is : found_in ms n ≡ Some member
   number : member_number member ≡ j + n
 
 -- the members' numbers rise from j on
@@ -109,7 +109,7 @@ numbered (m ∷ ms) j (suc n) e h =
 
 record OfKind (k : ℕ) : Type 0 where
   member : Member
-  is : member_of_kind k ≡ Is member
+  is : member_of_kind k ≡ Some member
   kind : k ≡ member_kind member
 
 of-kind : (k : ℕ) → first_member ≤ k → k < kind_count → OfKind k

@@ -1,6 +1,7 @@
 -- The pass over the awaited variables keeps to the definition. For right nodes, none of them twice, a name and a level have one variable, so
 -- what the pass finds for an entry stands for the variables that it awaits, and a join leaves one out just where these are over two. Assumes nothing.
 use Rattle.std.specs.Prelude.{◌≡◌, Bool, cond, ◌&&◌, ◌||◌, ltb, length, get_or, set, replicate}
+use Rattle.std.proofs.lemmas.Bool.{false≢true}
 use Rattle.std.proofs.Math.Path.{refl, sym}
 use Rattle.std.proofs.Common.{ap, ◌∙◌}
 use Rattle.std.proofs.Math.Bool.{true, false, and-eq-true_iff}
@@ -13,7 +14,7 @@ use Rattle.std.proofs.Math.Dec.{leb, eqb, eqb-zero-suc, eqb-suc-zero}
 use Rattle.std.proofs.Math.ListN.{length-set}
 use Rattle.std.proofs.lemmas.List.{length-replicate}
 use Rattle.std.proofs.Math.Seq.{get_or-set_same, get_or-set_other}
-use Rattle.language.specs.Cases.{impossible, split}
+use Rattle.language.specs.Cases.{split}
 use Rattle.language.specs.Limits.{table_entries}
 use Rattle.meaning.specs.Forms.{with_level}
 use Rattle.meaning.specs.Evaluation.{has_name}
@@ -401,7 +402,7 @@ module _ (links cells : List ℕ) (n : ℕ) (most : n ≤ table_entries)
         by (over t k) = absurd (fine i h t k)
 
     test-is : (i : ℕ) → i < n → ((k : ℕ) → k < i → few_at links ws k ≡ true) → few_at links ws i ≡ leb (length (names i)) 2
-    test-is i h tests = outcome-test (step i h (found_first i (omega arith) (λ k q t l. impossible (sym t ∙ tests k q))))
+    test-is i h tests = outcome-test (step i h (found_first i (omega arith) (λ k q t l. absurd (false≢true (sym t ∙ tests k q)))))
 
     tests-are : all_from (few_at links ws) n 0 ≡ awaits_few (numbered (node_at links cells) 0 n)
     tests-are = all_same (few_at links ws) (λ i. leb (length (names i)) 2) n test-is ∙ sym (few-all (node_at links cells) n)

@@ -1,4 +1,6 @@
 // The variables that entries await, by a rising pass over the table.
+#![tactic(auto, using(crate::proofs::Waiting::waiting, crate::specs::RightLaws::loops))]
+
 ghost use Rattle.std.specs.Prelude.{◌≡◌, ◌<◌, ◌≤◌, length};
 ghost use Rattle.language.specs.Limits.{table_entries};
 ghost use Rattle.layout.specs.Numbered.{all_from};
@@ -7,10 +9,14 @@ ghost use Rattle.table.specs.Waits.{has_slot, awaits as awaits_of, joined_slots,
 use layout::cells::{first_of, is_below, key_of, kind_of, level_of, second_of};
 use layout::nodes::Shape;
 
+// What two variables that an entry awaits are put together by: the first times this, plus the second. A variable is one more than its entry's
+// number, 0 for none, so that a frame for a table has four bytes an entry.
+pub const SLOT: u32 = 65536;
+
 pub fn has(w: u32, v: u32) -> bool
     ensures { result ≡ has_slot w v }
 {
-    (w / 65536 == v) | (w % 65536 == v)
+    (w / SLOT == v) | (w % SLOT == v)
 }
 
 pub fn awaits(w: u32, v: u32) -> bool
@@ -22,37 +28,37 @@ pub fn awaits(w: u32, v: u32) -> bool
 fn join(w: u32, u: u32) -> u32
     ensures { result ≡ joined_slots w u }
 {
-    if w / 65536 == 0 {
+    if w / SLOT == 0 {
         return u;
     }
-    if 1 <= w % 65536 {
+    if 1 <= w % SLOT {
         return w;
     }
-    if w / 65536 == u / 65536 {
-        return w / 65536 * 65536 + u % 65536;
+    if w / SLOT == u / SLOT {
+        return w / SLOT * SLOT + u % SLOT;
     }
-    w / 65536 * 65536 + u / 65536
+    w / SLOT * SLOT + u / SLOT
 }
 
 // Whether the slot is the variable with that name and level.
 fn is_of(links: &[u16], cells: &[u64], key: u64, level: u16, p: u32) -> bool
     ensures { result ≡ is_of links.now cells.now key level p }
 {
-    if 1 <= p {
-        let at = p as usize - 1;
-        return (key_of(cells, at) == key) & (level_of(links, at) == level);
+    if p == 0 {
+        return false;
     }
-    false
+    let at = p as usize - 1;
+    (key_of(cells, at) == key) & (level_of(links, at) == level)
 }
 
 fn without(links: &[u16], cells: &[u64], key: u64, level: u16, w: u32) -> u32
     ensures { result ≡ without_of links.now cells.now key level w }
 {
-    if is_of(links, cells, key, level, w / 65536) {
-        return w % 65536 * 65536;
+    if is_of(links, cells, key, level, w / SLOT) {
+        return w % SLOT * SLOT;
     }
-    if is_of(links, cells, key, level, w % 65536) {
-        return w / 65536 * 65536;
+    if is_of(links, cells, key, level, w % SLOT) {
+        return w / SLOT * SLOT;
     }
     w
 }
@@ -74,7 +80,7 @@ fn waits_at(links: &[u16], cells: &[u64], waits: &[u32], i: usize) -> u32
 {
     let kind = kind_of(links, i);
     if kind == Shape::VARIABLE {
-        return (i + 1) as u32 * 65536;
+        return (i + 1) as u32 * SLOT;
     }
     if kind < Shape::FUNCTION {
         return 0;
@@ -91,10 +97,8 @@ pub fn fill_waits(links: &[u16], cells: &[u64], n: usize, waits: &mut [u32])
     requires { (n ≤ table_entries) × (n ≤ length waits.old) }
     ensures { waits.new ≡ waits_from links.now cells.now n 0 waits.old }
 {
-    let mut i: usize = 0;
-    while i < n {
+    for i in 0..n {
         waits[i] = waits_at(links, cells, waits, i);
-        i += 1;
     }
 }
 
@@ -102,7 +106,7 @@ pub fn fill_waits(links: &[u16], cells: &[u64], n: usize, waits: &mut [u32])
 fn covers(w: u32, u: u32) -> bool
     ensures { result ≡ covers_of w u }
 {
-    ((u / 65536 == 0) | has(w, u / 65536)) & ((u % 65536 == 0) | has(w, u % 65536))
+    ((u / SLOT == 0) | has(w, u / SLOT)) & ((u % SLOT == 0) | has(w, u % SLOT))
 }
 
 // Whether entry i awaits no more than two: what a join leaves out is a variable of the second dependency.
@@ -118,26 +122,18 @@ pub fn are_few(links: &[u16], waits: &[u32], n: usize) -> bool
     requires { (n ≤ table_entries) × (n ≤ length waits.now) }
     ensures { result ≡ all_from (few_at links.now waits.now) n 0 }
 {
-    let mut i: usize = 0;
-    while i < n {
-        if is_few(links, waits, i) {
-            i += 1;
-        } else {
-            return false;
-        }
-    }
-    true
+    (0..n).all(|i| is_few(links, waits, i))
 }
 
 // A function's own variable: what its body awaits and it does not.
 pub fn own(body: u32, function: u32) -> u32
     ensures { result ≡ own_of body function }
 {
-    if has(function, body / 65536) {
-        if has(function, body % 65536) {
+    if has(function, body / SLOT) {
+        if has(function, body % SLOT) {
             return 0;
         }
-        return body % 65536;
+        return body % SLOT;
     }
-    body / 65536
+    body / SLOT
 }

@@ -1,10 +1,10 @@
 -- A member's value up to the runs, completed by them, is apply1: only a rule that runs a function, on a window and with a function, gives a window
 -- to run over, and all others come to the same whatever a run would give. Assumes nothing.
 use Rattle.std.specs.Prelude.{◌≡◌, true, false, ◌||◌, List, map, ℕ, ℤ}
+use Rattle.std.proofs.lemmas.Bool.{false≢true}
 use Rattle.std.proofs.Math.Path.{refl, ap}
 use Rattle.std.proofs.Common.{sym}
 use Rattle.std.proofs.Math.Bool.{cond}
-use Rattle.language.specs.Cases.{impossible}
 use Rattle.members.specs.declared.Member.{Member}
 use Rattle.rules.specs.declared.Value.{Value}
 use Rattle.rules.specs.declared.Value.TheVariants.{Number, Window, Function, Delayed, Missing}
@@ -26,7 +26,7 @@ module _ (m : Member) (xs : List ℤ) (run : ℤ → Value) where
   same-rule (window_runs f) (Number z) w e = refl
   same-rule (window_runs f) (Window s l) (Number z) e = refl
   same-rule (window_runs f) (Window s l) (Window s' l') e = refl
-  same-rule (window_runs f) (Window s l) Function e = impossible (sym e)
+  same-rule (window_runs f) (Window s l) Function e = absurd (false≢true (sym e))
   same-rule (window_runs f) (Window s l) Delayed e = refl
   same-rule (window_runs f) (Window s l) (Missing r) e = refl
   same-rule (window_runs f) Function w e = refl

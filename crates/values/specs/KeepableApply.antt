@@ -1,10 +1,10 @@
 -- A member on dependencies that have a property which the members' own results have comes to a value that has it: so windows stay inside the
 -- recording, and what may be kept stays so. By the tests of apply0 and apply1, in their order. Assumes nothing.
 use Rattle.std.specs.Prelude.{◌≡◌, refl, ◌||◌, cond, List, [], ◌∷◌, map, ℕ, suc, ◌≤◌, ◌<◌, ℤ, pos, length, get_or}
+use Rattle.std.proofs.lemmas.Bool.{cond_both}
 use Rattle.std.proofs.Common.{arith}
 use Rattle.std.proofs.lemmas.List.{length-map}
 use Rattle.std.specs.Int.Signed.{mag}
-use Rattle.language.specs.Cases.{by_cond}
 use Rattle.members.specs.declared.Member.{Member}
 use Rattle.rules.specs.declared.Value.{Value}
 use Rattle.rules.specs.declared.Value.TheVariants.{Number, Window, Function, Delayed, Missing}
@@ -105,14 +105,14 @@ module _ (P : Value → Type 0) (C : Closed P) (m : Member) (xs : List ℤ) (R :
 
     pub closed-apply0 : (v : Value) → Given P v → P (apply0 m xs v)
     unfolding apply0
-    closed-apply0 v p = missing-given v _ p (by_cond P (is_delayed v) _ _ (λ h. D) (λ h. closed-rule0 v p))
+    closed-apply0 v p = missing-given v _ p (cond_both (is_delayed v) _ _ P (λ h. D) (λ h. closed-rule0 v p))
 
     pub closed-apply1 : (run : ℤ → Value) → ((x : ℤ) → P (Number x) → Given P (run x)) → (v w : Value) → Given P v → Given P w → P (apply1 m xs v w run)
     unfolding apply1
     closed-apply1 run F v w p q =
         missing-given v _ p
         (missing-given w _ q
-        (by_cond P (is_delayed v || is_delayed w) _ _ (λ h. D) (λ h. closed-rule1 run F v w p)))
+        (cond_both (is_delayed v || is_delayed w) _ _ P (λ h. D) (λ h. closed-rule1 run F v w p)))
 
     pub closed-applied1 : (v w : Value) → P v → P w → Settled P (applied1 m xs v w)
     unfolding applied1

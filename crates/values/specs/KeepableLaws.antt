@@ -2,12 +2,12 @@
 -- have: numbers in range, 01's reasons, windows and counts within a window that has it. So a window stays inside, and what may be kept stays
 -- so. One law a member, by its rule. Assumes nothing.
 use Rattle.std.specs.Prelude.{◌≡◌, Bool, true, false, ◌&&◌, cond, ℕ, suc, ◌+◌, ◌-◌, min, ◌≤◌, ◌<◌, leb, ltb, ℤ, pos, negsuc, length, drop, get_or}
+use Rattle.std.proofs.lemmas.Bool.{cond_both}
 use Rattle.std.proofs.Math.Path.{refl}
 use Rattle.std.proofs.Common.{ap, ◌∙◌, arith, ltb-true, leb-true, length-take, length-drop, get_or-take, get_or-drop}
 use Rattle.std.proofs.Math.Bool.{and-eq-true_iff}
 use mathlib.Core.List.{List, [], ◌∷◌}
 use Rattle.std.specs.Int.Signed.{mag, lt_z}
-use Rattle.language.specs.Cases.{by_cond}
 use Rattle.language.specs.Limits.{least_number, most_number}
 use Rattle.members.specs.declared.Member.{Member}
 use Rattle.members.specs.declared.Member.TheVariants.{Add, Sub, Mul, Div, Gt, Eq, Skip, Take, Count, Sum, Min, Max, At, CountWhere, LongestRun, SumBy, BestSum, BestAt}
@@ -93,8 +93,8 @@ module _ (P : Value → Type 0) (C : Closed P) where
   closed-ranged : (z : ℤ) → P (ranged z)
   unfolding ranged
   closed-ranged z =
-      by_cond P (lt_z z least_number) _ _ (λ h. beyond)
-      (λ low. by_cond P (lt_z most_number z) _ _ (λ h. beyond) (λ high. C.small z (in-range 2147483647 z low high)))
+      cond_both (lt_z z least_number) _ _ P (λ h. beyond)
+      (λ low. cond_both (lt_z most_number z) _ _ P (λ h. beyond) (λ high. C.small z (in-range 2147483647 z low high)))
 
   closed-flag : (b : Bool) → P (flag b)
   closed-flag true = C.small (pos 1) (omega arith)
@@ -128,7 +128,7 @@ module _ (P : Value → Type 0) (C : Closed P) where
 
   closed-width : (n : ℤ) (l : ℕ) (f : ℕ → Value) → ((w : ℕ) → 1 ≤ w → w ≤ l → P (f w)) → P (of_width n l f)
   closed-width (pos w) l f p =
-      by_cond P (leb 1 w && leb w l) _ _ (λ h. let b = (and-eq-true_iff (leb 1 w) (leb w l)).0 h in p w (leb-true 1 w b.0) (leb-true w l b.1)) (λ h. outside)
+      cond_both (leb 1 w && leb w l) _ _ P (λ h. let b = (and-eq-true_iff (leb 1 w) (leb w l)).0 h in p w (leb-true 1 w b.0) (leb-true w l b.1)) (λ h. outside)
   closed-width (negsuc n) l f p = outside
 
   closed-greatest : (f : ℤ → Value) (zs : List ℤ) → ((z : ℤ) → P (f z)) → P (of_greatest f zs)
@@ -136,7 +136,7 @@ module _ (P : Value → Type 0) (C : Closed P) where
   closed-greatest f (z ∷ zs) p = p (fold_from greater z zs)
 
   closed-reading : (xs : List ℤ) → Readings P xs → (k : ℕ) → P (reading xs k)
-  closed-reading xs R k = by_cond P (ltb k (length xs)) _ _ (λ h. R k (ltb-true k _ h)) (λ h. outside)
+  closed-reading xs R k = cond_both (ltb k (length xs)) _ _ P (λ h. R k (ltb-true k _ h)) (λ h. outside)
 
   -- ---- the members
 
@@ -152,7 +152,7 @@ module _ (P : Value → Type 0) (C : Closed P) where
   closed-rule Add = λ a b. closed-ranged _
   closed-rule Sub = λ a b. closed-ranged _
   closed-rule Mul = λ a b. closed-ranged _
-  closed-rule Div = λ a b. by_cond P (sameℤ b (pos 0)) _ _ (λ h. C.reason 3 (omega arith) (omega arith)) (λ h. closed-ranged (quotient a b))
+  closed-rule Div = λ a b. cond_both (sameℤ b (pos 0)) _ _ P (λ h. C.reason 3 (omega arith) (omega arith)) (λ h. closed-ranged (quotient a b))
   closed-rule Gt = λ a b. closed-flag (lt_z b a)
   closed-rule Eq = λ a b. closed-flag (sameℤ a b)
   closed-rule Skip = λ xs s l n R W. C.part s l (s + clipped n l) (l - clipped n l) (omega (arith, clips.within n l)) W

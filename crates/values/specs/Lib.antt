@@ -2,8 +2,9 @@ pub mod Packing
 pub mod Ranges
 pub mod Rounding
 pub mod Order
-pub mod WindowLaws
+pub mod Found
 pub mod Sliding
+pub mod WindowLaws
 pub mod SlidingLaws
 pub mod Tallies
 pub mod TallyLaws

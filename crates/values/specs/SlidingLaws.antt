@@ -1,26 +1,31 @@
 -- The best stretch: the sum of the next stretch from the last one's, and that stretch by stretch the first of the greatest among all is found.
 -- Assumes nothing.
-use Rattle.std.specs.Prelude.{◌≡◌, refl, Bool, true, ltb, ℤ, pos, negsuc, ◌+ℤ◌, ◌-ℤ◌, take, drop}
+use Rattle.std.specs.Prelude.{◌≡◌, refl, Some, None, Bool, true, ◌&&◌, leb, ℤ, pos, negsuc, ◌+ℤ◌, ◌-ℤ◌, take, drop}
+use Rattle.std.proofs.lemmas.Bool.{false≢true, cond_both}
 use Rattle.std.proofs.Math.Path.{sym, ap}
-use Rattle.std.proofs.Common.{◌∙◌, add-one, le-leb, ltb-true, ltb-false, length-take, length-drop, take-suc, drop-drop, get_or-drop}
-use Rattle.std.proofs.Math.Bool.{false, cond}
+use Rattle.std.proofs.Common.{◌∙◌, add-one, leb-true, length-take, length-drop, take-suc, drop-drop, get_or-drop}
+use Rattle.std.proofs.Math.Bool.{false, cond, and-eq-true_iff}
 use mathlib.Core.List.{List, [], ◌∷◌, ◌++◌, map}
 use Prim.Native.Nat.{ℕ, zero, suc, ◌+◌, ◌-◌, ◌*◌, ◌≤◌, ◌<◌}
 use native.Mathlib.Omega.{arith}
-use Rattle.std.proofs.lemmas.Bool.{lt-leb}
+use mathlib.Core.Logic.{inl, inr}
 use Rattle.std.proofs.Math.IntN.{nat_abs, +ℤ_assoc, +ℤ_comm, +ℤ-neg_ℤ_cancel}
 use Rattle.std.proofs.Math.ListN.{length, get_or}
 use Rattle.std.specs.Int.Signed.{mag, lt_z}
-use Rattle.language.specs.Cases.{impossible, split, by_cond}
+use Rattle.language.specs.Cases.{split}
+use Rattle.members.specs.declared.Member.{Member}
+use Rattle.members.specs.declared.Member.TheVariants.{BestSum, BestAt}
 use Rattle.rules.specs.declared.Value.{Value}
 use Rattle.rules.specs.declared.Value.TheVariants.{Number, Missing}
-use Rattle.rules.specs.Values.{sameℤ, outside_window}
-use Rattle.rules.specs.Windows.{total, greater, fold_from}
-use Rattle.rules.specs.Stretches.{stretches_from, sums, of_greatest, first_at, of_width}
+use Rattle.rules.specs.Values.{ranged, sameℤ, outside_window}
+use Rattle.rules.specs.Windows.{readings_in, total, greater, fold_from}
+use Rattle.rules.specs.Rules.{rule, on_window}
+use Rattle.rules.specs.Stretches.{stretches_from, sums, of_greatest, first_at, of_width, best_sum, best_at}
 use Rattle.values.specs.declared.stretches.Best.{Best}
 use Rattle.values.specs.Ranges.{slide-range}
 use Rattle.values.specs.Order.{same-yes, same-no, lt-self, lt-neither, lt-through}
-use Rattle.values.specs.Sliding.{Totals, width_in, better, best_from, sums_after, best}
+use Rattle.values.specs.WindowLaws.{readings-short}
+use Rattle.values.specs.Sliding.{Totals, width_in, better, best_from, sums_after, best, chosen, Chooses}
 
 -- ---- one reading in, one out
 
@@ -92,7 +97,7 @@ module _ (b : Best) (z : ℤ) (i : ℕ) (zs : List ℤ) (m : ℤ) (rest : (c : B
   after : lt_z b.sum z ≡ true → (best_from b i (z ∷ zs)).at ≡ cond (sameℤ b.sum m) b.at (i + first_at m (z ∷ zs))
   unfolding best_from first_at
   after h =
-      let other : sameℤ b.sum m ≡ false = same-no b.sum m (λ q. impossible (cc (fold-most z zs, most h, q, h))) in
+      let other : sameℤ b.sum m ≡ false = same-no b.sum m (λ q. absurd (false≢true (cc (fold-most z zs, most h, q, h)))) in
       ap (λ (c : Best). (best_from c (suc i) zs).at) (later b z i h)
       ∙ rest (record { sum = z; at = i }) (most h)
       ∙ one_on (sameℤ z m) i (first_at m zs)
@@ -105,7 +110,7 @@ module _ (b : Best) (z : ℤ) (i : ℕ) (zs : List ℤ) (m : ℤ) (rest : (c : B
       ∙ rest b (most h)
       ∙ split (sameℤ b.sum m) (λ s. rw s refl) (λ s.
       let low : lt_z m b.sum ≡ false = cc (fold-most b.sum zs, most h) in
-      let other : sameℤ z m ≡ false = same-no z m (λ q. impossible (cc (s, same-yes b.sum m (lt-neither b.sum m (cc (h, q)) low)))) in
+      let other : sameℤ z m ≡ false = same-no z m (λ q. absurd (false≢true (cc (s, same-yes b.sum m (lt-neither b.sum m (cc (h, q)) low))))) in
       rw s (one_on false i (first_at m zs) ∙ sym (ap (λ (t : Bool). i + cond t 0 (suc (first_at m zs))) other)))
 
 best-at-from : (m : ℤ) (zs : List ℤ) (i : ℕ) (b : Best) → AtFrom m zs i b
@@ -119,7 +124,7 @@ best-at-from m (z ∷ zs) i b e =
 pub first_short : (z : ℤ) (zs : List ℤ) → first_at z zs ≤ length zs
 unfolding first_at
 first_short z [] = omega arith
-first_short z (y ∷ ys) = by_cond (λ k. k ≤ suc (length ys)) (sameℤ y z) 0 _ (λ h. omega arith) (λ h. omega (arith, first_short z ys))
+first_short z (y ∷ ys) = cond_both (sameℤ y z) 0 _ (λ k. k ≤ suc (length ys)) (λ h. omega arith) (λ h. omega (arith, first_short z ys))
 
 pub sums-length : (xs : List ℤ) (w : ℕ) → length (sums xs w) ≡ suc (length xs) - w
 unfolding sums stretches_from
@@ -153,44 +158,53 @@ module _ (xs : List ℤ) (w : ℕ) (h : w ≤ length xs) where
       ∙ first_next (sameℤ (total (take w xs)) (best xs w).sum) (first_at (best xs w).sum (sums_after xs w 0))
       ∙ sym (ap (first_at (best xs w).sum) sums-are)
 
-  pub best-within : (best xs w).at ≤ length xs + 1
-  best-within = omega (arith, best-first, first_short (best xs w).sum (sums xs w), sums-length xs w)
+  pub best_within : (best xs w).at ≤ length xs + 1
+  best_within = omega (arith, best-first, first_short (best xs w).sum (sums xs w), sums-length xs w)
 
   pub best-index : Number (pos (best xs w).at) ≡ of_greatest (λ z. Number (pos (first_at z (sums xs w)))) (sums xs w)
   best-index = ap (λ (k : ℕ). Number (pos k)) best-first ∙ best-greatest (λ z. Number (pos (first_at z (sums xs w))))
 
 -- ---- the width
 
-abbrev width_by : Bool → ℕ → ℕ
-width_by t w = cond t 0 w
-
-no-width : (t : Bool) → width_by t 0 ≡ 0
-no-width true = refl
-no-width false = refl
-
--- a width that is none is 0, and one that is there is itself
 module _ (l : ℕ) (f : ℕ → Value) where
-  abbrev Chosen : ℤ → Type 0
-  Chosen n = (width_in n l ≡ 0 → Missing outside_window ≡ of_width n l f) × ((width_in n l ≡ 0 → ⊥) → (width_in n l ≤ l) × (f (width_in n l) ≡ of_width n l f))
+  pub width-none : (n : ℤ) → None ≡ width_in n l → Missing outside_window ≡ of_width n l f
+  width-none (pos w) e = split (leb 1 w && leb w l) (λ h. let d : None ≡ Some w = rw h at e in cc) (λ h. rw h refl)
+  width-none (negsuc n) e = refl
 
-  chosen : (n : ℤ) → Chosen n
-  chosen (negsuc n) = (λ e. refl, λ h. absurd (h refl))
-  chosen (pos zero) = (λ e. refl, λ h. absurd (h (no-width (ltb l 0))))
-  chosen (pos (suc w)) = split (ltb l (suc w)) beyond inside
+  pub width_some : (n : ℤ) (w : ℕ) → Some w ≡ width_in n l → (w ≤ l) × (f w ≡ of_width n l f)
+  width_some (pos v) w e = split (leb 1 v && leb v l) inside (λ h. let d : Some w ≡ None = rw h at e in cc)
     where
-      beyond : ltb l (suc w) ≡ true → Chosen (pos (suc w))
-      beyond h = rw (h, le-leb 1 (suc w) (omega arith), lt-leb (suc w) l (ltb-true l (suc w) h)) (λ e. refl, λ k. absurd (k refl))
-
-      inside : ltb l (suc w) ≡ false → Chosen (pos (suc w))
+      inside : (leb 1 v && leb v l) ≡ true → (w ≤ l) × (f w ≡ of_width (pos v) l f)
       inside h =
-          let le = ltb-false l (suc w) h in
-          rw (h, le-leb 1 (suc w) (omega arith), le-leb (suc w) l le) (λ e. absurd (omega arith), λ k. (le, refl))
+          let d : Some w ≡ Some v = rw h at e in
+          let q : w ≡ v = cc in
+          let k : leb v l ≡ true = ((and-eq-true_iff (leb 1 v) (leb v l)).0 h).1 in
+          (omega (arith, leb-true v l k), rw h (ap f q))
+  width_some (negsuc n) w e = cc
 
-  pub width-none : (n : ℤ) → width_in n l ≡ 0 → Missing outside_window ≡ of_width n l f
-  width-none n = (chosen n).0
+-- ---- what the members take of it
 
-  pub width_some : (n : ℤ) → (width_in n l ≡ 0 → ⊥) → (width_in n l ≤ l) × (f (width_in n l) ≡ of_width n l f)
-  width_some n = (chosen n).1
+module _ (xs ys : List ℤ) (s l : ℕ) (n : ℤ) (w : ℕ) (e : ys ≡ readings_in xs s l) (q : Some w ≡ width_in n (length ys)) where
+  sum_chosen : ranged (best ys w).sum ≡ on_window BestSum xs s l n
+  unfolding on_window rule best_sum
+  sum_chosen =
+      let k = width_some (length ys) (λ j. of_greatest ranged (sums ys j)) n w q in
+      best-greatest ys w k.0 ranged ∙ k.1 ∙ ap (λ (zs : List ℤ). best_sum zs n) e
+
+  index_chosen : Number (pos (best ys w).at) ≡ on_window BestAt xs s l n
+  unfolding on_window rule best_at
+  index_chosen =
+      let k = width_some (length ys) (λ j. of_greatest (λ z. Number (pos (first_at z (sums ys j)))) (sums ys j)) n w q in
+      best-index ys w k.0 ∙ k.1 ∙ ap (λ (zs : List ℤ). best_at zs n) e
+
+  pub best_chosen : (m : Member) → Chooses m → (b : Best) → b ≡ best ys w → chosen m b ≡ on_window m xs s l n
+  best_chosen m (inl k) b p = rw (k, p) sum_chosen
+  best_chosen m (inr k) b p = rw (k, p) index_chosen
+
+  pub best_small : l < 65536 → (b : Best) → b ≡ best ys w → b.at ≤ 65536
+  best_small h b p =
+      let k = width_some (length ys) (λ j. Missing outside_window) n w q in
+      omega (arith, ap (λ (c : Best). c.at) p, best_within ys w k.0, ap length e, readings-short xs s l)
 
 -- ---- along the readings: the sum of the stretch that begins at i, and the best so far against the stretches that are left
 
@@ -200,9 +214,9 @@ pub record Slid (xs : List ℤ) (w : ℕ) (t : ℤ) (b : Best) (i : ℕ) : Type 
   pub small : nat_abs t ≤ (w + i + i) * 2147483648
   pub rest : best_from b (i + 1) (sums_after xs w i) ≡ best xs w
 
-pub slid-none : (xs : List ℤ) (w : ℕ) (t : ℤ) → w ≤ length xs → Totals (take w xs) t → Slid xs w t (record { sum = t; at = 0 }) 0
+pub slid_none : (xs : List ℤ) (w : ℕ) (t : ℤ) → w ≤ length xs → Totals (take w xs) t → Slid xs w t (record { sum = t; at = 0 }) 0
 unfolding best
-slid-none xs w t h k = record {
+slid_none xs w t h k = record {
   within = omega arith;
   exact = k.exact;
   small = omega (arith, k.small, length-take w xs);
@@ -217,10 +231,10 @@ after_next xs w i h =
     ∙ ap (λ (j : ℕ). total (take w (drop j xs)) ∷ map total (stretches_from xs w (suc j) (length xs - w - (i + 1)))) (sym (add-one i))
 
 module _ (xs : List ℤ) (w : ℕ) (t : ℤ) (b : Best) (i : ℕ) (s : Slid xs w t b i) where
-  pub slid-more : i < length xs - w → mag (get_or xs (i + w) (pos 0)) < 2147483648 → mag (get_or xs i (pos 0)) < 2147483648
+  pub slid_more : i < length xs - w → mag (get_or xs (i + w) (pos 0)) < 2147483648 → mag (get_or xs i (pos 0)) < 2147483648
       → (t' : ℤ) → t' ≡ t +ℤ get_or xs (i + w) (pos 0) -ℤ get_or xs i (pos 0) → Slid xs w t' (better b t' (i + 1)) (i + 1)
   unfolding best_from
-  slid-more h hin hout t' e =
+  slid_more h hin hout t' e =
       let next : t' ≡ total (take w (drop (i + 1) xs)) =
       e ∙ ap (λ (z : ℤ). z +ℤ get_or xs (i + w) (pos 0) -ℤ get_or xs i (pos 0)) s.exact ∙ sym (slide xs w i h) ∙ ap (λ (k : ℕ). total (take w (drop k xs))) (sym (add-one i)) in
       record {
@@ -233,8 +247,8 @@ module _ (xs : List ℤ) (w : ℕ) (t : ℤ) (b : Best) (i : ℕ) (s : Slid xs w
             ∙ ap (best_from b (i + 1)) (sym (after_next xs w i h)) ∙ s.rest;
       }
 
-  pub slid-all : length xs - w ≤ i → b ≡ best xs w
+  pub slid_all : length xs - w ≤ i → b ≡ best xs w
   unfolding best_from sums_after stretches_from
-  slid-all h =
+  slid_all h =
       let e : length xs - w - i ≡ 0 = omega arith in
       sym (ap (λ (k : ℕ). best_from b (i + 1) (map total (stretches_from xs w (suc i) k))) e) ∙ s.rest

@@ -1,6 +1,6 @@
 -- A member on its dependencies, as the code tests them: the kinds of the member table first, then the rule on what it is given, up to the runs
 -- of a function. That this comes to apply0 and applied1 is in TestedLaws. Assumes nothing: these are definitions.
-use Rattle.std.specs.Prelude.{Bool, cond, List, ℕ, eqb, ℤ}
+use Rattle.std.specs.Prelude.{Bool, ◌&&◌, ◌||◌, cond, List, ℕ, eqb, ℤ}
 use Rattle.members.specs.Members.{row, kind_number}
 use Rattle.members.specs.declared.Kind.{Kind}
 use Rattle.members.specs.declared.Kind.TheVariants as Kinds
@@ -67,7 +67,6 @@ unfoldable pub tested1 : Member → List ℤ → Value → Value → Applied
 tested1 m xs v w =
     cond (is_missing v) (Done v)
     (cond (is_missing w) (Done w)
-    (cond (is_delayed v) (Done Delayed)
-    (cond (is_delayed w) (Done Delayed)
-    (cond (is_kind v (row m).receiver) (cond (is_kind w (row m).argument) (ruled1 m xs v w) (Done (Missing wrong_kind)))
-    (Done (Missing wrong_kind))))))
+    (cond (is_delayed v || is_delayed w) (Done Delayed)
+    (cond (is_kind v (row m).receiver && is_kind w (row m).argument) (ruled1 m xs v w)
+    (Done (Missing wrong_kind)))))

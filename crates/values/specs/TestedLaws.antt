@@ -1,6 +1,6 @@
 -- What the code tests is what a member comes to: the kinds in the member table are those of the member's rule (RulesLaws), which gives reason 2
 -- on all others. By the kinds of the dependencies and of the rule. Assumes nothing.
-use Rattle.std.specs.Prelude.{◌≡◌, cond, List, ℕ, eqb, ℤ}
+use Rattle.std.specs.Prelude.{◌≡◌, ◌&&◌, cond, List, ℕ, eqb, ℤ}
 use Rattle.std.proofs.Math.Path.{refl}
 use Rattle.members.specs.Members.{kind_number}
 use Rattle.members.specs.declared.Member.{Member}
@@ -20,7 +20,7 @@ abbrev Kind0 : ℕ → (Rule → Value) → (Rule → Value) → Type 0
 Kind0 a u v = (r : Rule) → cond (eqb a (kind_number (receiver_of r))) (u r) (Missing wrong_kind) ≡ v r
 
 abbrev Kinds : ℕ → ℕ → (Rule → Applied) → (Rule → Applied) → Type 0
-Kinds a b u v = (r : Rule) → cond (eqb a (kind_number (receiver_of r))) (cond (eqb b (kind_number (argument_of r))) (u r) (Done (Missing wrong_kind))) (Done (Missing wrong_kind)) ≡ v r
+Kinds a b u v = (r : Rule) → cond (eqb a (kind_number (receiver_of r)) && eqb b (kind_number (argument_of r))) (u r) (Done (Missing wrong_kind)) ≡ v r
 
 module _ (m : Member) (xs : List ℤ) where
   pub tested0-is : (v : Value) → tested0 m xs v ≡ apply0 m xs v

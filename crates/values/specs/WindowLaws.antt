@@ -1,14 +1,17 @@
 -- What the definitions of Windows come to: which readings a window has, what a count from either end is by its tests, and how a sum, a least or a
 -- greatest is worked out reading by reading. Each holds by cases, by induction on the readings, or by laws of `take` and `drop`. Assumes nothing.
-use Rattle.std.specs.Prelude.{◌≡◌, refl, true, false, List, [], ◌∷◌, ℕ, ◌+◌, ◌-◌, ◌*◌, ◌≤◌, ◌<◌, ℤ, pos, negsuc, nat_abs, ◌+ℤ◌, length, take, drop, get_or}
+use Rattle.std.specs.List.{reduce}
+use Rattle.std.proofs.lemmas.Bool.{false≢true}
+use Rattle.std.specs.Prelude.{◌≡◌, refl, fold, true, false, List, [], ◌∷◌, ℕ, ◌+◌, ◌-◌, ◌*◌, ◌≤◌, ◌<◌, ℤ, pos, negsuc, nat_abs, ◌+ℤ◌, length, take, drop, get_or}
 use Rattle.std.proofs.Common.{sym, ap, ◌∙◌, add-one, arith, ltb-true, ltb-false, length-take, length-drop, drop_of_length-le, take_all, drop-cons}
 use Rattle.std.proofs.Math.IntN.{+ℤ_idl, +ℤ_idr, +ℤ_assoc}
 use Rattle.std.proofs.Math.Seq.{take-nil}
 use Rattle.std.specs.Int.Signed.{mag, lt_z}
-use Rattle.language.specs.Cases.{impossible}
 use Rattle.rules.specs.declared.Value.TheVariants.{Number}
 use Rattle.rules.specs.Windows.{readings_in, from_start, nearest, total, fold_from, extreme}
+use Rattle.values.specs.Found.{found}
 use Rattle.values.specs.Ranges.{total-range}
+use Rattle.values.specs.Sliding.{Totals}
 
 -- ---- the readings of a window
 
@@ -33,7 +36,7 @@ end-counted (negsuc n) l h = refl
 
 pub start-counted : (n : ℤ) (l : ℕ) → lt_z n (pos 0) ≡ false → n ≡ from_start n l
 start-counted (pos n) l h = refl
-start-counted (negsuc n) l h = impossible (sym h)
+start-counted (negsuc n) l h = absurd (false≢true (sym h))
 
 pub nearest-none : (z : ℤ) (l : ℕ) → lt_z z (pos 0) ≡ true → 0 ≡ nearest z l
 nearest-none (pos k) l h = absurd (omega (arith, ltb-true k 0 h))
@@ -41,11 +44,11 @@ nearest-none (negsuc k) l h = refl
 
 pub nearest-itself : (z : ℤ) (l : ℕ) → lt_z z (pos 0) ≡ false → lt_z z (pos l) ≡ true → nat_abs z ≡ nearest z l
 nearest-itself (pos k) l h t = omega (arith, ltb-true k l t)
-nearest-itself (negsuc k) l h t = impossible (sym h)
+nearest-itself (negsuc k) l h t = absurd (false≢true (sym h))
 
 pub nearest-all : (z : ℤ) (l : ℕ) → lt_z z (pos 0) ≡ false → lt_z z (pos l) ≡ false → l ≡ nearest z l
 nearest-all (pos k) l h t = omega (arith, ltb-false k l t)
-nearest-all (negsuc k) l h t = impossible (sym h)
+nearest-all (negsuc k) l h t = absurd (false≢true (sym h))
 
 -- ---- the readings from i on
 
@@ -63,9 +66,9 @@ pub record Summed (xs : List ℤ) (t : ℤ) (i : ℕ) : Type 0 where
 pub summed-none : (xs : List ℤ) → length xs < 65536 → Summed xs (pos 0) 0
 summed-none xs h = record { short = h; within = omega arith; small = omega arith; rest = +ℤ_idl (total xs) }
 
-pub summed-more : (xs : List ℤ) (t : ℤ) (i : ℕ) → Summed xs t i → i < length xs → mag (get_or xs i (pos 0)) < 2147483648 → Summed xs (t +ℤ get_or xs i (pos 0)) (i + 1)
+pub summed_more : (xs : List ℤ) (t : ℤ) (i : ℕ) → Summed xs t i → i < length xs → mag (get_or xs i (pos 0)) < 2147483648 → Summed xs (t +ℤ get_or xs i (pos 0)) (i + 1)
 unfolding total
-summed-more xs t i s h k = record {
+summed_more xs t i s h k = record {
   short = s.short;
   within = omega arith;
   small = omega (arith, total-range 2147483648 i t (get_or xs i (pos 0)) s.small k);
@@ -75,32 +78,21 @@ summed-more xs t i s h k = record {
       ∙ s.rest;
 }
 
-pub summed-all : (xs : List ℤ) (t : ℤ) (i : ℕ) → Summed xs t i → length xs ≤ i → t ≡ total xs
+pub summed_all : (xs : List ℤ) (t : ℤ) (i : ℕ) → Summed xs t i → length xs ≤ i → t ≡ total xs
 unfolding total
-summed-all xs t i s h = sym (ap (λ (ys : List ℤ). t +ℤ total ys) (drop_of_length-le xs h) ∙ +ℤ_idr t) ∙ s.rest
+summed_all xs t i s h = sym (ap (λ (ys : List ℤ). t +ℤ total ys) (drop_of_length-le xs h) ∙ +ℤ_idr t) ∙ s.rest
 
--- ---- a least or greatest, after i readings
+pub totals_all : (xs : List ℤ) (t : ℤ) (i : ℕ) → Summed xs t i → length xs ≤ i → Totals xs t
+totals_all xs t i h k = record { exact = summed_all xs t i h k; small = omega (arith, h.small, h.within) }
 
-pub record Folded (f : ℤ → ℤ → ℤ) (xs : List ℤ) (b : ℤ) (i : ℕ) : Type 0 where
-  pub within : i ≤ length xs
-  pub rest : Number (fold_from f b (drop i xs)) ≡ extreme f xs
+-- ---- a least or greatest, from std's word
 
-pub folded-one : (f : ℤ → ℤ → ℤ) (xs : List ℤ) → (length xs ≡ 0 → ⊥) → Folded f xs (get_or xs 0 (pos 0)) 1
+fold-same : (f : ℤ → ℤ → ℤ) (a : ℤ) (xs : List ℤ) → fold f a xs ≡ fold_from f a xs
+unfolding fold_from
+fold-same f a [] = refl
+fold-same f a (x ∷ xs) = fold-same f (f a x) xs
+
+pub found_extreme : (f : ℤ → ℤ → ℤ) (xs : List ℤ) → found (reduce f xs) ≡ extreme f xs
 unfolding extreme
-folded-one f [] h = absurd (h refl)
-folded-one f (x ∷ xs) h = record { within = omega arith; rest = refl }
-
-pub folded_more : (f : ℤ → ℤ → ℤ) (xs : List ℤ) (b : ℤ) (i : ℕ) → Folded f xs b i → i < length xs → Folded f xs (f b (get_or xs i (pos 0))) (i + 1)
-unfolding fold_from
-folded_more f xs b i s h = record {
-  within = omega arith;
-  rest = ap (λ (ys : List ℤ). Number (fold_from f b ys)) (drop-next xs i h) ∙ s.rest;
-}
-
-pub folded-all : (f : ℤ → ℤ → ℤ) (xs : List ℤ) (b : ℤ) (i : ℕ) → Folded f xs b i → length xs ≤ i → Number b ≡ extreme f xs
-unfolding fold_from
-folded-all f xs b i s h = ap (λ (ys : List ℤ). Number (fold_from f b ys)) (sym (drop_of_length-le xs h)) ∙ s.rest
-
-pub no-readings : (xs : List ℤ) → length xs ≡ 0 → xs ≡ []
-no-readings [] h = refl
-no-readings (x ∷ xs) h = absurd (omega arith)
+found_extreme f [] = refl
+found_extreme f (x ∷ xs) = ap Number (fold-same f x xs)

@@ -1,4 +1,6 @@
 // The members on a number. Each works at 64 bits, where nothing is lost, and tests the range once, at the end.
+#![tactic(auto, unfolding(rules::specs::Rules::on_numbers, rules::specs::Rules::rule, rules::specs::Numbers::divided, rules::specs::Values::ranged))]
+
 ghost use Rattle.std.specs.Prelude.{◌≡◌, pos, ◌<ℤ◌};
 ghost use Rattle.members.specs.declared.Member.TheVariants as Members;
 ghost use Rattle.rules.specs.Values.{ranged};
@@ -6,19 +8,16 @@ ghost use Rattle.rules.specs.Numbers.{quotient};
 ghost use Rattle.rules.specs.Rules.{on_numbers};
 
 use members::Member;
-use rules::Value;
+use rules::{Reason, Value};
 
 // A whole number as a value: reason 4 beyond signed 32 bits.
 pub fn number(z: i64) -> Value
     ensures { result ≡ ranged z }
 {
-    if z < -2147483648 {
-        return Value::Missing(4);
+    match i32::try_from(z) {
+        Ok(in_range) => Value::Number(in_range),
+        Err(_) => Reason::BeyondNumber.into(),
     }
-    if 2147483647 < z {
-        return Value::Missing(4);
-    }
-    Value::Number(z as i32)
 }
 
 // The sum.
@@ -55,7 +54,7 @@ pub fn div(a: i32, b: i32) -> Value
     ensures { result ≡ on_numbers Members.Div a b }
 {
     if b == 0 {
-        return Value::Missing(3);
+        return Reason::DivisionByZero.into();
     }
     if b < 0 {
         return number(round_down(-(a as i64), -(b as i64)));
@@ -67,22 +66,14 @@ pub fn div(a: i32, b: i32) -> Value
 pub fn gt(a: i32, b: i32) -> Value
     ensures { result ≡ on_numbers Members.Gt a b }
 {
-    if b < a {
-        Value::Number(1)
-    } else {
-        Value::Number(0)
-    }
+    Value::Number((b < a) as i32)
 }
 
 // 1 where they are equal, and otherwise 0.
 pub fn eq(a: i32, b: i32) -> Value
     ensures { result ≡ on_numbers Members.Eq a b }
 {
-    if a == b {
-        Value::Number(1)
-    } else {
-        Value::Number(0)
-    }
+    Value::Number((a == b) as i32)
 }
 
 // The member on two numbers: reason 2 where it is used on none.
@@ -96,6 +87,6 @@ pub fn on_numbers(m: Member, a: i32, b: i32) -> Value
         Member::Div => div(a, b),
         Member::Gt => gt(a, b),
         Member::Eq => eq(a, b),
-        _ => Value::Missing(2),
+        _ => Reason::WrongKind.into(),
     }
 }

@@ -1,11 +1,13 @@
 // The members that run a function, from the results of its runs, one at a time: the first result that is no number decides.
-ghost use Rattle.std.specs.Prelude.{◌≡◌, cond, ◌+◌, ◌≤◌, max};
+#![tactic(auto, unfolding(crate::specs::Tallies::noted, crate::specs::Tallies::entered, crate::specs::Tallies::stepped, crate::specs::Tallies::finished, rules::specs::Rules::rule))]
+
+ghost use Rattle.std.specs.Prelude.{◌≡◌, cond, ◌+◌, ◌≤◌};
 ghost use Rattle.rules.specs.Runs.{is_nonzero};
 ghost use Rattle.values.specs.Tallies.{begun, noted, halted, finished, Within, Steps};
 
 use crate::numbers::number;
 use members::Member;
-use rules::Value;
+use rules::{Reason, Value};
 
 // What is kept of the results so far: how many were other than 0, the stretch of these at the end, the longest stretch, and the exact
 // total. Once stopped, the reason alone counts.
@@ -47,13 +49,6 @@ fn halt(reason: u8) -> Tally
     }
 }
 
-// The greater of two lengths.
-fn longer(a: u16, b: u16) -> u16
-    ensures { result ≡ max a b }
-{
-    if a < b { b } else { a }
-}
-
 // One more where z is other than 0. The test is a number here and below: a branch on results that vary would often be guessed wrong.
 fn counted(n: u16, z: i32) -> u16
     requires { n ≤ 65534 }
@@ -81,7 +76,7 @@ fn note(t: Tally, z: i32) -> Tally
         reason: 0,
         count: counted(t.count, z),
         stretch,
-        longest: longer(t.longest, stretch),
+        longest: t.longest.max(stretch),
         total: t.total + z as i64,
     }
 }
@@ -97,7 +92,7 @@ pub fn step(t: Tally, v: Value) -> Tally
     match v {
         Value::Number(z) => note(t, z),
         Value::Missing(r) => halt(r),
-        _ => halt(2),
+        _ => halt(Reason::WrongKind as u8),
     }
 }
 
@@ -112,6 +107,6 @@ pub fn finish(m: Member, t: Tally) -> Value
         Member::CountWhere => Value::Number(t.count as i32),
         Member::LongestRun => Value::Number(t.longest as i32),
         Member::SumBy => number(t.total),
-        _ => Value::Missing(2),
+        _ => Reason::WrongKind.into(),
     }
 }

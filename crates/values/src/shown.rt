@@ -1,10 +1,13 @@
 // What a value shows, as plain numbers.
+#![tactic(auto)]
+
 ghost use Rattle.std.specs.Prelude.{◌≡◌};
 ghost use Rattle.values.specs.Shown.{shown_numbers};
 
 use rules::Value;
 
-// kind: 1 number, 2 window, 3 function, 4 delayed, 5 missing. first: the number, the start or the reason. second: the length.
+// By the numbers of the C interface. kind: 1 number, 2 window, 3 function, 4 delayed, 5 missing. first: the number, the start or the reason.
+// second: the length.
 #[repr(C)]
 #[derive(Clone, Copy)]
 pub struct Shown {

@@ -1,9 +1,9 @@
 -- A right node by its kind, as the writer takes it: a function, a member with no argument or with one, or none of these. Assumes nothing.
+use Rattle.std.specs.Prelude.{Some}
 use Rattle.std.specs.Prelude.{◌≡◌, refl, false, ℕ, suc, ◌≤◌, ◌<◌}
 use Rattle.std.proofs.Common.{arith}
 use Rattle.members.specs.declared.Member.{Member}
-use Rattle.members.specs.declared.Found.TheVariants.{Is}
-use Rattle.meaning.specs.Forms.{Form, with_level, name_in, ask, call, function}
+use Rattle.meaning.specs.Forms.{Form, name_in, ask, call, function}
 use Rattle.meaning.proofs.FormsLaws.{name_back}
 use Rattle.layout.specs.Memory.{Node}
 use Rattle.layout.specs.Nodes.{function_kind, member_of_kind, variable_in, build}
@@ -25,7 +25,7 @@ pub record LeafNode (q : Node) : Type 0 where
 pub record AskNode (q : Node) : Type 0 where
   pub member : Member
   pub receiver : ℕ
-  pub is : member_of_kind q.kind ≡ Is member
+  pub is : member_of_kind q.kind ≡ Some member
   pub first : q.first ≡ suc receiver
   pub form : (φ : ℕ → Form) → build q φ ≡ ask member (φ receiver)
 
@@ -33,7 +33,7 @@ pub record CallNode (q : Node) : Type 0 where
   pub member : Member
   pub receiver : ℕ
   pub argument : ℕ
-  pub is : member_of_kind q.kind ≡ Is member
+  pub is : member_of_kind q.kind ≡ Some member
   pub first : q.first ≡ suc receiver
   pub second : q.second ≡ suc argument
   pub form : (φ : ℕ → Form) → build q φ ≡ call member (φ receiver) (φ argument)

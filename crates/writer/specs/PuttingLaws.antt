@@ -1,290 +1,166 @@
 -- Bytes written one after the other, from right to left, are written as one piece; and the loops that write the bytes of a packed word, one by
 -- one or all eight, and the digits of a number. Assumes nothing.
-use Rattle.std.specs.Prelude.{◌≡◌, refl, ◌⊎◌, Bool, true, false, ◌&&◌, cond, List, [], ◌∷◌, ◌++◌, eqb, ltb, leb, length, drop, set}
-use Rattle.std.proofs.Common.{sym, ap, ◌∙◌, subst, inl, inr, ⊎_elim, append_assoc, arith, length-append, pow-add, pow_mono, drop-drop}
-use Rattle.std.proofs.Math.Bool.{and-eq-true_iff}
-use Prim.Native.Nat.{ℕ, zero, suc, ◌+◌, ◌-◌, ◌*◌, ◌/◌, ◌%◌, ◌^◌, ◌≤◌, ◌<◌}
-use Rattle.std.proofs.Math.Nat.{pow-suc, one-le-pow}
-use borrow.Author.Tests.{ne_eqb, lt-ltb, le-ltb, ltb-true, ltb-false, lt-leb, le-leb, leb-true, leb-false}
-use Rattle.std.specs.Int.Count.{count_leading_zeros}
-use Rattle.std.proofs.lemmas.Nat.{leading_length}
-use Rattle.language.specs.Limits.{text_bytes, name_bytes}
+use Rattle.std.specs.Prelude.{◌≡◌, refl, Option, Some, None, Bool, true, cond, List, [], ◌∷◌, ◌++◌, ltb, length, drop}
+use Rattle.std.proofs.Common.{sym, ap, ◌∙◌, append_assoc, arith, length-append, drop-drop}
+use Prim.Native.Nat.{ℕ, zero, suc, ◌+◌, ◌-◌, ◌/◌, ◌%◌, ◌^◌, ◌≤◌, ◌<◌}
+use Rattle.std.proofs.Math.Nat.{pow-suc}
+use borrow.Author.Tests.{ne_eqb, lt-ltb, le-ltb, ltb-true}
+use Rattle.language.specs.Limits.{name_bytes}
 use Rattle.language.specs.Cases.{split}
 use Rattle.language.specs.Names.{bytes, pack_onto, data_word}
 use Rattle.members.specs.Members.{spelled, same_bytes, packed_name}
 use Rattle.members.specs.MembersLaws.{each, same_bytes_lem}
 use Rattle.members.specs.declared.Member.{Member}
 use Rattle.members.specs.declared.Name.{Name}
-use Rattle.members.specs.declared.Found.{Found}
-use Rattle.members.specs.declared.Found.TheVariants.{Is, Unknown}
 use Rattle.layout.specs.Memory.{Node}
 use Rattle.layout.specs.Nodes.{number_kind, readings_kind, number_of_key}
 use Rattle.table.specs.WellFormed.{key_right}
 use Rattle.printing.specs.Printed.{digits_onto, digits, decimals, unpack_onto, unpacked}
 use Rattle.printing.proofs.Unpacking.{none-packed}
-use Rattle.writer.specs.Putting.{stopped_at, Puts, has_room, whole_onto, leaf_bytes, member_bytes, Unpacks, Counts}
+use Rattle.writer.specs.Whole.{whole_onto}
+use Rattle.writer.specs.WholeLaws.{append-unpacked, past-zeros}
+use Rattle.writer.specs.declared.page.Page.{Page}
+use Rattle.writer.specs.Putting.{Puts, leaf_bytes, member_bytes, head_bytes, Unpacks, Counts}
 
 -- nothing is written
-pub puts_none : (low at : ℕ) (out : List ℕ) → at ≤ stopped_at → Puts low [] at out at out
-puts_none low at out h =
-    record {
-      whole = refl;
-      within = h;
-      stopped = λ e. inl e;
-      written = λ l. record { top = l; room = λ r. r; size = omega arith; bytes = refl };
-    }
-
--- no byte at the place that stands for none, and none before low
-pub puts-stopped : (low at : ℕ) (w out : List ℕ) → at ≡ stopped_at → Puts low w at out stopped_at out
-puts-stopped low at w out e = record { whole = refl; within = omega arith; stopped = λ z. inl e; written = λ l. absurd (omega arith) }
-
-pub puts-full : (low at : ℕ) (w out : List ℕ) → at < low + length w → Puts low w at out stopped_at out
-puts-full low at w out h = record { whole = refl; within = omega arith; stopped = λ z. inr h; written = λ l. absurd (omega arith) }
-
-drop-set : (out : List ℕ) (k b : ℕ) → k < length out → drop k (set out k b) ≡ b ∷ drop (suc k) out
-drop-set [] k b h = absurd (omega arith)
-drop-set (x ∷ out) zero b h = refl
-drop-set (x ∷ out) (suc k) b h = drop-set out k b (omega arith)
-
-length-set : (out : List ℕ) (k b : ℕ) → length (set out k b) ≡ length out
-length-set [] k b = refl
-length-set (x ∷ out) zero b = refl
-length-set (x ∷ out) (suc k) b = ap suc (length-set out k b)
-
-pub puts-byte : (low at b : ℕ) (out : List ℕ) → length out ≡ text_bytes → low < at → at ≤ text_bytes → Puts low (b ∷ []) at out (at - 1) (set out (at - 1) b)
-puts-byte low at b out l h t =
-    let q : suc (at - 1) ≡ at = omega arith in
-    record {
-      whole = length-set out (at - 1) b;
-      within = omega arith;
-      stopped = λ z. absurd (omega arith);
-      written = λ _. record { top = t; room = λ r. omega arith; size = omega arith; bytes = drop-set out (at - 1) b (omega arith) ∙ ap (λ k. b ∷ drop k out) q };
-    }
+pub puts_none : (p : Page) → Puts [] p (Some tt) p
+puts_none p = record { same = refl; written = λ _. record { room = λ r. r; size = omega arith; bytes = refl }; full = λ e. absurd (cc) }
 
 -- one piece directly before another
-module _ {low at at₁ at₂ : ℕ} {u v out out₁ out₂ : List ℕ} (p : Puts low u at out at₁ out₁) (q : Puts low v at₁ out₁ at₂ out₂) where
-  both_stopped : at₂ ≡ stopped_at → (at ≡ stopped_at) ⊎ (at < low + length (v ++ u))
-  both_stopped e =
-      ⊎_elim none short (q.stopped e)
-    where
-      more : at < low + length u → at < low + (length v + length u)
-      more y = omega arith
-
-      none : at₁ ≡ stopped_at → (at ≡ stopped_at) ⊎ (at < low + length (v ++ u))
-      none z = ⊎_elim (λ y. inl y) (λ y. inr (rw (length-append v u) (more y))) (p.stopped z)
-
-      short : at₁ < low + length v → (at ≡ stopped_at) ⊎ (at < low + length (v ++ u))
-      short z =
-          split (ltb at₁ stopped_at)
-          (λ l. let s = (p.written (let y = ltb-true at₁ stopped_at l in omega arith)).size in inr (rw (length-append v u) (omega arith)))
-          (λ l. none (let y = ltb-false at₁ stopped_at l in let w = p.within in omega arith))
-
-  pub puts-both : Puts low (v ++ u) at out at₂ out₂
-  puts-both =
+module _ {u : List ℕ} {p q : Page} where
+  pub puts_both : {v : List ℕ} {r : Option (Unit {0})} {s : Page} → Puts u p (Some tt) q → Puts v q r s → Puts (v ++ u) p r s
+  puts_both {v} {r} {s} h k =
+      let a = h.written refl in
       record {
-        whole = q.whole ∙ p.whole;
-        within = q.within;
-        stopped = both_stopped;
-        written = λ l.
-            let s = q.written l in
-            let r = p.written s.top in
+        same = k.same ∙ h.same;
+        written = λ e.
+            let b = k.written e in
             record {
-              top = r.top;
-              room = λ h. s.room (r.room h);
-              size = rw (length-append v u) (omega (arith, s.size, r.size));
-              bytes = s.bytes ∙ ap (λ (t : List ℕ). v ++ t) r.bytes ∙ sym (append_assoc v u (drop at out));
+              room = λ l. let m = h.same in let n = b.room (let o = a.room l in omega arith) in omega arith;
+              size = rw (length-append v u) (omega (arith, a.size, b.size));
+              bytes = b.bytes ∙ ap (λ (t : List ℕ). v ++ t) a.bytes ∙ sym (append_assoc v u (drop p.at p.bytes));
             };
+        full = λ e. let f = k.full e in let m = h.same in rw (length-append v u) (omega (arith, a.size));
       }
 
+  -- where there was no room for a piece, there is none for a longer one
+  pub puts_longer : {w : List ℕ} → length u ≤ length w → Puts u p None q → Puts w p None q
+  puts_longer l h = record { same = h.same; written = λ e. absurd (cc); full = λ e. let f = h.full e in omega arith }
+
+  pub puts_more : (v : List ℕ) → Puts u p None q → Puts (v ++ u) p None q
+  puts_more v h = puts_longer (rw (length-append v u) (omega arith)) h
+
 -- the bytes of a packed word
-pub unpacks-start : (low word at : ℕ) (out : List ℕ) → at ≤ stopped_at → word < 2 ^ 64 → Unpacks low word at out at word out
-unpacks-start low word at out h l = record { left = name_bytes; done = []; small = l; same = refl; puts = puts_none low at out h }
+longer-unpacked : (n k : ℕ) (u : List ℕ) → length u ≤ length (unpack_onto n k u)
+longer-unpacked n k u = rw (append-unpacked n k [] u, length-append (unpack_onto n k []) u) (omega arith)
 
-module _ {low word at first rest : ℕ} {out out' : List ℕ} (p : Unpacks low word at out first rest out') where
-  pub unpacks-byte : (b first' : ℕ) (out'' : List ℕ) → (rest ≡ 0 → ⊥) → b ≡ rest % 256 → Puts low (b ∷ []) first out' first' out''
-      → Unpacks low word at out first' (rest / 256) out''
+pub unpacks_start : (word : ℕ) (p : Page) → word < 2 ^ 64 → Unpacks word p word p
+unpacks_start word p l = record { left = name_bytes; done = []; small = l; same = refl; puts = puts_none p }
+
+module _ {word rest : ℕ} {p q : Page} (h : Unpacks word p rest q) where
+  -- what is written with the next byte is the end of the word's bytes
+  next_byte : (b : ℕ) → (rest ≡ 0 → ⊥) → b ≡ rest % 256 → {r : Option (Unit {0})} {s : Page} → Puts (b ∷ []) q r s
+      → (r ≡ Some tt → Unpacks word p (rest / 256) s) × (r ≡ None → Puts (unpacked word) p r s)
   unfolding unpack_onto
-  unpacks-byte b first' out'' n e q = by p.left p.small p.same
+  next_byte b n e {r} {s} k = by h.left h.small h.same
     where
-      by : (left : ℕ) → rest < 256 ^ left → unpack_onto left rest p.done ≡ unpacked word → Unpacks low word at out first' (rest / 256) out''
-      by zero s x = absurd (omega arith)
-      by (suc left) s x =
-          record {
-            left = left;
-            done = b ∷ p.done;
-            small = omega (arith, pow-suc 256 left);
-            same = rw e (rw (ne_eqb rest 0 n) at x);
-            puts = puts-both p.puts q;
-          }
+      by : (left : ℕ) → rest < 256 ^ left → unpack_onto left rest h.done ≡ unpacked word → (r ≡ Some tt → Unpacks word p (rest / 256) s) × (r ≡ None → Puts (unpacked word) p r s)
+      by zero l x = absurd (omega arith)
+      by (suc left) l x =
+          let y : unpack_onto left (rest / 256) (b ∷ h.done) ≡ unpacked word = rw e (rw (ne_eqb rest 0 n) at x) in (
+            λ z. record { left = left; done = b ∷ h.done; small = omega (arith, pow-suc 256 left); same = y; puts = rw z at (puts_both h.puts k) },
+            λ z. let f : Puts (b ∷ h.done) p None s = rw z at (puts_both h.puts k) in
+                rw (z, ← y) (puts_longer (longer-unpacked left (rest / 256) (b ∷ h.done)) f),
+          )
 
-  pub unpacks-end : rest ≡ 0 → Puts low (unpacked word) at out first out'
-  unpacks-end e = rw (← p.same, e, none-packed p.left p.done) p.puts
+  pub unpacks_byte : (b : ℕ) {s : Page} → (rest ≡ 0 → ⊥) → b ≡ rest % 256 → Puts (b ∷ []) q (Some tt) s → Unpacks word p (rest / 256) s
+  unpacks_byte b n e k = (next_byte b n e k).0 refl
 
--- whether a whole word has room, by the code's three tests; and what it means
-pub room-few : (low at : ℕ) → at < name_bytes → false ≡ has_room low at
-room-few low at h = rw (lt-leb (low + name_bytes) at (omega arith))
+  pub unpacks_full : (b : ℕ) {s : Page} → (rest ≡ 0 → ⊥) → b ≡ rest % 256 → Puts (b ∷ []) q None s → Puts (unpacked word) p None s
+  unpacks_full b n e k = (next_byte b n e k).1 refl
 
-pub room-none : (low at : ℕ) → text_bytes < at → false ≡ has_room low at
-room-none low at h = rw (lt-leb at text_bytes h) (sym (and_none (leb (low + name_bytes) at)))
-  where
-    and_none : (b : Bool) → (b && false) ≡ false
-    and_none true = refl
-    and_none false = refl
+  pub unpacks_end : rest ≡ 0 → Puts (unpacked word) p (Some tt) q
+  unpacks_end e = rw (← h.same, e, none-packed h.left h.done) h.puts
 
-pub room-before : (low at : ℕ) → name_bytes ≤ at → at ≤ text_bytes → leb low (at - name_bytes) ≡ has_room low at
-room-before low at h t =
-    split (leb low (at - name_bytes))
-    (λ e. let l = leb-true low (at - name_bytes) e in rw (e, le-leb (low + name_bytes) at (omega arith), le-leb at text_bytes t))
-    (λ e. let l = leb-false low (at - name_bytes) e in rw (e, lt-leb (low + name_bytes) at (omega arith)))
-
-pub room-is : (low at : ℕ) (r : Bool) → r ≡ has_room low at → r ≡ true → (low + name_bytes ≤ at) × (at ≤ text_bytes)
-room-is low at r e t =
-    let p = (and-eq-true_iff (leb (low + name_bytes) at) (leb at text_bytes)).0 (sym e ∙ t) in
-    (leb-true (low + name_bytes) at p.0, leb-true at text_bytes p.1)
-
--- all bytes of a packed word, with the zeros before them: one byte more, and the end
-pub whole-byte : (start left left' rest b : ℕ) (out w : List ℕ) → suc left' ≡ left → start + left ≤ length out → b ≡ rest % 256
-    → whole_onto left rest (drop (start + left) out) ≡ w → whole_onto left' (rest / 256) (drop (start + left') (set out (start + left') b)) ≡ w
-unfolding whole_onto
-whole-byte start left left' rest b out w z h e p =
-    let q : suc (start + left') ≡ start + left = omega arith in
-    let x : whole_onto (suc left') rest (drop (start + left) out) ≡ w = subst (λ k. whole_onto k rest (drop (start + left) out) ≡ w) (sym z) p in
-    rw (drop-set out (start + left') b (omega arith), q, e) x
-
-pub whole-end : (start left rest : ℕ) (out w : List ℕ) → left ≡ 0 → whole_onto left rest (drop (start + left) out) ≡ w → drop start out ≡ w
-unfolding whole_onto
-whole-end start left rest out w z p = let s : start + 0 ≡ start = omega arith in rw (z, s) at p
-
--- of these the ones that the word packs: behind the zeros
-append-unpacked : (n k : ℕ) (v u : List ℕ) → unpack_onto n k (v ++ u) ≡ unpack_onto n k v ++ u
-unfolding unpack_onto
-append-unpacked zero k v u = refl
-append-unpacked (suc n) k v u = split (eqb k 0) (λ z. rw z) (λ z. rw z (append-unpacked n (k / 256) ((k % 256) ∷ v) u))
-
-past-whole : (n k : ℕ) (u : List ℕ) → drop n (whole_onto n k u) ≡ u
-unfolding whole_onto
-past-whole zero k u = refl
-past-whole (suc n) k u =
-    let t : List ℕ = whole_onto n (k / 256) ((k % 256) ∷ u) in
-    let z : suc n ≡ n + 1 = omega arith in
-    ap (λ m. drop m t) z ∙ sym (drop-drop 1 n t) ∙ ap (drop 1) (past-whole n (k / 256) ((k % 256) ∷ u))
-
-past-zeros : (n k : ℕ) (u : List ℕ) → drop (n - length (unpack_onto n k [])) (whole_onto n k u) ≡ unpack_onto n k u
-unfolding unpack_onto whole_onto
-past-zeros zero k u = refl
-past-zeros (suc n) k u =
-    split (eqb k 0)
-    (λ z. let d : suc n - 0 ≡ suc n = omega arith in rw (z, d) (past-whole (suc n) k u))
-    (λ z.
-    let q : ℕ = k / 256 in
-    let l = ap length (append-unpacked n q [] ((k % 256) ∷ [])) ∙ length-append (unpack_onto n q []) ((k % 256) ∷ []) in
-    let d : suc n - length (unpack_onto n q ((k % 256) ∷ [])) ≡ n - length (unpack_onto n q []) = omega (arith, l) in
-    rw (z, d) (past-zeros n q ((k % 256) ∷ u)))
-
--- how many bytes a word packs: it is below this power of 256, and not below the one before
-unpacked-length : (n k r : ℕ) (u : List ℕ) → k < 256 ^ r → 256 ^ r ≤ 256 * k + 255 → r ≤ n → length (unpack_onto n k u) ≡ r + length u
-unfolding unpack_onto
-unpacked-length zero k zero u h l s = omega arith
-unpacked-length zero k (suc r) u h l s = absurd (omega arith)
-unpacked-length (suc n) k zero u h l s = let z : k ≡ 0 = omega arith in rw z (omega arith)
-unpacked-length (suc n) k (suc r) u h l s =
-    let p = pow-suc 256 r in
-    let g : 1 ≤ 256 ^ r = one-le-pow r 256 (omega arith) in
-    let i = unpacked-length n (k / 256) r ((k % 256) ∷ u) (omega (arith, p)) (omega (arith, p)) (omega arith) in
-    rw (ne_eqb k 0 (λ e. omega (arith, p, g))) (omega (arith, i))
-
-power : (r : ℕ) → 256 ^ r ≡ 2 ^ (8 * r)
-power zero = refl
-power (suc r) =
-    let z : 8 * suc r ≡ 8 * r + 8 = omega arith in
-    pow-suc 256 r ∙ ap (λ x. x * 256) (power r) ∙ sym (ap (λ k. 2 ^ k) z ∙ pow-add 2 (8 * r) 8)
-
--- eight less the leading bytes that are 0
-pub width-zeros : (word : ℕ) → word < 2 ^ 64 → name_bytes - count_leading_zeros 64 word / 8 ≡ length (unpacked word)
-width-zeros word h =
-    let t = leading_length 64 word h in
-    let r : ℕ = name_bytes - count_leading_zeros 64 word / 8 in
-    let u : 2 ^ t.0 ≤ 2 ^ (8 * r) = pow_mono (omega (arith, t.1)) in
-    let v : 2 ^ (8 * r) ≤ 2 ^ (t.0 + 7) = pow_mono (omega (arith, t.1)) in
-    let i = unpacked-length name_bytes word r [] (omega (arith, power r, t.2, u)) (omega (arith, power r, t.3, v, pow-add 2 t.0 7)) (omega arith) in
-    omega (arith, i)
-
--- they are written directly before the place
-pub puts_whole : (low at word r : ℕ) (out out' : List ℕ) → low + name_bytes ≤ at → at ≤ text_bytes → r ≡ length (unpacked word) → r ≤ name_bytes
-    → length out' ≡ length out → drop (at - name_bytes) out' ≡ whole_onto name_bytes word (drop (at - name_bytes + name_bytes) out) → Puts low (unpacked word) at out (at - r) out'
-puts_whole low at word r out out' h t e s l p =
-    let u : List ℕ = drop (at - name_bytes + name_bytes) out in
-    let z : at - r ≡ at - name_bytes + (name_bytes - r) = omega arith in
-    let z' : at - name_bytes + name_bytes ≡ at = omega arith in
+-- all eight of them at once
+pub puts_whole : (word r : ℕ) (p q : Page) → q.low ≡ p.low → p.low + name_bytes ≤ p.at → q.at ≡ p.at - r → r ≡ length (unpacked word) → r ≤ name_bytes
+    → drop (p.at - name_bytes) q.bytes ≡ whole_onto name_bytes word (drop (p.at - name_bytes + name_bytes) p.bytes) → Puts (unpacked word) p (Some tt) q
+puts_whole word r p q same h a e s k =
+    let u : List ℕ = drop (p.at - name_bytes + name_bytes) p.bytes in
+    let z : q.at ≡ p.at - name_bytes + (name_bytes - r) = omega arith in
+    let z' : p.at - name_bytes + name_bytes ≡ p.at = omega arith in
     record {
-      whole = l;
-      within = omega arith;
-      stopped = λ y. absurd (omega arith);
+      same = same;
       written = λ _. record {
-        top = t;
         room = λ _. omega arith;
         size = omega arith;
         bytes =
-            ap (λ k. drop k out') z ∙ sym (drop-drop (name_bytes - r) (at - name_bytes) out') ∙ ap (drop (name_bytes - r)) p
+            ap (λ k. drop k q.bytes) z ∙ sym (drop-drop (name_bytes - r) (p.at - name_bytes) q.bytes) ∙ ap (drop (name_bytes - r)) k
             ∙ ap (λ k. drop (name_bytes - k) (whole_onto name_bytes word u)) e ∙ past-zeros name_bytes word u
-            ∙ append-unpacked name_bytes word [] u ∙ ap (λ k. unpacked word ++ drop k out) z';
+            ∙ append-unpacked name_bytes word [] u ∙ ap (λ k. unpacked word ++ drop k p.bytes) z';
       };
+      full = λ e. absurd (cc);
     }
 
 -- the digits of a number
-pub counts_start : (low n at : ℕ) (out : List ℕ) → at ≤ stopped_at → n < 2 ^ 32 → Counts low n at out at n out
-counts_start low n at out h l = record { left = 9; done = []; small = omega arith; same = refl; puts = puts_none low at out h }
+longer-digits : (n k : ℕ) (u : List ℕ) → length u ≤ length (digits_onto n k u)
+unfolding digits_onto
+longer-digits zero k u = omega arith
+longer-digits (suc n) k u =
+    let i = longer-digits n (k / 10) ((48 + k % 10) ∷ u) in
+    split (ltb k 10) (λ e. rw e (omega arith)) (λ e. rw e (omega arith))
 
-module _ {low n at first rest : ℕ} {out out' : List ℕ} (p : Counts low n at out first rest out') where
-  pub counts-digit : (b first' : ℕ) (out'' : List ℕ) → 10 ≤ rest → b ≡ 48 + rest % 10 → Puts low (b ∷ []) first out' first' out''
-      → Counts low n at out first' (rest / 10) out''
+pub counts_start : (n : ℕ) (p : Page) → n < 2 ^ 32 → Counts n p n p
+counts_start n p l = record { left = 9; done = []; small = omega arith; same = refl; puts = puts_none p }
+
+module _ {n rest : ℕ} {p q : Page} (h : Counts n p rest q) where
+  next_digit : (b : ℕ) → 10 ≤ rest → b ≡ 48 + rest % 10 → {r : Option (Unit {0})} {s : Page} → Puts (b ∷ []) q r s
+      → (r ≡ Some tt → Counts n p (rest / 10) s) × (r ≡ None → Puts (digits n) p r s)
   unfolding digits_onto
-  counts-digit b first' out'' h e q = by p.left p.small p.same
+  next_digit b l e {r} {s} k = by h.left h.small h.same
     where
-      by : (left : ℕ) → rest < 10 ^ suc left → digits_onto (suc left) rest p.done ≡ digits n → Counts low n at out first' (rest / 10) out''
-      by zero s x = absurd (omega arith)
-      by (suc left) s x =
-          record {
-            left = left;
-            done = b ∷ p.done;
-            small = omega (arith, pow-suc 10 (suc left));
-            same = rw e (rw (le-ltb rest 10 h) at x);
-            puts = puts-both p.puts q;
-          }
+      by : (left : ℕ) → rest < 10 ^ suc left → digits_onto (suc left) rest h.done ≡ digits n → (r ≡ Some tt → Counts n p (rest / 10) s) × (r ≡ None → Puts (digits n) p r s)
+      by zero m x = absurd (omega arith)
+      by (suc left) m x =
+          let y : digits_onto (suc left) (rest / 10) (b ∷ h.done) ≡ digits n = rw e (rw (le-ltb rest 10 l) at x) in (
+            λ z. record { left = left; done = b ∷ h.done; small = omega (arith, pow-suc 10 (suc left)); same = y; puts = rw z at (puts_both h.puts k) },
+            λ z. let f : Puts (b ∷ h.done) p None s = rw z at (puts_both h.puts k) in
+                rw (z, ← y) (puts_longer (longer-digits (suc left) (rest / 10) (b ∷ h.done)) f),
+          )
 
-  pub counts_end : (b first' : ℕ) (out'' : List ℕ) → rest < 10 → b ≡ 48 + rest → Puts low (b ∷ []) first out' first' out''
-      → Puts low (digits n) at out first' out''
+  pub counts_digit : (b : ℕ) {s : Page} → 10 ≤ rest → b ≡ 48 + rest % 10 → Puts (b ∷ []) q (Some tt) s → Counts n p (rest / 10) s
+  counts_digit b l e k = (next_digit b l e k).0 refl
+
+  pub counts_full : (b : ℕ) {s : Page} → 10 ≤ rest → b ≡ 48 + rest % 10 → Puts (b ∷ []) q None s → Puts (digits n) p None s
+  counts_full b l e k = (next_digit b l e k).1 refl
+
+  pub counts_end : (b : ℕ) {r : Option (Unit {0})} {s : Page} → rest < 10 → b ≡ 48 + rest → Puts (b ∷ []) q r s → Puts (digits n) p r s
   unfolding digits_onto
-  counts_end b first' out'' h e q =
-      let x : (48 + rest) ∷ p.done ≡ digits n = rw (lt-ltb rest 10 h) at p.same in
-      rw (← x, ← e) (puts-both p.puts q)
-
--- a byte that is wanted, or not
-module _ (low at b : ℕ) (wanted : Bool) (out : List ℕ) where
-  pub puts-wanted : (at' : ℕ) (out' : List ℕ) → wanted ≡ true → Puts low (b ∷ []) at out at' out' → Puts low (cond wanted (b ∷ []) []) at out at' out'
-  puts-wanted at' out' e p = rw e p
-
-  pub puts-unwanted : wanted ≡ false → at ≤ stopped_at → Puts low (cond wanted (b ∷ []) []) at out at out
-  puts-unwanted e h = rw e (puts_none low at out h)
+  counts_end b l e k =
+      let x : (48 + rest) ∷ h.done ≡ digits n = rw (lt-ltb rest 10 l) at h.same in
+      rw (← x, ← e) (puts_both h.puts k)
 
 -- a number by its key
-pub negative-bytes : (key : ℕ) → key < 2147483648 → decimals (number_of_key key) ≡ (45 ∷ []) ++ digits (2147483648 - key)
+negative-bytes : (key : ℕ) → key < 2147483648 → decimals (number_of_key key) ≡ (45 ∷ []) ++ digits (2147483648 - key)
 unfolding decimals
 negative-bytes key h =
     let z : suc (2147483648 - suc key) ≡ 2147483648 - key = omega arith in
     rw (lt-ltb key 2147483648 h) (ap (λ (k : ℕ). 45 ∷ digits k) z)
 
-pub natural-bytes : (key : ℕ) → 2147483648 ≤ key → decimals (number_of_key key) ≡ digits (key - 2147483648)
+natural-bytes : (key : ℕ) → 2147483648 ≤ key → decimals (number_of_key key) ≡ digits (key - 2147483648)
 unfolding decimals
 natural-bytes key h = rw (le-ltb key 2147483648 h)
 
-pub puts-negative : {low at key at₁ at₂ : ℕ} {out out₁ out₂ : List ℕ} → key < 2147483648 → Puts low (digits (2147483648 - key)) at out at₁ out₁
-    → Puts low (45 ∷ []) at₁ out₁ at₂ out₂ → Puts low (decimals (number_of_key key)) at out at₂ out₂
-puts-negative {key = key} h p q = rw (negative-bytes key h) (puts-both p q)
+module _ {key : ℕ} {p q : Page} where
+  pub puts_negative : {r : Option (Unit {0})} {s : Page} → key < 2147483648 → Puts (digits (2147483648 - key)) p (Some tt) q → Puts (45 ∷ []) q r s
+      → Puts (decimals (number_of_key key)) p r s
+  puts_negative h a b = rw (negative-bytes key h) (puts_both a b)
 
-pub puts-natural : {low at key at₁ : ℕ} {out out₁ : List ℕ} → 2147483648 ≤ key → Puts low (digits (key - 2147483648)) at out at₁ out₁
-    → Puts low (decimals (number_of_key key)) at out at₁ out₁
-puts-natural {key = key} h p = rw (natural-bytes key h) p
+  pub no_negative : key < 2147483648 → Puts (digits (2147483648 - key)) p None q → Puts (decimals (number_of_key key)) p None q
+  no_negative h a = rw (negative-bytes key h) (puts_more (45 ∷ []) a)
+
+  pub puts_natural : {r : Option (Unit {0})} → 2147483648 ≤ key → Puts (digits (key - 2147483648)) p r q → Puts (decimals (number_of_key key)) p r q
+  puts_natural h a = rw (natural-bytes key h) a
 
 -- the entries that are no function and no member
 module _ (n : Node) where
@@ -292,34 +168,69 @@ module _ (n : Node) where
   unfolding key_right
   number_small r e = ltb-true n.key (2 ^ 32) (rw e at r)
 
-  module _ {low at at' : ℕ} {out out' : List ℕ} where
-    pub puts-number : n.kind ≡ number_kind → Puts low (decimals (number_of_key n.key)) at out at' out' → Puts low (leaf_bytes n) at out at' out'
+  module _ {p q : Page} {r : Option (Unit {0})} where
+    pub puts_number : n.kind ≡ number_kind → Puts (decimals (number_of_key n.key)) p r q → Puts (leaf_bytes n) p r q
     unfolding leaf_bytes
-    puts-number e p = rw e p
+    puts_number e h = rw e h
 
-    pub puts-readings : n.kind ≡ readings_kind → Puts low (unpacked 1684108385) at out at' out' → Puts low (leaf_bytes n) at out at' out'
+    pub puts_readings : n.kind ≡ readings_kind → Puts (unpacked 1684108385) p r q → Puts (leaf_bytes n) p r q
     unfolding leaf_bytes data_word bytes unpack_onto
-    puts-readings e p = rw e p
+    puts_readings e h = rw e h
 
-    pub puts-name : (n.kind ≡ number_kind → ⊥) → (n.kind ≡ readings_kind → ⊥) → Puts low (unpacked n.key) at out at' out' → Puts low (leaf_bytes n) at out at' out'
+    pub puts_name : (n.kind ≡ number_kind → ⊥) → (n.kind ≡ readings_kind → ⊥) → Puts (unpacked n.key) p r q → Puts (leaf_bytes n) p r q
     unfolding leaf_bytes
-    puts-name a b p = rw (ne_eqb n.kind number_kind a, ne_eqb n.kind readings_kind b) p
+    puts_name a b h = rw (ne_eqb n.kind number_kind a, ne_eqb n.kind readings_kind b) h
 
 -- a member's name is packed in two numbers
 abbrev two_words : Member → List ℕ
 two_words m = unpacked (packed_name (spelled m)).0 ++ unpacked (packed_name (spelled m)).1
 
-pub name-bytes : (m : Member) → two_words m ≡ spelled m
+name-bytes : (m : Member) → two_words m ≡ spelled m
 unfolding packed_name pack_onto unpack_onto same_bytes spelled bytes
 name-bytes m = (same_bytes_lem (two_words m) (spelled m)).0 (each (λ k. same_bytes (two_words k) (spelled k)) refl m)
 
-module _ {low at at₁ at₂ at₃ : ℕ} {out out₁ out₂ out₃ : List ℕ} {f : Found} where
-  pub puts-member : (m : Member) (name : Name) → f ≡ Is m → name ≡ packed_name (spelled m) → Puts low (unpacked name.1) at out at₁ out₁
-      → Puts low (unpacked name.0) at₁ out₁ at₂ out₂ → Puts low (46 ∷ []) at₂ out₂ at₃ out₃ → Puts low (member_bytes f) at out at₃ out₃
-  unfolding member_bytes bytes
-  puts-member m name e q p₁ p₂ p₃ =
-      rw (e, ← name-bytes m) (puts-both (puts-both (rw q at p₁) (rw q at p₂)) p₃)
-
-pub puts-unknown : {low at : ℕ} {out : List ℕ} {f : Found} → f ≡ Unknown → at ≤ stopped_at → Puts low (member_bytes f) at out at out
+pub puts_unknown : {f : Option Member} {u : List ℕ} {p q : Page} → f ≡ None → Puts u p (Some tt) q → Puts (member_bytes f ++ u) p (Some tt) q
 unfolding member_bytes
-puts-unknown {low} {at} {out} e h = rw e (puts_none low at out h)
+puts_unknown e h = rw e h
+
+module _ (u : List ℕ) (f : Option Member) (m : Member) (name : Name) (e : f ≡ Some m) (is : name ≡ packed_name (spelled m)) where
+  same : member_bytes f ++ u ≡ (46 ∷ []) ++ (unpacked name.0 ++ (unpacked name.1 ++ u))
+  unfolding member_bytes bytes
+  same =
+      let n : unpacked name.0 ++ unpacked name.1 ≡ spelled m = rw is (name-bytes m) in
+      rw (e, ← append_assoc (unpacked name.0) (unpacked name.1) u, n)
+
+  module _ {p q q₁ : Page} (h : Puts u p (Some tt) q) where
+    pub no_back : Puts (unpacked name.1) q None q₁ → Puts (member_bytes f ++ u) p None q₁
+    no_back a = rw same (puts_more (46 ∷ []) (puts_more (unpacked name.0) (puts_both h a)))
+
+    pub no_front : Puts (unpacked name.1) q (Some tt) q₁ → {q₂ : Page} → Puts (unpacked name.0) q₁ None q₂ → Puts (member_bytes f ++ u) p None q₂
+    no_front a b = rw same (puts_more (46 ∷ []) (puts_both (puts_both h a) b))
+
+    pub puts_member : Puts (unpacked name.1) q (Some tt) q₁ → {q₂ : Page} → Puts (unpacked name.0) q₁ (Some tt) q₂
+        → {r : Option (Unit {0})} {q₃ : Page} → Puts (46 ∷ []) q₂ r q₃ → Puts (member_bytes f ++ u) p r q₃
+    puts_member a b c = rw same (puts_both (puts_both (puts_both h a) b) c)
+
+-- what stands before a function's body
+abbrev pub bracket : Bool → List ℕ
+bracket x = cond x (40 ∷ []) []
+
+module _ (x : Bool) (name : ℕ) where
+  head : head_bytes x name ≡ bracket x ++ ((92 ∷ []) ++ (unpacked name ++ unpacked 539835936))
+  unfolding head_bytes bytes unpack_onto
+  head = refl
+
+  module _ {p q : Page} where
+    pub no_arrow : Puts (unpacked 539835936) p None q → Puts (head_bytes x name) p None q
+    no_arrow a = rw head (puts_more (bracket x) (puts_more (92 ∷ []) (puts_more (unpacked name) a)))
+
+    module _ (a : Puts (unpacked 539835936) p (Some tt) q) {q₁ : Page} where
+      pub no_name : Puts (unpacked name) q None q₁ → Puts (head_bytes x name) p None q₁
+      no_name b = rw head (puts_more (bracket x) (puts_more (92 ∷ []) (puts_both a b)))
+
+      module _ (b : Puts (unpacked name) q (Some tt) q₁) {q₂ : Page} where
+        pub no_lambda : Puts (92 ∷ []) q₁ None q₂ → Puts (head_bytes x name) p None q₂
+        no_lambda c = rw head (puts_more (bracket x) (puts_both (puts_both a b) c))
+
+        pub puts_head : Puts (92 ∷ []) q₁ (Some tt) q₂ → {r : Option (Unit {0})} {q₃ : Page} → Puts (bracket x) q₂ r q₃ → Puts (head_bytes x name) p r q₃
+        puts_head c d = rw head (puts_both (puts_both (puts_both a b) c) d)

@@ -1,6 +1,6 @@
 -- How an entry's text is written from right to left: what stands before the bytes written so far is told by the entry that is next and by
 -- those that are open. Assumes nothing: these are definitions.
-use Rattle.std.specs.Prelude.{◌≡◌, Bool, true, cond, ◌⊎◌, List, [], ◌∷◌, ◌++◌, ℕ, zero, suc, ◌+◌, ◌*◌, ◌/◌, ◌%◌, ◌≤◌, ◌<◌, eqb, length, get_or, drop}
+use Rattle.std.specs.Prelude.{◌≡◌, Option, Some, None, Bool, true, cond, ◌⊎◌, List, [], ◌∷◌, ◌++◌, ℕ, zero, suc, ◌+◌, ◌*◌, ◌/◌, ◌%◌, ◌≤◌, ◌<◌, eqb, length, get_or, drop}
 use Rattle.language.specs.Limits.{text_bytes, table_entries}
 use Rattle.language.specs.Names.{bytes}
 use Rattle.members.specs.Members.{spelled}
@@ -11,7 +11,9 @@ use Rattle.layout.specs.Numbered.{numbered}
 use Rattle.table.specs.Right.{node_right}
 use Rattle.table.specs.EntryForms.{forms_of}
 use Rattle.printing.specs.Printed.{unpacked, as_receiver, text_of}
-use Rattle.writer.specs.Putting.{stopped_at}
+use Rattle.writer.specs.declared.page.Page.{Page}
+use Rattle.writer.specs.declared.write.Turn.{Turn}
+use Rattle.writer.specs.declared.write.Turn.TheVariants.{Enter, Receiver, Leave, Done}
 use Rattle.writer.specs.declared.write.Spot.{Spot}
 
 -- the form of entry i
@@ -57,19 +59,27 @@ abbrev pub Waits : List ℕ → List ℕ → ℕ → List ℕ → Type 0
 Waits links cells count [] = Unit {0}
 Waits links cells count (x ∷ xs) = ((x / 2 < count) × (x / 2 + length xs < table_entries) × Opens (node_at links cells (x / 2))) × Waits links cells count xs
 
+-- a turn by its number
+abbrev pub turn_number : Turn → ℕ
+turn_number Enter = 0
+turn_number Receiver = 1
+turn_number Leave = 2
+turn_number Done = 3
+
 abbrev pub IsEntering : Spot → Type 0
-IsEntering s = s.turn ≤ 1
+IsEntering s = turn_number s.turn ≤ 1
 
 abbrev pub IsLeaving : Spot → Type 0
-IsLeaving s = s.turn ≡ 2
+IsLeaving s = turn_number s.turn ≡ 2
 
--- a spot of the writing, with room left
-pub record Ready (links cells : List ℕ) (count low : ℕ) (s : Spot) (pending out : List ℕ) : Type 0 where
+abbrev pub IsOpen : Spot → Type 0
+IsOpen s = turn_number s.turn ≤ 2
+
+-- a spot of the writing on a page
+pub record Ready (links cells : List ℕ) (count : ℕ) (s : Spot) (pending : List ℕ) (p : Page) : Type 0 where
   pub table : Tabled links cells count
-  pub whole : length out ≡ text_bytes
   pub list : length pending ≡ table_entries
-  pub room : low ≤ s.at
-  pub top : s.at ≤ text_bytes
+  pub room : p.low ≤ p.at
   pub entry : s.entry < count
   pub depth : s.entry + s.depth < table_entries
   pub waits : Waits links cells count (stack pending s.depth)
@@ -80,47 +90,40 @@ rank zero e = suc e
 rank (suc zero) e = suc e
 rank (suc (suc k)) e = 0
 
-abbrev pub left : Spot → ℕ
-left s = cond (eqb s.turn 3) 0 (suc (s.at * 1024 + rank s.turn s.entry))
+abbrev pub left : Spot → Page → ℕ
+left s p = cond (eqb (turn_number s.turn) 3) 0 (suc (p.at * 1024 + rank (turn_number s.turn) s.entry))
 
 -- the text t is what is written, with what stands before it
-abbrev pub Spelled : List ℕ → List ℕ → ℕ → Spot → List ℕ → List ℕ → List ℕ → Type 0
-Spelled links cells count s pending out t =
-    around (form_in links cells count) (stack pending s.depth) (next_text s.turn (form_in links cells count s.entry) (drop s.at out)) ≡ t
+abbrev pub Spelled : List ℕ → List ℕ → ℕ → Spot → List ℕ → Page → List ℕ → Type 0
+Spelled links cells count s pending p t =
+    around (form_in links cells count) (stack pending s.depth) (next_text (turn_number s.turn) (form_in links cells count s.entry) (drop p.at p.bytes)) ≡ t
 
--- a step: the same text is spelled with more of it written, or there is no room for it
-pub record Moves (links cells : List ℕ) (count low : ℕ) (s : Spot) (pending out : List ℕ) (s' : Spot) (pending' out' : List ℕ) : Type 0 where
-  pub whole : length out' ≡ text_bytes
-  pub list : length pending' ≡ table_entries
-  pub within : s'.at ≤ stopped_at
-  pub turn : s'.turn ≤ 3
-  pub stopped : s'.at ≡ stopped_at → (t : List ℕ) → Spelled links cells count s pending out t → text_bytes < low + length t
-  pub ready : s'.at ≤ text_bytes → Ready links cells count low s' pending' out'
-  pub less : s'.at ≤ text_bytes → left s' < left s
-  pub spells : s'.at ≤ text_bytes → (t : List ℕ) → Spelled links cells count s pending out t → Spelled links cells count s' pending' out' t
-  pub closed : s'.turn ≡ 3 → s'.depth ≡ 0
+-- a step that was made: the same text is spelled with more of it written
+pub record Onward (links cells : List ℕ) (count : ℕ) (s : Spot) (pending : List ℕ) (p : Page) (s' : Spot) (pending' : List ℕ) (p' : Page) : Type 0 where
+  pub ready : Ready links cells count s' pending' p'
+  pub less : left s' p' < left s p
+  pub spells : (t : List ℕ) → Spelled links cells count s pending p t → Spelled links cells count s' pending' p' t
+  pub closed : turn_number s'.turn ≡ 3 → s'.depth ≡ 0
 
--- the same, and where there is no room nothing is left to do
-pub record Steps (links cells : List ℕ) (count low : ℕ) (s : Spot) (pending out : List ℕ) (s' : Spot) (pending' out' : List ℕ) : Type 0 where
-  pub moves : Moves links cells count low s pending out s' pending' out'
-  pub falls : left s' < left s
-  pub last : s'.at ≡ stopped_at → s'.turn ≡ 3
+-- a step is made, or there is no room for the text
+pub record Moves (links cells : List ℕ) (count : ℕ) (s : Spot) (pending : List ℕ) (p : Page) (r : Option Spot) (pending' : List ℕ) (p' : Page) : Type 0 where
+  pub same : p'.low ≡ p.low
+  pub on : (s' : Spot) → r ≡ Some s' → Onward links cells count s pending p s' pending' p'
+  pub full : r ≡ None → (t : List ℕ) → Spelled links cells count s pending p t → text_bytes < p.low + length t
 
--- the text t is being written: a spot with room left, or there is no room for t
-pub record Goes (links cells : List ℕ) (count low : ℕ) (t : List ℕ) (s : Spot) (pending out : List ℕ) : Type 0 where
-  pub whole : length out ≡ text_bytes
-  pub list : length pending ≡ table_entries
-  pub within : s.at ≤ stopped_at
-  pub turn : s.turn ≤ 3
-  pub stopped : s.at ≡ stopped_at → (text_bytes < low + length t) × (s.turn ≡ 3)
-  pub ready : s.at ≤ text_bytes → Ready links cells count low s pending out
-  pub spells : s.at ≤ text_bytes → Spelled links cells count s pending out t
-  pub closed : s.turn ≡ 3 → s.depth ≡ 0
+-- the text t is being written
+pub record Goes (links cells : List ℕ) (count low : ℕ) (t : List ℕ) (s : Spot) (pending : List ℕ) (p : Page) : Type 0 where
+  pub same : p.low ≡ low
+  pub ready : Ready links cells count s pending p
+  pub spells : Spelled links cells count s pending p t
+  pub closed : turn_number s.turn ≡ 3 → s.depth ≡ 0
 
--- the text stands at the end of the frame, or there is no room for it
-pub record Writes (low : ℕ) (t : List ℕ) (at : ℕ) (out : List ℕ) : Type 0 where
-  pub whole : length out ≡ text_bytes
-  pub within : at ≤ stopped_at
-  pub stopped : at ≡ stopped_at → text_bytes < low + length t
-  pub room : at ≤ text_bytes → low ≤ at
-  pub written : at ≤ text_bytes → drop at out ≡ t
+-- the text stands at the end of the page
+pub record Written (low : ℕ) (t : List ℕ) (p : Page) : Type 0 where
+  pub room : low ≤ p.at
+  pub text : drop p.at p.bytes ≡ t
+
+-- it does, or there is no room for it
+pub record Writes (low : ℕ) (t : List ℕ) (r : Option (Unit {0})) (p : Page) : Type 0 where
+  pub written : r ≡ Some tt → Written low t p
+  pub full : r ≡ None → text_bytes < low + length t

@@ -1,162 +1,83 @@
-// Bytes written from right to left, into the end of a frame of 1,024: each function writes its bytes directly before `at` and gives the place of
-// the first of them, or STOPPED if that would be before `low`, or if it is at STOPPED already.
-ghost use Rattle.std.specs.Prelude.{◌≡◌, true, cond, [], ◌∷◌, ◌+◌, ◌≤◌, ◌<◌, ◌^◌, length, drop};
-ghost use Rattle.language.specs.Limits.{text_bytes, name_bytes};
+// The pieces of an entry's text, each written directly before what is written, or none where it would stand before the page's `low`.
+ghost use Rattle.std.specs.Prelude.{◌≡◌, true, ◌++◌, ◌<◌, ◌^◌};
 ghost use Rattle.layout.specs.Held.{shaped};
 ghost use Rattle.layout.specs.Nodes.{member_of_kind, number_of_key};
 ghost use Rattle.table.specs.WellFormed.{key_right};
 ghost use Rattle.printing.specs.Printed.{digits, decimals, unpacked};
-ghost use Rattle.writer.specs.Putting.{stopped_at, Puts, has_room, whole_onto, leaf_bytes, member_bytes};
+ghost use Rattle.writer.specs.Putting.{Puts, leaf_bytes, member_bytes, head_bytes};
 
-use language::limits::Text;
-use language::names::{BYTE_BASE, DATA};
+use crate::page::Page;
+use language::names::DATA;
 use layout::nodes::{Shape, member_of};
-use members::{Found, name_of};
-
-// The room is used up.
-pub const STOPPED: usize = Text::BYTES + 1;
+use members::name_of;
 
 // The key of the number 0.
-const ZERO_KEY: u64 = 2147483648;
+const ZERO_KEY: u64 = 1 << 31;
 
-// One byte.
-pub fn put_byte(out: &mut [u8; Text::BYTES], low: usize, at: usize, b: u8) -> usize
-    requires { (length out.old ≡ text_bytes) × (at ≤ stopped_at) }
-    ensures { Puts low (b ∷ []) at out.old result out.new }
-{
-    if at == STOPPED {
-        return STOPPED;
-    }
-    if at <= low {
-        return STOPPED;
-    }
-    out[at - 1] = b;
-    at - 1
-}
+// The bytes ` -> `, packed.
+const ARROW: u64 = 0x202d3e20;
 
-// The bytes that a number packs, one after the other.
-fn put_each(out: &mut [u8; Text::BYTES], low: usize, at: usize, word: u64) -> usize
-    requires { (length out.old ≡ text_bytes) × (at ≤ stopped_at) }
-    ensures { Puts low (unpacked word) at out.old result out.new }
+// The decimal digits of a number, the last one first. What is left decides how many there are, so there is nothing to count by.
+fn put_digits(page: &mut Page, n: u64) -> Option<()>
+    requires { n < 2 ^ 32 }
+    ensures { Puts (digits n) page.old result page.new }
 {
-    let mut first = at;
-    let mut rest = word;
-    while rest != 0 {
-        first = put_byte(out, low, first, (rest % BYTE_BASE) as u8);
-        rest /= BYTE_BASE;
-    }
-    first
-}
-
-// Eight bytes have room before a place.
-fn has_room(low: usize, at: usize) -> bool
-    ensures { result ≡ has_room low at }
-{
-    if at < Text::NAME_BYTES {
-        return false;
-    }
-    if Text::BYTES < at {
-        return false;
-    }
-    low <= at - Text::NAME_BYTES
-}
-
-// All eight bytes of a number, with the zeros before those that it packs: compiled they are one store.
-fn put_whole(out: &mut [u8; Text::BYTES], start: usize, word: u64)
-    requires { (length out.old ≡ text_bytes) × (start + name_bytes ≤ text_bytes) }
-    ensures { (length out.new ≡ text_bytes) × (drop start out.new ≡ whole_onto name_bytes word (drop (start + name_bytes) out.old)) }
-{
-    let mut left = Text::NAME_BYTES;
-    let mut rest = word;
-    while left != 0 {
-        left -= 1;
-        out[start + left] = (rest % BYTE_BASE) as u8;
-        rest /= BYTE_BASE;
-    }
-}
-
-// How many bytes a number packs.
-fn width(word: u64) -> usize
-    ensures { (result ≡ length (unpacked word)) × (result ≤ name_bytes) }
-{
-    Text::NAME_BYTES - (u64::leading_zeros(word) / 8) as usize
-}
-
-// The bytes that a number packs. What stands before them is free, so that where there is room all eight are written at once.
-pub fn put(out: &mut [u8; Text::BYTES], low: usize, at: usize, word: u64) -> usize
-    requires { (length out.old ≡ text_bytes) × (at ≤ stopped_at) }
-    ensures { Puts low (unpacked word) at out.old result out.new }
-{
-    if has_room(low, at) {
-        put_whole(out, at - Text::NAME_BYTES, word);
-        return at - width(word);
-    }
-    put_each(out, low, at, word)
-}
-
-// The decimal digits of a number.
-fn put_digits(out: &mut [u8; Text::BYTES], low: usize, at: usize, n: u64) -> usize
-    requires { (length out.old ≡ text_bytes) × (at ≤ stopped_at) × (n < 2 ^ 32) }
-    ensures { Puts low (digits n) at out.old result out.new }
-{
-    let mut first = at;
     let mut rest = n;
     while 10 <= rest {
-        first = put_byte(out, low, first, b'0' + (rest % 10) as u8);
+        page.put_byte(b'0' + (rest % 10) as u8)?;
         rest /= 10;
     }
-    put_byte(out, low, first, b'0' + rest as u8)
-}
-
-// One byte where it is wanted.
-pub fn put_if(out: &mut [u8; Text::BYTES], low: usize, at: usize, b: u8, wanted: bool) -> usize
-    requires { (length out.old ≡ text_bytes) × (at ≤ stopped_at) }
-    ensures { Puts low (cond wanted (b ∷ []) []) at out.old result out.new }
-{
-    if wanted {
-        return put_byte(out, low, at, b);
-    }
-    at
+    page.put_byte(b'0' + rest as u8)
 }
 
 // A number by its key, which is the number plus 2^31.
-fn put_number(out: &mut [u8; Text::BYTES], low: usize, at: usize, key: u64) -> usize
-    requires { (length out.old ≡ text_bytes) × (at ≤ stopped_at) × (key < 2 ^ 32) }
-    ensures { Puts low (decimals (number_of_key key)) at out.old result out.new }
+fn put_number(page: &mut Page, key: u64) -> Option<()>
+    requires { key < 2 ^ 32 }
+    ensures { Puts (decimals (number_of_key key)) page.old result page.new }
 {
     if key < ZERO_KEY {
-        let first = put_digits(out, low, at, ZERO_KEY - key);
-        return put_byte(out, low, first, b'-');
+        put_digits(page, ZERO_KEY - key)?;
+        return page.put_byte(b'-');
     }
-    put_digits(out, low, at, key - ZERO_KEY)
+    put_digits(page, key - ZERO_KEY)
 }
 
 // A number, a name, or `data`.
-pub fn put_leaf(out: &mut [u8; Text::BYTES], low: usize, at: usize, n: Shape) -> usize
-    requires { (length out.old ≡ text_bytes) × (at ≤ stopped_at) × (key_right (shaped n) ≡ true) }
-    ensures { Puts low (leaf_bytes (shaped n)) at out.old result out.new }
+pub fn put_leaf(page: &mut Page, n: Shape) -> Option<()>
+    requires { key_right (shaped n) ≡ true }
+    ensures { Puts (leaf_bytes (shaped n)) page.old result page.new }
 {
     if n.kind == Shape::NUMBER {
-        return put_number(out, low, at, n.key);
+        return put_number(page, n.key);
     }
     if n.kind == Shape::READINGS {
-        return put(out, low, at, DATA);
+        return page.put(DATA);
     }
-    put(out, low, at, n.key)
+    page.put(n.key)
 }
 
-// A dot and the name of the member of a kind.
-pub fn put_member(out: &mut [u8; Text::BYTES], low: usize, at: usize, kind: u16) -> usize
-    requires { (length out.old ≡ text_bytes) × (at ≤ stopped_at) }
-    ensures { Puts low (member_bytes (member_of_kind kind)) at out.old result out.new }
+// A dot and the name of the member of a kind, before some packed bytes.
+pub fn put_member(page: &mut Page, kind: u16, behind: u64) -> Option<()>
+    ensures { Puts (member_bytes (member_of_kind kind) ++ unpacked behind) page.old result page.new }
 {
+    page.put(behind)?;
     match member_of(kind) {
-        Found::Is(m) => {
+        Some(m) => {
             let name = name_of(m);
-            let back = put(out, low, at, name.1);
-            let front = put(out, low, back, name.0);
-            put_byte(out, low, front, b'.')
+            page.put(name.1)?;
+            page.put(name.0)?;
+            page.put_byte(b'.')
         }
-        Found::Unknown => at,
+        None => Some(()),
     }
+}
+
+// What stands before a function's body, in brackets if it is a receiver.
+pub fn put_head(page: &mut Page, name: u64, is_receiver: bool) -> Option<()>
+    ensures { Puts (head_bytes is_receiver name) page.old result page.new }
+{
+    page.put(ARROW)?;
+    page.put(name)?;
+    page.put_byte(b'\\')?;
+    page.put_if(b'(', is_receiver)
 }

@@ -4,86 +4,80 @@
 ghost use Rattle.std.specs.Prelude.{◌≡◌, ◌≤◌, ◌<◌, length};
 ghost use Rattle.language.specs.Limits.{text_bytes};
 ghost use Rattle.printing.specs.Printed.{text_of};
-ghost use Rattle.writer.specs.Writing.{form_in, Tabled, Ready, IsEntering, IsLeaving, Moves, Steps, Writes};
+ghost use Rattle.writer.specs.Writing.{form_in, Tabled, Ready, IsEntering, IsLeaving, IsOpen, Moves, Writes};
 
-use crate::put::{STOPPED, put, put_byte, put_if, put_leaf, put_member};
-use language::limits::{Table, Text};
+use crate::page::Page;
+use crate::put::{put_head, put_leaf, put_member};
+use language::limits::Table;
 use layout::nodes::{Shape, entry_of, node_at};
 
-// Where writing has come to: the bytes from `at` on are written, so many entries are open, and the next entry is entered or, as all of it is
-// written, left.
+// Whether the next entry is to be written, is to be written as a receiver, or is written; or nothing is left to write.
+#[derive(Clone, Copy, Debug, PartialEq, Eq)]
+pub enum Turn {
+    Enter,
+    Receiver,
+    Leave,
+    Done,
+}
+
+// Where writing has come to: so many entries are open, and the next entry is entered or, as all of it is written, left.
 #[derive(Clone, Copy)]
 pub struct Spot {
-    pub at: usize,
     pub depth: u16,
     pub entry: u16,
-    pub turn: u8,
+    pub turn: Turn,
 }
 
-impl Spot {
-    // The entry is to be written; it is a receiver; it is written; nothing is left to write, or there is no room.
-    pub const ENTER: u8 = 0;
-
-    pub const RECEIVER: u8 = 1;
-
-    pub const LEAVE: u8 = 2;
-
-    pub const DONE: u8 = 3;
-}
-
-// Two bytes or more as packed words: `()` and ` -> `.
+// Bytes of a call, packed: `()` and `(`.
 const ASKED: u64 = 0x2829;
 
-const ARROW: u64 = 0x202d3e20;
+const OPENED: u64 = 0x28;
 
 // What stands behind an entry, up to its last dependency.
 fn enter(
     links: &[u16],
     cells: &[u64],
     count: u16,
-    low: usize,
     s: Spot,
     pending: &mut [u16; Table::ENTRIES],
-    out: &mut [u8; Text::BYTES],
-) -> Spot
-    requires { Ready links.now cells.now count low s pending.old out.old × IsEntering s }
-    ensures { Moves links.now cells.now count low s pending.old out.old result pending.new out.new }
+    page: &mut Page,
+) -> Option<Spot>
+    requires { Ready links.now cells.now count s pending.old page.old × IsEntering s }
+    ensures { Moves links.now cells.now count s pending.old page.old result pending.new page.new }
 {
     let n = node_at(links, cells, s.entry);
     if n.kind == Shape::FUNCTION {
-        let is_receiver = s.turn == Spot::RECEIVER;
+        let is_receiver = s.turn == Turn::Receiver;
         pending[s.depth as usize] = 2 * s.entry + s.turn as u16;
-        return Spot {
-            at: put_if(out, low, s.at, b')', is_receiver),
+        page.put_if(b')', is_receiver)?;
+        return Some(Spot {
             depth: s.depth + 1,
             entry: entry_of(n.first),
-            turn: Spot::ENTER,
-        };
+            turn: Turn::Enter,
+        });
     }
     if n.kind < Shape::FUNCTION {
-        return Spot {
-            at: put_leaf(out, low, s.at, n),
-            depth: s.depth,
-            entry: s.entry,
-            turn: Spot::LEAVE,
-        };
+        put_leaf(page, n)?;
+        return Some(Spot {
+            turn: Turn::Leave,
+            ..s
+        });
     }
     if n.second == 0 {
-        let shut = put(out, low, s.at, ASKED);
-        return Spot {
-            at: put_member(out, low, shut, n.kind),
+        put_member(page, n.kind, ASKED)?;
+        return Some(Spot {
             depth: s.depth,
             entry: entry_of(n.first),
-            turn: Spot::RECEIVER,
-        };
+            turn: Turn::Receiver,
+        });
     }
     pending[s.depth as usize] = 2 * s.entry;
-    Spot {
-        at: put_byte(out, low, s.at, b')'),
+    page.put_byte(b')')?;
+    Some(Spot {
         depth: s.depth + 1,
         entry: entry_of(n.second),
-        turn: Spot::ENTER,
-    }
+        turn: Turn::Enter,
+    })
 }
 
 // What stands before the last dependency of the innermost open entry: all else of a function, and of a call up to its receiver.
@@ -91,21 +85,18 @@ fn leave(
     links: &[u16],
     cells: &[u64],
     count: u16,
-    low: usize,
     s: Spot,
     pending: &[u16; Table::ENTRIES],
-    out: &mut [u8; Text::BYTES],
-) -> Spot
-    requires { Ready links.now cells.now count low s pending.now out.old × IsLeaving s }
-    ensures { Moves links.now cells.now count low s pending.now out.old result pending.now out.new }
+    page: &mut Page,
+) -> Option<Spot>
+    requires { Ready links.now cells.now count s pending.now page.old × IsLeaving s }
+    ensures { Moves links.now cells.now count s pending.now page.old result pending.now page.new }
 {
     if s.depth == 0 {
-        return Spot {
-            at: s.at,
-            depth: 0,
-            entry: s.entry,
-            turn: Spot::DONE,
-        };
+        return Some(Spot {
+            turn: Turn::Done,
+            ..s
+        });
     }
     let last = s.depth - 1;
     let waiting = pending[last as usize];
@@ -113,23 +104,19 @@ fn leave(
     let n = node_at(links, cells, entry);
     if n.kind == Shape::FUNCTION {
         let is_receiver = waiting % 2 == 1;
-        let arrow = put(out, low, s.at, ARROW);
-        let name = put(out, low, arrow, n.key);
-        let lambda = put_byte(out, low, name, b'\\');
-        return Spot {
-            at: put_if(out, low, lambda, b'(', is_receiver),
+        put_head(page, n.key, is_receiver)?;
+        return Some(Spot {
             depth: last,
             entry,
-            turn: Spot::LEAVE,
-        };
+            turn: Turn::Leave,
+        });
     }
-    let opened = put_byte(out, low, s.at, b'(');
-    Spot {
-        at: put_member(out, low, opened, n.kind),
+    put_member(page, n.kind, OPENED)?;
+    Some(Spot {
         depth: last,
         entry: entry_of(n.first),
-        turn: Spot::RECEIVER,
-    }
+        turn: Turn::Receiver,
+    })
 }
 
 // The next entry is entered or left.
@@ -137,66 +124,33 @@ fn advance(
     links: &[u16],
     cells: &[u64],
     count: u16,
-    low: usize,
     s: Spot,
     pending: &mut [u16; Table::ENTRIES],
-    out: &mut [u8; Text::BYTES],
-) -> Spot
-    requires { Ready links.now cells.now count low s pending.old out.old × (s.turn ≤ 2) }
-    ensures { Moves links.now cells.now count low s pending.old out.old result pending.new out.new }
+    page: &mut Page,
+) -> Option<Spot>
+    requires { Ready links.now cells.now count s pending.old page.old × IsOpen s }
+    ensures { Moves links.now cells.now count s pending.old page.old result pending.new page.new }
 {
-    if s.turn == Spot::LEAVE {
-        return leave(links, cells, count, low, s, pending, out);
+    if s.turn == Turn::Leave {
+        return leave(links, cells, count, s, pending, page);
     }
-    enter(links, cells, count, low, s, pending, out)
+    enter(links, cells, count, s, pending, page)
 }
 
-// One step; where there is no room for it, the last one.
-fn step(
-    links: &[u16],
-    cells: &[u64],
-    count: u16,
-    low: usize,
-    s: Spot,
-    pending: &mut [u16; Table::ENTRIES],
-    out: &mut [u8; Text::BYTES],
-) -> Spot
-    requires { Ready links.now cells.now count low s pending.old out.old × (s.turn ≤ 2) }
-    ensures { Steps links.now cells.now count low s pending.old out.old result pending.new out.new }
+// The text of an entry's form at the end of an empty page; none where the page has no room for it.
+pub fn write(links: &[u16], cells: &[u64], count: u16, entry: u16, page: &mut Page) -> Option<()>
+    requires { Tabled links.now cells.now count × (entry < count) × (page.old.at ≡ text_bytes) }
+    ensures { Writes page.old.low (text_of (form_in links.now cells.now count entry)) result page.new }
 {
-    let t = advance(links, cells, count, low, s, pending, out);
-    if t.at == STOPPED {
-        return Spot {
-            at: STOPPED,
-            depth: 0,
-            entry: t.entry,
-            turn: Spot::DONE,
-        };
-    }
-    t
-}
-
-// The text of an entry's form at the end of the frame, not before `low`: the place of its first byte, or STOPPED.
-pub fn write(
-    links: &[u16],
-    cells: &[u64],
-    count: u16,
-    entry: u16,
-    low: usize,
-    out: &mut [u8; Text::BYTES],
-) -> usize
-    requires { Tabled links.now cells.now count × (entry < count) × (low ≤ text_bytes) × (length out.old ≡ text_bytes) }
-    ensures { Writes low (text_of (form_in links.now cells.now count entry)) result out.new }
-{
+    // An entry that waits and its turn are one number: a pair would double the list in the call's frame.
     let mut pending = [0u16; Table::ENTRIES];
     let mut s = Spot {
-        at: Text::BYTES,
         depth: 0,
         entry,
-        turn: Spot::ENTER,
+        turn: Turn::Enter,
     };
-    while s.turn != Spot::DONE {
-        s = step(links, cells, count, low, s, &mut pending, out);
+    while s.turn != Turn::Done {
+        s = advance(links, cells, count, s, &mut pending, page)?;
     }
-    s.at
+    Some(())
 }

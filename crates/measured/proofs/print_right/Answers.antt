@@ -1,32 +1,19 @@
--- `measured::print_right` meets its contract: the text is written in a frame, and copied where there is room for it. Assumes nothing.
-use mathlib.Core.Path.{◌≡◌, refl, sym}
-use mathlib.Core.List.{List, ◌++◌}
-use Prim.Native.Nat.{ℕ, ◌-◌}
-use lib.ListN.{length, take, drop, length-take, length-drop}
-use Rattle.std.proofs.Math.Seq.{take-length}
+-- `measured::print_right` meets its contract: the text is written on a page, and copied where there is room for it. Assumes nothing.
 use native.Mathlib.Omega.{arith}
-use borrow.Author.Rules.{rules}
+use Rattle.writer.specs.WritingLaws.{was_written, was_full}
 use Rattle.measured.proofs.Measuring.{print-low, print-tabled, print-stopped, print-done}
 use Rattle.measured.proofs.print_right.Goals as goal
 
 pub overflow_add-entry : goal.overflow_add-entry
 overflow_add-entry c = omega (arith, print-low _ _ _ c.requires)
 
-pub write-at-requires : goal.write-at-requires
-write-at-requires c =
-    (print-tabled _ _ _ c.requires, omega arith, omega (arith, c.lowest.ensures), refl)
+pub write-requires : goal.write-requires
+write-requires c = (print-tabled _ _ _ c.requires, omega arith, c.new-page.ensures.at)
 
-pub returns-then-at-eq-STOPPED : goal.returns-then-at-eq-STOPPED
-returns-then-at-eq-STOPPED c = search (rules, print-stopped)
-
--- what is copied to the front of the bytes is the whole of it, before the bytes behind
-copied : (p b x : List ℕ) (n : ℕ) → x ≡ p → length p ≡ n → x ++ drop n b ≡ take (length p) p ++ drop (length p) b
-copied p b x n e s = rw (take-length, s, e) refl
+pub returns-then-is_none : goal.returns-then-is_none
+returns-then-is_none c = print-stopped _ _ _ c.requires _ _ c.new-page.ensures.low (was_full c.write.ensures c.if-is_none.ensures)
 
 pub returns : goal.returns
 returns c =
-    let size : length (take (1024 - c.write-at.result) (drop c.write-at.result c.write-at.new.out)) ≡ 1024 - c.write-at.result =
-    simp (length-take, length-drop) (omega arith) in
-    let back = sym size in
-    let all = copied _ c.args.bytes.now _ _ c.copy_from_slice.ensures.after size in
-    search (rules, print-done)
+    print-done _ _ _ c.requires _ _ c.new-page.ensures.low _ (was_written c.write.ensures c.if-is_none.ensures) _ _ c.text-text.ensures
+    (rw c.copy_from_slice.ensures.after)

@@ -4,11 +4,11 @@ use Rattle.table.specs.ChainLaws.{chains}
 use Rattle.binder.specs.RecordsLaws.{binding}
 use Rattle.binder.proofs.bind.bind_one.Goals as goal
 
-pub seek-c-requires : goal.seek-c-requires
-seek-c-requires c = search (rules, chains)
+pub seek-requires-clause-within : goal.seek-requires-clause-within
+seek-requires-clause-within c = search (rules, chains)
 
-pub returns-then-c-gt0 : goal.returns-then-c-gt0
-returns-then-c-gt0 c = search (rules, binding)
+pub returns-in-Some : goal.returns-in-Some
+returns-in-Some c = search (rules, binding)
 
 pub enter-requires : goal.enter-requires
 enter-requires c = search (rules, chains)

@@ -6,4 +6,4 @@ use Rattle.binder.proofs.commit.append.Goals as goal
 pub returns : goal.returns
 returns c =
     append-is c.args.heads.now _ _ _ _ _ _ _
-    c.at32-count.ensures c.put_links.ensures c.put_cells.ensures refl
+    c.get_or-count.ensures c.put_links.ensures c.put_cells.ensures refl

@@ -1,5 +1,5 @@
 -- The part lies within the readings, and is the definition's. Assumes nothing.
-use native.Mathlib.Omega.{arith}
+use Rattle.std.proofs.Common.{arith}
 use Rattle.calls.specs.Previewing.{span-within, fetch-is}
 use Rattle.calls.proofs.fetch.fetch.Goals as goal
 

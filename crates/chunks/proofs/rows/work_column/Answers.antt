@@ -11,15 +11,15 @@ pub overflow_sub-buf : goal.overflow_sub-buf
 overflow_sub-buf c =
     known-one _ _ _ c.first_of-first.ensures c.requires.first
 
-pub bounds-frame-first : goal.bounds-frame-first
-bounds-frame-first c =
+pub bounds-columns-first : goal.bounds-columns-first
+bounds-columns-first c =
     known-most _ _ _ c.first_of-first.ensures c.requires.first c.requires.low
 
 pub overflow_sub-buf-then-two : goal.overflow_sub-buf-then-two
 overflow_sub-buf-then-two c = search linking
 
-pub bounds-frame-second : goal.bounds-frame-second
-bounds-frame-second c = search linking
+pub bounds-columns-second : goal.bounds-columns-second
+bounds-columns-second c = search linking
 
 pub bounds-buf-1 : goal.bounds-buf-1
 bounds-buf-1 c = simp length-set (omega arith)
@@ -27,7 +27,7 @@ bounds-buf-1 c = simp length-set (omega arith)
 pub column-requires : goal.column-requires
 column-requires c =
     let some : 2 ≤ length c.args.buf.now = omega (arith, c.requires.room) in
-    let front : Front c.args.links.now c.args.frame.now c.args.j c.args.buf.now c.if-two.buf =
+    let front : Front c.args.body.links.now c.args.columns.frame.now c.args.j c.args.buf.now c.if-two.buf =
     elim c.if-two.branch [
       | then-two w ↦ rw w.buf-is (front-two _ _ _ _ _ c.first_of-first.ensures c.second_of-second.ensures _ some)
       | else-two w ↦ rw w.buf-is (front-one _ _ _ _ _ c.first_of-first.ensures c.second_of-second.ensures _ some _ c.is_below-two.ensures w.if-two.false)
@@ -37,7 +37,7 @@ column-requires c =
 pub returns : goal.returns
 returns c =
     let some : 2 ≤ length c.args.buf.now = omega (arith, c.requires.room) in
-    let front : Front c.args.links.now c.args.frame.now c.args.j c.args.buf.now c.if-two.buf =
+    let front : Front c.args.body.links.now c.args.columns.frame.now c.args.j c.args.buf.now c.if-two.buf =
     elim c.if-two.branch [
       | then-two w ↦ rw w.buf-is (front-two _ _ _ _ _ c.first_of-first.ensures c.second_of-second.ensures _ some)
       | else-two w ↦ rw w.buf-is (front-one _ _ _ _ _ c.first_of-first.ensures c.second_of-second.ensures _ some _ c.is_below-two.ensures w.if-two.false)

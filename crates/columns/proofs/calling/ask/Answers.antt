@@ -1,28 +1,6 @@
--- `columns::calling::ask` meets its contract: each path is a law of Calls. Assumes nothing.
+-- `columns::calling::ask` meets its contract: the path is a law of Calls. Assumes nothing.
 use Rattle.columns.proofs.Calls.{calls}
-use borrow.Author.Rules.{rules}
 use Rattle.columns.proofs.calling.ask.Goals as goal
 
-pub member_of-requires : goal.member_of-requires
-member_of-requires c = search calls
-
-pub enum_known-m : goal.enum_known-m
-enum_known-m c = search calls
-
-pub unpack-requires : goal.unpack-requires
-unpack-requires c = search calls
-
-pub apply0-requires : goal.apply0-requires
-apply0-requires c = search calls
-
-pub pack-requires : goal.pack-requires
-pack-requires c = search calls
-
-pub enum_told-1 : goal.enum_told-1
-enum_told-1 c = search calls
-
-pub returns-in-Is : goal.returns-in-Is
-returns-in-Is c = search (rules, calls)
-
-pub returns-in-Unknown : goal.returns-in-Unknown
-returns-in-Unknown c = search (rules, calls)
+pub returns-in-Some-clause-same : goal.returns-in-Some-clause-same
+returns-in-Some-clause-same c = search calls

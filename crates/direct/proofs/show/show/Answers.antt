@@ -1,47 +1,25 @@
+-- The walk begins with nothing bound and nothing remembered; what its value shows is a law of ShowingLaws. Assumes nothing.
 use mathlib.Core.Path.{refl}
 use Rattle.direct.specs.ShowingLaws.{begins, nameable, shows-function, shows-delay, shows-other}
 use Rattle.direct.proofs.show.show.Goals as goal
 
--- src/show.rt:39:9
-pub value-cell-requires : goal.value-cell-requires
-value-cell-requires c =
-    begins c.args.recording.now c.args.records.now c.args.i c.requires _ c.order_all.ensures
-    c.unset.result c.unset.ensures _ refl
+pub value-requires : goal.value-requires
+value-requires c = begins _ _ _ c.requires _ c.order_all.ensures _ c.unset.ensures _ refl
 
--- src/show.rt:43:9
-pub returns-then-v-eq3 : goal.returns-then-v-eq3
-returns-then-v-eq3 c =
-    let xs = c.args.recording.now in
-    let R = c.args.records.now in
-    let i = c.args.i in
-    shows-function xs R _ c.unset.result i _ c.value-cell.result c.value-cell.ensures c.unset.ensures
-    c.unpack.result c.unpack.ensures c.numbers-v.result c.numbers-v.ensures c.if-v-eq3.true
-    c.record_at-n.result c.record_at-n.ensures c.view.result c.view.ensures
+pub returns-in-Function : goal.returns-in-Function
+returns-in-Function c =
+    shows-function _ _ _ _ _ _ _ c.value.ensures c.unset.ensures _ c.unpack-found.ensures _ c.numbers-v.ensures c.in-Function.is
+    _ c.record_at.ensures _ c.view.ensures
 
--- src/show.rt:46:13
 pub names_of-awaited-requires : goal.names_of-awaited-requires
-names_of-awaited-requires c =
-    let xs = c.args.recording.now in
-    let R = c.args.records.now in
-    let i = c.args.i in
-    nameable xs R i c.requires _ c.order_all.ensures
+names_of-awaited-requires c = nameable _ _ _ c.requires _ c.order_all.ensures
 
--- src/show.rt:47:9
-pub returns-then-v-eq4 : goal.returns-then-v-eq4
-returns-then-v-eq4 c =
-    let xs = c.args.recording.now in
-    let R = c.args.records.now in
-    let i = c.args.i in
-    shows-delay xs R _ c.unset.result i _ c.value-cell.result c.value-cell.ensures c.unset.ensures
-    c.unpack.result c.unpack.ensures c.numbers-v.result c.numbers-v.ensures c.if-v-eq4.true
-    _ _ c.names_of-awaited.ensures c.view-then-v-eq4.result c.view-then-v-eq4.ensures
+pub returns-in-Delayed : goal.returns-in-Delayed
+returns-in-Delayed c =
+    shows-delay _ _ _ _ _ _ _ c.value.ensures c.unset.ensures _ c.unpack-found.ensures _ c.numbers-v.ensures c.in-Delayed.is
+    _ _ c.names_of-awaited.ensures _ c.view-in-Delayed.ensures
 
--- src/show.rt:32:1
-pub returns : goal.returns
-returns c =
-    let xs = c.args.recording.now in
-    let R = c.args.records.now in
-    let i = c.args.i in
-    shows-other xs R _ c.unset.result i _ c.value-cell.result c.value-cell.ensures c.unset.ensures
-    c.unpack.result c.unpack.ensures c.numbers-v.result c.numbers-v.ensures c.if-v-eq3.false c.if-v-eq4.false
-    c.view-2.result c.view-2.ensures
+pub returns-in_default : goal.returns-in_default
+returns-in_default c =
+    shows-other _ _ _ _ _ _ _ c.value.ensures c.unset.ensures _ c.unpack-found.ensures _ c.numbers-v.ensures c.in_default.not-Function c.in_default.not-Delayed
+    _ c.view-in_default.ensures

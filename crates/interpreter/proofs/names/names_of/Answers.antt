@@ -1,33 +1,50 @@
--- One name or two, by the number of the order. Assumes nothing.
+-- The names of an order's levels, one after the other. Assumes nothing.
+use mathlib.Core.Path.{refl, ap}
 use native.Mathlib.Omega.{arith}
-use lib.ListN.{get_or}
-use Rattle.interpreter.specs.NamingLaws.{first-low, names-none, awaits-first, names-one, awaits-second, names-two}
+use Rattle.meaning.specs.Evaluation.{has_name}
+use Rattle.interpreter.specs.Orders.{listed}
+use Rattle.interpreter.specs.NamingLaws.{awaits-level, names-none, names-one, names-two}
 use Rattle.interpreter.proofs.names.names_of.Goals as goal
 
-pub returns-then-w-eq0 : goal.returns-then-w-eq0
-returns-then-w-eq0 c =
-    names-none c.args.records.now c.args.orders.now c.args.i c.requires c.if-w-eq0.true
-
-pub name_at-name-requires : goal.name_at-name-requires
-name_at-name-requires c =
-    awaits-first c.args.records.now c.args.orders.now c.args.i c.requires c.if-w-eq0.false
-    c.first_level-level.result c.first_level-level.ensures
-
-pub returns-then-w-lt3 : goal.returns-then-w-lt3
-returns-then-w-lt3 c =
-    names-one c.args.records.now c.args.orders.now c.args.i c.requires c.if-w-eq0.false
-    c.first_level-level.result c.first_level-level.ensures c.name_at-name.result c.name_at-name.ensures c.if-w-lt3.true
-
-pub overflow_sub-level : goal.overflow_sub-level
-overflow_sub-level c = rw c.first_level-level.ensures (omega (arith, first-low (get_or c.args.orders.now c.args.i 0)))
-
 pub name_at-requires : goal.name_at-requires
-name_at-requires c =
-    awaits-second c.args.records.now c.args.orders.now c.args.i c.requires c.if-w-eq0.false
-    c.first_level-level.result c.first_level-level.ensures c.name_at-name.result c.name_at-name.ensures c.if-w-lt3.false
+unfolding listed has_name
+name_at-requires c = awaits-level c.args.records.now c.args.orders.now c.args.i c.requires _ (ap listed c.in-Outer.is) 0 (omega arith) refl
 
-pub returns : goal.returns
-returns c =
-    names-two c.args.records.now c.args.orders.now c.args.i c.requires c.if-w-eq0.false
-    c.first_level-level.result c.first_level-level.ensures c.name_at-name.result c.name_at-name.ensures
-    c.if-w-lt3.false c.name_at.result c.name_at.ensures
+pub name_at-requires-in-Inner : goal.name_at-requires-in-Inner
+unfolding listed has_name
+name_at-requires-in-Inner c = awaits-level c.args.records.now c.args.orders.now c.args.i c.requires _ (ap listed c.in-Inner.is) 1 (omega arith) refl
+
+pub name_at-requires-in-OuterInner : goal.name_at-requires-in-OuterInner
+unfolding listed has_name
+name_at-requires-in-OuterInner c = awaits-level c.args.records.now c.args.orders.now c.args.i c.requires _ (ap listed c.in-OuterInner.is) 0 (omega arith) refl
+
+pub name_at-requires-in-OuterInner-2 : goal.name_at-requires-in-OuterInner-2
+unfolding listed has_name
+name_at-requires-in-OuterInner-2 c = awaits-level c.args.records.now c.args.orders.now c.args.i c.requires _ (ap listed c.in-OuterInner.is) 1 (omega arith) refl
+
+pub name_at-requires-in-InnerOuter : goal.name_at-requires-in-InnerOuter
+unfolding listed has_name
+name_at-requires-in-InnerOuter c = awaits-level c.args.records.now c.args.orders.now c.args.i c.requires _ (ap listed c.in-InnerOuter.is) 1 (omega arith) refl
+
+pub name_at-requires-in-InnerOuter-2 : goal.name_at-requires-in-InnerOuter-2
+unfolding listed has_name
+name_at-requires-in-InnerOuter-2 c = awaits-level c.args.records.now c.args.orders.now c.args.i c.requires _ (ap listed c.in-InnerOuter.is) 0 (omega arith) refl
+
+pub returns-in-Empty : goal.returns-in-Empty
+returns-in-Empty c = names-none c.args.records.now c.args.orders.now c.args.i c.requires c.in-Empty.is
+
+pub returns-in-Outer : goal.returns-in-Outer
+unfolding listed has_name
+returns-in-Outer c = names-one c.args.records.now c.args.orders.now c.args.i c.requires 0 (ap listed c.in-Outer.is) refl _ c.name_at.ensures
+
+pub returns-in-Inner : goal.returns-in-Inner
+unfolding listed has_name
+returns-in-Inner c = names-one c.args.records.now c.args.orders.now c.args.i c.requires 1 (ap listed c.in-Inner.is) refl _ c.name_at-in-Inner.ensures
+
+pub returns-in-OuterInner : goal.returns-in-OuterInner
+unfolding listed has_name
+returns-in-OuterInner c = names-two c.args.records.now c.args.orders.now c.args.i c.requires 0 1 (ap listed c.in-OuterInner.is) refl refl _ _ c.name_at-in-OuterInner.ensures c.name_at-in-OuterInner-2.ensures
+
+pub returns-in-InnerOuter : goal.returns-in-InnerOuter
+unfolding listed has_name
+returns-in-InnerOuter c = names-two c.args.records.now c.args.orders.now c.args.i c.requires 1 0 (ap listed c.in-InnerOuter.is) refl refl _ _ c.name_at-in-InnerOuter.ensures c.name_at-in-InnerOuter-2.ensures

@@ -1,5 +1,4 @@
-use Prim.Native.Nat.{◌+◌, ◌-◌, ◌*◌, ◌≤◌}
-use lib.ListN.{length}
+use Prim.Native.Nat.{◌+◌, ◌*◌}
 use Rattle.interpreter.specs.Walking.{Keeps}
 use Rattle.interpreter.specs.OverLaws.{Sums}
 use Rattle.interpreter.proofs.walk.+over_ran_value_work.Given as goal
@@ -16,9 +15,5 @@ decreases-value l = 4 * l.i + 3
 abbrev pub decreases-work : goal.decreases-work
 decreases-work l = 4 * l.i + 2
 
-abbrev pub invariant-over-loop-k : goal.invariant-over-loop-k
-invariant-over-loop-k l =
-    (l.k ≤ length l.window) × Keeps l.readings l.records l.orders l.memo × Sums l.readings l.records l.orders l.s l.f l.window l.t l.k
-
-abbrev pub decreases-over-loop-k : goal.decreases-over-loop-k
-decreases-over-loop-k l = length l.window - l.k
+abbrev pub invariant-over-loop-z : goal.invariant-over-loop-z
+invariant-over-loop-z l = Keeps l.source.readings.now l.source.records.now l.source.orders.now l.memo × Sums l.source.readings.now l.source.records.now l.source.orders.now l.s l.f l.z-items l.t l.z-index

@@ -1,6 +1,5 @@
 -- Each path is a step of the walk over the entry's form. The measure is the entry, and in the loop over receivers the receiver. Assumes nothing.
 use mathlib.Core.Path.{◌∙◌}
-use mathlib.Core.Logic.{⊎_elim}
 use native.Mathlib.Omega.{arith}
 use Rattle.printer.specs.WalkingLaws as L
 use Rattle.printer.proofs.judge.+walk.Goals as goal

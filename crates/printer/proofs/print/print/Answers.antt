@@ -3,17 +3,17 @@ use native.Mathlib.Omega.{arith}
 use Rattle.printer.specs.PrintingLaws.{print-refused, print-done, print-ready}
 use Rattle.printer.proofs.print.print.Goals as goal
 
+pub returns-in_err-check : goal.returns-in_err-check
+returns-in_err-check c = print-refused _ _ _ _ c.check.ensures _ c.in_err-check.was _ c.from_residual.ensures.1
+
 pub overflow_cast-entry : goal.overflow_cast-entry
-overflow_cast-entry c =
-    let r = print-ready _ _ _ _ _ _ c.refusal-refused.ensures c.if-refused-eq0.true in omega (arith, r.0, r.2)
+overflow_cast-entry c = let r = print-ready _ _ _ _ _ _ c.check.ensures _ c.in_ok-check.was in omega (arith, r.0, r.2)
 
-pub print_held-requires : goal.print_held-requires
-print_held-requires c =
-    let r = print-ready _ _ _ _ _ _ c.refusal-refused.ensures c.if-refused-eq0.true in record { bound = r.0; cells_value = r.1 }
+pub print_held-requires-clause-bound : goal.print_held-requires-clause-bound
+print_held-requires-clause-bound c = (print-ready _ _ _ _ _ _ c.check.ensures _ c.in_ok-check.was).0
 
-pub returns-then-refused-eq0 : goal.returns-then-refused-eq0
-returns-then-refused-eq0 c =
-    print-done _ _ _ _ _ _ c.refusal-refused.ensures c.if-refused-eq0.true (c.print_held.ensures _)
+pub print_held-requires-clause-is_well_formed : goal.print_held-requires-clause-is_well_formed
+print_held-requires-clause-is_well_formed c = (print-ready _ _ _ _ _ _ c.check.ensures _ c.in_ok-check.was).1
 
 pub returns : goal.returns
-returns c = print-refused _ _ _ _ c.refusal-refused.ensures c.if-refused-eq0.false
+returns c = print-done _ _ _ _ _ _ c.check.ensures _ c.in_ok-check.was _ _ _ (c.print_held.ensures _)

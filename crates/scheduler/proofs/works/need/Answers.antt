@@ -1,10 +1,10 @@
--- The invariant: the sweep from here on gives the whole. Assumes nothing.
+-- The sweep from here on gives the whole. Assumes nothing.
 use borrow.Author.Rules.{rules}
 use Rattle.scheduler.proofs.Choosing.{need-no, need-yes, need-end, need-begin}
 use Rattle.scheduler.proofs.works.need.Goals as goal
 
 pub loop-j-init : goal.loop-j-init
-loop-j-init c = (search rules, need-begin _ _)
+loop-j-init c = need-begin _ _
 
 pub loop-j-preserved-then-flags-j-eq1 : goal.loop-j-preserved-then-flags-j-eq1
 loop-j-preserved-then-flags-j-eq1 c = search (rules, need-yes)

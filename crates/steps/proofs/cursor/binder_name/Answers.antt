@@ -1,9 +1,19 @@
--- The number decides; a name that is not too long is packed whole. Assumes nothing.
-use Rattle.steps.proofs.CursorPaths.{binder-passed, binder-refused}
+-- A name that is not too long is packed whole. Assumes nothing.
+use Rattle.steps.proofs.CursorPaths.{name-none, binder-long, binder-reserved, binder-passed}
 use Rattle.steps.proofs.cursor.binder_name.Goals as goal
 
-pub returns-then-number-eq0 : goal.returns-then-number-eq0
-returns-then-number-eq0 c = search binder-passed
+pub returns-then-is_long : goal.returns-then-is_long
+returns-then-is_long c = binder-long _ _ _ c.token-x.ensures c.in-Word.is _ c.is_long.ensures c.if-is_long.true _ c.refused.ensures
 
-pub returns-else-number-eq0 : goal.returns-else-number-eq0
-returns-else-number-eq0 c = search binder-refused
+pub returns-then-is_data : goal.returns-then-is_data
+returns-then-is_data c =
+    binder-reserved _ _ _ c.token-x.ensures c.in-Word.is _ c.is_long.ensures c.if-is_long.false _ c.name-name.ensures _ c.is_data.ensures c.if-is_data.true _
+    c.refused-then-is_data.ensures
+
+pub returns-else-is_data : goal.returns-else-is_data
+returns-else-is_data c =
+    binder-passed _ _ _ c.token-x.ensures c.in-Word.is _ c.is_long.ensures c.if-is_long.false _ c.name-name.ensures _ c.is_data.ensures c.if-is_data.false _
+    c.named.ensures
+
+pub returns-in_default : goal.returns-in_default
+returns-in_default c = name-none _ _ _ c.token-x.ensures c.in_default.not-Word _ c.refused-in_default.ensures

@@ -1,9 +1,9 @@
--- The number decides. Assumes nothing.
-use Rattle.steps.proofs.CursorPaths.{open-passed, open-refused}
+-- A bracket is judged; any other token is refused. Assumes nothing.
+use Rattle.steps.proofs.CursorPaths.{open-none, open_judged}
 use Rattle.steps.proofs.cursor.call_open.Goals as goal
 
-pub returns-then-number-eq0 : goal.returns-then-number-eq0
-returns-then-number-eq0 c = search open-passed
+pub returns-in-Open : goal.returns-in-Open
+returns-in-Open c = open_judged _ _ _ c.token-x.ensures _ c.in-Open.is _ c.at_open_mark.ensures _ c.judged.ensures
 
-pub returns-else-number-eq0 : goal.returns-else-number-eq0
-returns-else-number-eq0 c = search open-refused
+pub returns-in_default : goal.returns-in_default
+returns-in_default c = open-none _ _ _ c.token-x.ensures _ c.in_default.not-Open _ c.refused.ensures

@@ -1,12 +1,10 @@
 -- Where nothing is refused, the call's record is written. Assumes nothing.
-use Rattle.steps.proofs.ScratchPaths.{shut-room, shut-read, shut-stopped}
+use Rattle.steps.specs.CursorsLaws.{raised}
+use Rattle.steps.proofs.ScratchPaths.{shut-read, shut-stopped}
 use Rattle.steps.proofs.scratch.read_shut.Goals as goal
 
-pub put-requires : goal.put-requires
-put-requires c = search shut-room
+pub returns-in_err-a : goal.returns-in_err-a
+returns-in_err-a c = rw (raised _ c.from_residual.ensures.1) (shut-stopped _ _ _ _ c.at_shut.ensures _ _ _ c.in_err-a.ensures)
 
-pub returns-then-a-eq0 : goal.returns-then-a-eq0
-returns-then-a-eq0 c = search shut-read
-
-pub returns-else-a-eq0 : goal.returns-else-a-eq0
-returns-else-a-eq0 c = search shut-stopped
+pub returns : goal.returns
+returns c = shut-read _ _ _ _ c.at_shut.ensures _ _ _ c.in_ok-a.ensures _ _ _ c.put.ensures

@@ -4,16 +4,13 @@ use Rattle.table.specs.ChainLaws.{chains}
 use Rattle.table.proofs.chain.seek.Goals as goal
 
 pub loop-c-init : goal.loop-c-init
-loop-c-init c = search (rules, chains)
+loop-c-init g c = search (rules, chains)
 
-pub returns-then-same : goal.returns-then-same
-returns-then-same c = search (rules, chains)
+pub returns-then-eq : goal.returns-then-eq
+returns-then-eq g c = search (rules, chains)
 
 pub loop-c-smaller : goal.loop-c-smaller
-loop-c-smaller c = search (rules, chains)
+loop-c-smaller g c = search (rules, chains)
 
 pub loop-c-preserved : goal.loop-c-preserved
-loop-c-preserved c = search (rules, chains)
-
-pub returns : goal.returns
-returns c = search (rules, chains)
+loop-c-preserved g c = search (rules, chains)

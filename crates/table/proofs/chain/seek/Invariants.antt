@@ -2,14 +2,14 @@
 use mathlib.Core.Path.{◌≡◌}
 use Prim.Native.Nat.{◌≤◌}
 use Rattle.table.specs.Chain.{hash_of, latest, last_same}
-use Rattle.layout.specs.Held.{shaped, held_at}
+use Rattle.layout.specs.Held.{shaped}
 use Rattle.table.proofs.chain.seek.Given as goal
 
 abbrev pub invariant-loop-c : goal.invariant-loop-c
-invariant-loop-c l =
-    (last_same (held_at l.links l.cells l.count l.fresh) (shaped l.x) l.total ≡ last_same (held_at l.links l.cells l.count l.fresh) (shaped l.x) l.c)
-    × (l.c ≡ latest (held_at l.links l.cells l.count l.fresh) (hash_of (shaped l.x)) l.c)
+invariant-loop-c g l =
+    (last_same (g.N.Nodes.nodes l.entries) (shaped l.x) l.total ≡ last_same (g.N.Nodes.nodes l.entries) (shaped l.x) l.c)
+    × (l.c ≡ latest (g.N.Nodes.nodes l.entries) (hash_of (shaped l.x)) l.c)
     × (l.c ≤ l.total)
 
 abbrev pub decreases-loop-c : goal.decreases-loop-c
-decreases-loop-c l = l.c
+decreases-loop-c g l = l.c

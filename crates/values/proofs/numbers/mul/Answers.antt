@@ -1,16 +1,10 @@
--- `values::numbers::mul` meets its contract. The product of two i32 fits an i64, so it is exact there, and `number` tests its range.
--- Assumes nothing.
-use Rattle.values.proofs.NumberRules.{number-rules}
+-- The product of two numbers of 32 bits fits in 64. Assumes nothing.
+use Rattle.std.proofs.Common.{◌∙◌, ap}
+use Rattle.rules.specs.Values.{ranged}
+use Rattle.rules.specs.Rules.{rule, on_numbers}
+use Rattle.values.proofs.Signed.{product_is}
 use Rattle.values.proofs.numbers.mul.Goals as goal
 
-pub overflow_cast-a : goal.overflow_cast-a
-overflow_cast-a c = search number-rules
-
-pub overflow_cast-b : goal.overflow_cast-b
-overflow_cast-b c = search number-rules
-
-pub overflow_mul-a : goal.overflow_mul-a
-overflow_mul-a c = search number-rules
-
 pub returns : goal.returns
-returns c = search number-rules
+unfolding on_numbers rule
+returns c = c.number.ensures ∙ ap ranged (product_is c.ranges.a c.ranges.b)

@@ -1,23 +1,16 @@
--- `values::stretches::best_of` meets its contract. At the loop's head the sum is that of the stretch that begins at `out`, and the best so far
--- against the stretches that begin after it is the best of all. The measure is how many stretches are left. Assumes nothing.
-use Prim.Native.Nat.{◌-◌}
-use Rattle.values.proofs.StretchRules.{stretch-rules}
+-- One reading in, and one out. Assumes nothing.
+use lib.ListN.{get_or}
+use lib.IntN.{pos}
+use mir.Syntax.{w32}
+use mir.Val.{SFits}
+use Rattle.std.proofs.Common.{◌+◌, arith, rules}
+use Rattle.std.proofs.lemmas.Int.{ints, to_z-of_z}
+use Rattle.values.specs.SlidingLaws.{slid_more}
 use Rattle.values.proofs.stretches.best_of.Goals as goal
 
-pub total_of-sum-requires : goal.total_of-sum-requires
-total_of-sum-requires c = search stretch-rules
-
-pub loop-out-init : goal.loop-out-init
-loop-out-init c = search stretch-rules
-
-pub slid-sum-requires : goal.slid-sum-requires
-slid-sum-requires c = search stretch-rules
-
-pub better_of-so_far-requires : goal.better_of-so_far-requires
-better_of-so_far-requires c = search stretch-rules
-
 pub loop-out-preserved : goal.loop-out-preserved
-loop-out-preserved c = search stretch-rules
-
-pub returns : goal.returns
-returns c = search stretch-rules
+loop-out-preserved c =
+    let come : SFits w32 (get_or c.args.readings.now (c.loop-out.out + c.args.width) (pos 0)) = search rules in
+    let gone : SFits w32 (get_or c.args.readings.now c.loop-out.out (pos 0)) = search rules in
+    let h = slid_more _ _ _ _ _ c.loop-out.invariant c.loop-out-test.true come.sfits gone.sfits in
+    grind (arith, ints, to_z-of_z)

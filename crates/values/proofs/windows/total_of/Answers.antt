@@ -1,21 +1,15 @@
--- `values::windows::total_of` meets its contract. At the loop's head the total and the sum of the readings from i on make the whole sum, and
--- the total is at most i times 2^31 in size.
--- The measure is how many readings are left. Assumes nothing.
-use Prim.Native.Nat.{◌-◌}
-use Rattle.values.proofs.WindowRules.{window-rules}
+-- One reading more. Assumes nothing.
+use lib.ListN.{get_or}
+use lib.IntN.{pos}
+use mir.Syntax.{w32}
+use mir.Val.{SFits}
+use Rattle.std.proofs.Common.{arith, rules}
+use Rattle.std.proofs.lemmas.Int.{ints, to_z-of_z}
+use Rattle.values.specs.WindowLaws.{summed_more}
 use Rattle.values.proofs.windows.total_of.Goals as goal
 
-pub loop-i-init : goal.loop-i-init
-loop-i-init c = search window-rules
-
-pub overflow_cast-total : goal.overflow_cast-total
-overflow_cast-total c = search window-rules
-
-pub overflow_add-total : goal.overflow_add-total
-overflow_add-total c = search window-rules
-
-pub loop-i-preserved : goal.loop-i-preserved
-loop-i-preserved c = search window-rules
-
-pub returns : goal.returns
-returns c = search window-rules
+pub loop-x-preserved : goal.loop-x-preserved
+loop-x-preserved c =
+    let f : SFits w32 (get_or c.args.readings.now c.loop-x.x-index (pos 0)) = search rules in
+    let h = summed_more _ _ _ c.loop-x.invariant c.loop-x-test.true f.sfits in
+    grind (arith, ints, to_z-of_z)

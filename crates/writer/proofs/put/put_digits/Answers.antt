@@ -1,24 +1,16 @@
--- The invariant: what is written and what is left are the number's digits. Assumes nothing.
-use mathlib.Core.Path.{◌∙◌}
+-- One digit more, or the last one. Assumes nothing.
 use borrow.Author.Rules.{rules}
-use Rattle.writer.specs.PuttingLaws.{counts_start, counts-digit, counts_end}
+use Rattle.writer.specs.PuttingLaws.{counts_start, counts_digit, counts_full, counts_end}
 use Rattle.writer.proofs.put.put_digits.Goals as goal
 
 pub loop-rest-init : goal.loop-rest-init
-loop-rest-init c = counts_start _ _ _ _ (search rules) (search rules)
+loop-rest-init c = search (rules, counts_start)
 
-pub put_byte-first-requires : goal.put_byte-first-requires
-put_byte-first-requires c =
-    let p = c.loop-rest.invariant.puts in
-    (p.whole ∙ c.requires.0, p.within)
+pub returns-in_err-put_byte : goal.returns-in_err-put_byte
+returns-in_err-put_byte c = rw c.from_residual.ensures (counts_full c.loop-rest.invariant _ (search rules) (search rules) c.in_err-put_byte.ensures)
 
 pub loop-rest-preserved : goal.loop-rest-preserved
-loop-rest-preserved c = counts-digit c.loop-rest.invariant _ _ _ (search rules) (search rules) c.put_byte-first.ensures
-
-pub put_byte-requires : goal.put_byte-requires
-put_byte-requires c =
-    let p = c.loop-rest.invariant.puts in
-    (p.whole ∙ c.requires.0, p.within)
+loop-rest-preserved c = counts_digit c.loop-rest.invariant _ (search rules) (search rules) c.in_ok-put_byte.ensures
 
 pub returns : goal.returns
-returns c = counts_end c.loop-rest.invariant _ _ _ (search rules) (search rules) c.put_byte.ensures
+returns c = counts_end c.loop-rest.invariant _ (search rules) (search rules) c.put_byte-2.ensures

@@ -1,19 +1,12 @@
 -- The invariant: the entry's text is what is written, with what stands before it. Assumes nothing.
-use mathlib.Core.Path.{refl}
-use Rattle.writer.specs.WritingLaws.{goes-start, goes-ready, goes_on, goes_end}
+use mathlib.Core.Path.{◌≡◌, refl}
+use borrow.Author.Rules.{rules}
+use Rattle.writer.specs.Writing.{turn_number}
+use Rattle.writer.specs.WritingLaws.{goes_start, goes_end}
 use Rattle.writer.proofs.write.write.Goals as goal
 
-pub loop-s-init : goal.loop-s-init
-loop-s-init c = let p = c.requires in goes-start p.0 p.1 p.2 p.3 refl
-
-pub step-s-requires : goal.step-s-requires
-step-s-requires c = goes-ready c.loop-s.invariant c.loop-s-test.true
-
-pub loop-s-smaller : goal.loop-s-smaller
-loop-s-smaller c = c.step-s.ensures.falls
-
-pub loop-s-preserved : goal.loop-s-preserved
-loop-s-preserved c = goes_on c.loop-s.invariant c.loop-s-test.true c.step-s.ensures
+pub loop-pending-init : goal.loop-pending-init
+loop-pending-init c = goes_start c.requires.0 c.requires.1 c.requires.2 refl
 
 pub returns : goal.returns
-returns c = goes_end c.loop-s.invariant c.loop-s-test.false
+returns c = let e : turn_number c.loop-pending.s.turn ≡ 3 = search rules in goes_end c.loop-pending.invariant e

@@ -1,0 +1,6 @@
+-- `columns::calling::conclude` meets its contract: the path is a law of Calls. Assumes nothing.
+use Rattle.columns.proofs.Calls.{calls}
+use Rattle.columns.proofs.calling.conclude.Goals as goal
+
+pub returns-in-Some-clause-same : goal.returns-in-Some-clause-same
+returns-in-Some-clause-same c = search calls

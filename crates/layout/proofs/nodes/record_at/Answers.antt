@@ -1,7 +1,0 @@
--- The words that are read are the record. Assumes nothing.
-use borrow.Author.Rules.{rules}
-use Rattle.layout.specs.HeldLaws.{nodes}
-use Rattle.layout.proofs.nodes.record_at.Goals as goal
-
-pub returns : goal.returns
-returns c = search (rules, nodes)

@@ -1,6 +1,0 @@
--- The number is picked test by test, as the definition picks it. Assumes nothing.
-use Rattle.steps.proofs.CursorPaths.{lambda-fault}
-use Rattle.steps.proofs.cursor.at_lambda.Goals as goal
-
-pub returns : goal.returns
-returns c = search lambda-fault

@@ -1,6 +1,0 @@
--- The number is picked test by test, as the definition picks it. Assumes nothing.
-use Rattle.steps.proofs.CursorPaths.{name-fault}
-use Rattle.steps.proofs.cursor.at_name.Goals as goal
-
-pub returns : goal.returns
-returns c = search name-fault
