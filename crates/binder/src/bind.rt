@@ -1,13 +1,13 @@
 // 01, "Binding": a text's records are bound to entries one by one, found or appended, in the call's own frame. No lent cell is written.
 #![tactic(auto, using(crate::specs::RecordsLaws::binding))]
 
-ghost use Rattle.std.specs.Prelude.{◌≡◌, true, ℕ, ◌≤◌, ◌<◌, length, get_or, take};
+ghost use Rattle.std.specs.Prelude.{◌≡◌, true, ℕ, ◌≤◌, ◌<◌, get_or, take};
 ghost use Rattle.language.specs.Limits.{text_parts, table_entries};
 ghost use Rattle.layout.specs.Memory.{node_at};
 ghost use Rattle.table.specs.WellFormed.{distinct};
 ghost use Rattle.table.specs.Bind.{relinked, relink};
 ghost use Rattle.layout.specs.Numbered.{numbered};
-ghost use Rattle.layout.specs.Held.{shaped, record_at, text_words};
+ghost use Rattle.layout.specs.Held.{shaped, record_at};
 ghost use Rattle.table.specs.Chain.{chain_entries};
 ghost use Rattle.binder.specs.Records.{Ready, BoundOne, BoundAll, is_full};
 
@@ -17,7 +17,7 @@ use table::chain::{CHAIN_CELLS, enter, enter_all, hash, seek};
 
 // A link to a record, as a link to the record's entry. The first r records have their numbers.
 fn relinked(numbers: &[u16; Text::PARTS], r: u16, link: u16) -> u16
-    requires few { (r ≤ text_parts) × (length numbers.now ≡ text_parts) }
+    requires few { r ≤ text_parts }
     requires known { (j : ℕ) → j < r → get_or numbers.now j 0 < chain_entries }
     ensures { result ≡ relinked (take r numbers.now) link }
 {
@@ -30,11 +30,11 @@ fn relinked(numbers: &[u16; Text::PARTS], r: u16, link: u16) -> u16
     1
 }
 
-// Record r, its links those of entries. The array has all its words, which reading it tells.
+// Record r, its links those of entries.
 fn relink(records: &[u64; TEXT_WORDS], numbers: &[u16; Text::PARTS], r: u16) -> Shape
-    requires few { (r ≤ text_parts) × (length numbers.now ≡ text_parts) }
+    requires few { r ≤ text_parts }
     requires known { (j : ℕ) → j < r → get_or numbers.now j 0 < chain_entries }
-    ensures { (shaped result ≡ relink (take r numbers.now) (record_at records.now r)) × (length records.now ≡ text_words) }
+    ensures { shaped result ≡ relink (take r numbers.now) (record_at records.now r) }
 {
     let x = record_at(records, r);
     Shape {
@@ -91,7 +91,7 @@ pub fn bind(
     n: u16,
     numbers: &mut [u16; Text::PARTS],
 ) -> u16
-    requires fits_table { (count ≤ table_entries) × (n ≤ text_parts) × (length numbers.old ≡ text_parts) }
+    requires fits_table { (count ≤ table_entries) × (n ≤ text_parts) }
     requires no_two_equal { distinct (numbered (node_at links.now cells.now) 0 count) ≡ true }
     ensures { BoundAll links.now cells.now count records.old n result numbers.new records.new }
 {

@@ -54,9 +54,10 @@ pub fn write_places(
     n: u16,
     numbers: &[u16; Text::PARTS],
 )
-    requires { (n ≤ text_parts) × (length parts.now ≡ text_parts) × (text_parts ≤ length places.old) }
+    requires { (n ≤ text_parts) × (text_parts ≤ length places.old) }
     ensures { places.new ≡ placed numbers.now (take n parts.now) places.old }
 {
+    // By index: over `places.iter_mut().zip(..)` the invariant would have to speak of the borrows that were yielded, and not of the places.
     for p in 0..n as usize {
         places[p] = get_or(numbers, parts[p] as usize, 0);
     }

@@ -68,7 +68,7 @@ pub fn fits(links: &[u16], list: &[u16], body: usize, map: &[u8; Table::ENTRIES]
 // Marks each entry of the list with its column, and the variable with the first.
 pub fn place(list: &[u16], v: u32, map: &mut [u8; Table::ENTRIES])
     requires variable { (1 ≤ v) × (v ≤ table_entries) }
-    requires short { (length list.now ≤ most_columns) × (length map.old ≡ table_entries) }
+    requires short { length list.now ≤ most_columns }
     requires low { (k : ℕ) → k < length list.now → get_or list.now k 0 < table_entries }
     ensures { map.new ≡ placed_of v 3 list.now map.old }
 {

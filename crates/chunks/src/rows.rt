@@ -50,7 +50,8 @@ pub fn tally(t: Tally, c: u64) -> Tally
     step(t, unpack(c))
 }
 
-// A chunk of readings as the first column.
+// A chunk of readings as the first column. By r and no `zip`: a reading past the recording's end counts as 0, so that there may be fewer readings
+// than rows.
 fn read_rows(readings: &[i32], from: usize, c: usize, buf: &mut [u64])
     requires { (2 + c ≤ length buf.old) × ((length buf.old ≤ table_entries) × (from ≤ 131070)) }
     ensures { Read readings.now from c buf.old buf.new }
@@ -139,7 +140,7 @@ pub fn take_rows(t: Tally, cells: &[u64]) -> Tally
     let mut u = t;
     for c in cells {
         u = tally(u, *c);
-        if u.stopped {
+        if u.stopped.is_some() {
             return u;
         }
     }

@@ -38,7 +38,7 @@ fn run(body: Body, columns: Columns, from: u16, most: u16, buf: &mut [u64]) -> T
         let c = columns.width.min(count - k);
         chunk(body, columns, from as usize + k, c, buf);
         t = take_rows(t, &buf[to..to + c]);
-        if t.stopped {
+        if t.stopped.is_some() {
             return t;
         }
         k += c;

@@ -8,16 +8,20 @@ ghost use Rattle.values.specs.Packing.{unpack_of};
 ghost use Rattle.columns.specs.Leaves.{leaf_of, function_of};
 
 use layout::nodes::Shape;
+use rules::Reason;
 use values::packing::Packed;
+
+// How many numbers there are: the key of each is its place among them.
+const NUMBERS: u64 = 1 << 32;
 
 // A leaf by its kind and key, where the recording has so many readings and a variable stands for a cell.
 pub fn leaf(size: u16, kind: u16, key: u64, variable: u64) -> u64
     ensures { result ≡ leaf_of size kind key variable }
 {
     match kind {
-        Shape::NUMBER => key % 4294967296 + 1,
+        Shape::NUMBER => key % NUMBERS + 1,
         Shape::VARIABLE => variable,
-        Shape::UNBOUND => Packed::MISSING + 1,
+        Shape::UNBOUND => Packed::MISSING + Reason::UnboundName as u64,
         _ => Packed::WINDOW + size as u64,
     }
 }

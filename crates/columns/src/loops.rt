@@ -13,6 +13,9 @@ use members::Member;
 use values::numbers::{add, div, mul, sub};
 use values::packing::{Packed, number_in, pack};
 
+// The cell of the number 0; the next one is that of 1.
+const ZERO: u64 = (1 << 31) + 1;
+
 // Where the cells of a receiver or an argument stand in a buffer: that of the first row, and how far on that of the next one is, 0 for a constant.
 #[derive(Clone, Copy)]
 pub struct Operand {
@@ -87,7 +90,7 @@ impl OnNumbers for Gt {
     fn cell(a: u64, b: u64) -> u64 {
         let p = number_in(a);
         let q = number_in(b);
-        2147483649 + (q < p) as u64
+        ZERO + (q < p) as u64
     }
 }
 
@@ -98,7 +101,7 @@ impl OnNumbers for Eq {
     fn cell(a: u64, b: u64) -> u64 {
         let p = number_in(a);
         let q = number_in(b);
-        2147483649 + (p == q) as u64
+        ZERO + (p == q) as u64
     }
 }
 

@@ -1,10 +1,11 @@
 -- A record of a text shows what its form does. Assumes nothing.
-use Rattle.std.specs.Prelude.{◌≡◌, List, map, ℕ, zero, suc, ◌+◌, ◌*◌, eqb, ℤ, length, get_or, replicate}
+use Rattle.std.specs.Prelude.{◌≡◌, List, map, ℕ, zero, suc, ◌+◌, eqb, ℤ, length, get_or, replicate}
 use Rattle.std.proofs.lemmas.Bool.{false≢true}
 use Rattle.std.proofs.Math.Path.{refl, sym}
 use Rattle.std.proofs.Common.{ap, ◌∙◌, arith}
 use Rattle.std.proofs.lemmas.List.{length-replicate}
 use Rattle.language.specs.Cases.{split}
+use Rattle.language.specs.Limits.{text_parts}
 use Rattle.rules.specs.declared.Value.{Value}
 use Rattle.rules.specs.declared.Value.TheVariants.{Number, Window, Function, Delayed, Missing}
 use Rattle.values.specs.declared.shown.Shown.{Shown}
@@ -20,25 +21,26 @@ use Rattle.schedule.specs.declared.View.{View}
 use Rattle.interface.specs.Views.{view_of}
 use Rattle.interpreter.specs.declared.orders.Order.{Order}
 use Rattle.interpreter.specs.declared.bindings.Bindings.{Bindings}
+use Rattle.interpreter.specs.declared.memo.Known.{Known}
 use Rattle.levels.specs.Interpreting.{Scope, nothing, stands_for, interpret, levels, variable_at, shown_by}
 use Rattle.interpreter.specs.Standing.{Stands, a_number, a_variable, an_unbound, the_readings, a_function, an_ask, a_call}
 use Rattle.interpreter.specs.Cells.{scope_of}
 use Rattle.interpreter.specs.Orders.{Ordered}
-use Rattle.interpreter.specs.Memo.{memo_cells, is_known, Remembers}
+use Rattle.interpreter.specs.Memo.{none, is_known, Remembers}
 use Rattle.interpreter.specs.Walking.{Bound, Ready, Comes}
 use Rattle.interpreter.specs.Naming.{Nameable, Named}
 use Rattle.direct.specs.Showing.{view_with, Showable, ShownAs}
 
 -- ---- the walk begins: nothing runs, and nothing is remembered
 
-getD-zero : (n k : ℕ) → ◌≡◌ {A = ℕ} (get_or (replicate n 0) k 0) 0
-getD-zero zero k = refl
-getD-zero (suc n) zero = refl
-getD-zero (suc n) (suc k) = getD-zero n k
+all-none : (n k : ℕ) → get_or (replicate n none) k none ≡ none
+all-none zero k = refl
+all-none (suc n) zero = refl
+all-none (suc n) (suc k) = all-none n k
 
-nothing_known : (xs : List ℤ) (ν : ℕ → Node) (orders : List Order) → Remembers xs ν orders (replicate memo_cells 0)
+nothing_known : (xs : List ℤ) (ν : ℕ → Node) (orders : List Order) → Remembers xs ν orders (replicate text_parts none)
 unfolding is_known
-nothing_known xs ν orders i F h s t k = absurd (false≢true (rw (getD-zero memo_cells (3 * i)) at k))
+nothing_known xs ν orders i F h s t k = absurd (false≢true (rw (all-none text_parts i) at k))
 
 delayed-inside : (n : ℕ) (v : Value) → v ≡ Delayed → Inside n v
 delayed-inside n v e = rw e tt
@@ -51,7 +53,7 @@ nothing_bound xs t e =
     }
 
 module _ (xs : List ℤ) (R : List ℕ) (i : ℕ) (show : Showable xs R i) (orders : List Order) (ordered : Ordered (record_at R) (i + 1) orders) where
-  pub begins : (t : Bindings) → scope_of t ≡ nothing → (memo : List ℕ) → memo ≡ replicate memo_cells 0 → Ready xs R orders t i memo
+  pub begins : (t : Bindings) → scope_of t ≡ nothing → (memo : List Known) → memo ≡ replicate text_parts none → Ready xs R orders t i memo
   begins t e memo z =
       record {
         few = show.few;
@@ -62,7 +64,7 @@ module _ (xs : List ℤ) (R : List ℕ) (i : ℕ) (show : Showable xs R i) (orde
         below = omega arith;
         ordered = ordered;
         bound = nothing_bound xs t e;
-        keeps = rw z (record { size = length-replicate {A = ℕ} memo_cells 0; remembers = nothing_known xs (record_at R) orders });
+        keeps = rw z (record { size = length-replicate {A = Known} text_parts none; remembers = nothing_known xs (record_at R) orders });
       }
 
   pub nameable : Nameable R orders i
@@ -112,7 +114,7 @@ key-name xs R i x q _ (a_call _ m f a F A e g d s c t) k = ap (λ (m : Node). m.
 
 -- ---- what is shown, from the value
 
-module _ (xs : List ℤ) (R : List ℕ) (orders : List Order) (t : Bindings) (i : ℕ) (memo : List ℕ) (cell : ℕ) (comes : Comes xs R orders t i memo cell) (e : scope_of t ≡ nothing)
+module _ (xs : List ℤ) (R : List ℕ) (orders : List Order) (t : Bindings) (i : ℕ) (memo : List Known) (cell : ℕ) (comes : Comes xs R orders t i memo cell) (e : scope_of t ≡ nothing)
     (u : Value) (p : u ≡ unpack_of cell) (v : Shown) (q : v ≡ shown_numbers u) where
   is : (F : Form) → Stands (record_at R) i F → u ≡ interpret xs nothing F
   is F s = p ∙ comes.right F s ∙ ap (λ (x : Scope). interpret xs x F) e

@@ -3,7 +3,7 @@ ghost use Rattle.std.specs.Prelude.{◌≡◌, ℤ};
 ghost use Rattle.direct.specs.Showing.{view_with, Showable, ShownAs};
 
 use interpreter::bindings::unset;
-use interpreter::memo::MEMO_CELLS;
+use interpreter::memo::Known;
 use interpreter::names::{Names, names_of};
 use interpreter::orders::{Order, order_all};
 use interpreter::walk::{Source, value};
@@ -33,7 +33,7 @@ pub fn show(recording: &[i32], records: &[u64; TEXT_WORDS], i: u16) -> View
 {
     let mut orders = [Order::Empty; Text::PARTS];
     order_all(records, i + 1, &mut orders);
-    let mut memo = [0u64; MEMO_CELLS];
+    let mut memo = [Known::NONE; Text::PARTS];
     let source = Source {
         readings: recording,
         records,

@@ -1,7 +1,7 @@
 // What a run works out again: a falling sweep from the body that follows the entries that await the variable.
 #![tactic(auto, using(crate::proofs::Reaching::reaching))]
 
-ghost use Rattle.std.specs.Prelude.{◌≡◌, ◌<◌, length, replicate};
+ghost use Rattle.std.specs.Prelude.{◌≡◌, ◌<◌, replicate};
 ghost use Rattle.language.specs.Limits.{table_entries};
 ghost use Rattle.evaluator.specs.Reach.{moves as moves_of, flagged, spread as spread_of, Gathers};
 
@@ -56,7 +56,7 @@ pub fn gather(
     list: &mut [u16; Table::ENTRIES],
     flags: &mut [u8; Table::ENTRIES],
 ) -> usize
-    requires { (body < table_entries) × ((length list.old ≡ table_entries) × (flags.old ≡ replicate table_entries 0)) }
+    requires { (body < table_entries) × (flags.old ≡ replicate table_entries 0) }
     ensures { Gathers links.now waits.now v body list.new flags.new result }
 {
     let mut at: usize = Table::ENTRIES;

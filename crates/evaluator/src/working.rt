@@ -196,7 +196,8 @@ fn rerun(
     frame[body.root]
 }
 
-// The value of entry i, from the values of those below it.
+// The value of entry i, from the values of those below it. The recording, links and waits by themselves and no struct: only this and plan take all
+// three, and rerun has the first two in its body.
 #[cycle(apply_rerun)]
 pub fn apply(
     readings: &[i32],
@@ -244,7 +245,7 @@ pub fn apply(
             for z in part(readings, start, length) {
                 let r = rerun(body, waits, number(*z), &mut local);
                 t = tally(t, r);
-                if t.stopped {
+                if t.stopped.is_some() {
                     return conclude(kind, t);
                 }
             }

@@ -24,10 +24,11 @@ use Rattle.columns.specs.Leaves as Leaves
 use Rattle.interpreter.specs.declared.orders.Order.{Order}
 use Rattle.interpreter.specs.declared.orders.Order.TheVariants.{Empty, Outer, Inner, OuterInner, InnerOuter}
 use Rattle.interpreter.specs.declared.bindings.Bindings.{Bindings}
+use Rattle.interpreter.specs.declared.memo.Known.{Known}
 use Rattle.levels.specs.Interpreting.{nothing, scope}
 use Rattle.interpreter.specs.Cells.{bindings, scope_of, cell_at, bound_at}
 use Rattle.interpreter.specs.Orders.{join_of, less_of, has_level, linked_of, order_at}
-use Rattle.interpreter.specs.Memo.{seen_by, is_known, kept}
+use Rattle.interpreter.specs.Memo.{known, none, same, seen_by, is_known, kept}
 use Rattle.interpreter.specs.Walking.{leaf_of, waits_for}
 use Rattle.interpreter.specs.Naming.{next_of}
 
@@ -163,13 +164,12 @@ pub seen-is : (s : Bindings) (w : Order) (a b : Bool) (x y : ℕ) → a ≡ has_
 unfolding seen_by
 seen-is s w a b x y p q r t = rw (q, t, p, r)
 
-pub known_is : (memo : List ℕ) (i : ℕ) (seen : Bindings)
-    → (not (eqb (get_or memo (3 * i) 0) 0) && (eqb (get_or memo (3 * i + 1) 0) seen.outer && eqb (get_or memo (3 * i + 2) 0) seen.inner)) ≡ is_known memo i seen
+pub known_is : (memo : List Known) (i : ℕ) (seen : Bindings) (b : Bool) → b ≡ same (get_or memo i none).seen seen
+    → (not (eqb (get_or memo i none).cell 0) && b) ≡ is_known memo i seen
 unfolding is_known
-known_is memo i seen = refl
+known_is memo i seen b e = ap (λ (x : Bool). not (eqb (get_or memo i none).cell 0) && x) e
 
-pub kept-is : (memo : List ℕ) (i : ℕ) (seen : Bindings) (cell : ℕ)
-    → set (set (set memo (3 * i) cell) (3 * i + 1) seen.outer) (3 * i + 2) seen.inner ≡ kept memo i seen cell
+pub kept-is : (memo : List Known) (i : ℕ) (seen : Bindings) (cell : ℕ) → set memo i (known cell seen) ≡ kept memo i seen cell
 unfolding kept
 kept-is memo i seen cell = refl
 

@@ -9,7 +9,7 @@ use Rattle.members.specs.declared.Member.{Member}
 use Rattle.rules.specs.declared.Value.{Value}
 use Rattle.rules.specs.Windows.{readings_in}
 use Rattle.values.specs.declared.runs.Tally.{Tally}
-use Rattle.values.specs.Tallies.{begun, stepped, gathered, finished, Within, Steps}
+use Rattle.values.specs.Tallies.{is_stopped, begun, stepped, gathered, finished, Within, Steps}
 use Rattle.values.specs.TallyLaws.{stopped-stays, finished-is, within_more}
 use Rattle.values.specs.WindowLaws.{readings-short}
 use Rattle.values.specs.Packing.{unpack_of}
@@ -18,6 +18,7 @@ use Rattle.layout.specs.Nodes.{member_kind}
 use Rattle.layout.specs.Held.{record_at}
 use Rattle.interpreter.specs.declared.orders.Order.{Order}
 use Rattle.interpreter.specs.declared.bindings.Bindings.{Bindings}
+use Rattle.interpreter.specs.declared.memo.Known.{Known}
 use Rattle.levels.specs.Interpreting.{ran}
 use Rattle.interpreter.specs.Standing.{Stands}
 use Rattle.interpreter.specs.Cells.{scope_of}
@@ -36,7 +37,7 @@ module _ (xs : List ℤ) (R : List ℕ) (orders : List Order) (s : Bindings) (f 
     pub sums-within : length zs ≤ 65535 → k < length zs → Within 65534 t
     sums-within l h = within_more k 65534 t (omega arith) so.within
 
-    pub sums-more : k < length zs → (memo : List ℕ) (r : ℕ) (y : ℤ) → Ran xs R orders s f y memo r → y ≡ get_or zs k (pos 0) → (v : Value) → v ≡ unpack_of r
+    pub sums-more : k < length zs → (memo : List Known) (r : ℕ) (y : ℤ) → Ran xs R orders s f y memo r → y ≡ get_or zs k (pos 0) → (v : Value) → v ≡ unpack_of r
         → (u : Tally) → Steps t v u → Sums zs u (k + 1)
     unfolding gathered
     sums-more h memo r y once at v e u st =
@@ -52,14 +53,14 @@ module _ (xs : List ℤ) (R : List ℕ) (orders : List Order) (s : Bindings) (f 
     abbrev zs : List ℤ
     zs = readings_in xs from count
 
-    over_by : (t : Tally) → ((F : Form) → Stands (record_at R) f F → t ≡ gathered begun (results F zs)) → (memo : List ℕ) → Keeps xs R orders memo → (kind r : ℕ)
+    over_by : (t : Tally) → ((F : Form) → Stands (record_at R) f F → t ≡ gathered begun (results F zs)) → (memo : List Known) → Keeps xs R orders memo → (kind r : ℕ)
         → ((m : Member) → kind ≡ member_kind m → unpack_of r ≡ finished m t) → Over xs R orders s f kind from count memo r
     over_by t same memo keeps kind r end =
         record { right = λ m k F z. end m k ∙ ap (finished m) (same F z) ∙ finished-is m (results F zs); keeps = keeps }
 
-    module _ (window : List ℤ) (e : window ≡ zs) (t : Tally) (k : ℕ) (so : Sums window t k) (memo : List ℕ) (keeps : Keeps xs R orders memo) (kind r : ℕ)
+    module _ (window : List ℤ) (e : window ≡ zs) (t : Tally) (k : ℕ) (so : Sums window t k) (memo : List Known) (keeps : Keeps xs R orders memo) (kind r : ℕ)
         (end : (m : Member) → kind ≡ member_kind m → unpack_of r ≡ finished m t) where
-      pub over-stopped : t.stopped ≡ true → Over xs R orders s f kind from count memo r
+      pub over-stopped : is_stopped t ≡ true → Over xs R orders s f kind from count memo r
       over-stopped h =
           over_by t (λ F z. sym (stopped-stays t (results F (drop k window)) h) ∙ so.same F z ∙ ap (λ (ys : List ℤ). gathered begun (results F ys)) e) memo keeps kind r end
 

@@ -32,6 +32,7 @@ use Rattle.layout.specs.declared.nodes.Shape.{Shape}
 use Rattle.interpreter.specs.declared.orders.Order.{Order}
 use Rattle.interpreter.specs.declared.orders.Order.TheVariants.{Empty, Outer, Inner, OuterInner, InnerOuter}
 use Rattle.interpreter.specs.declared.bindings.Bindings.{Bindings}
+use Rattle.interpreter.specs.declared.memo.Known.{Known}
 use Rattle.levels.specs.Interpreting.{Scope, stands_for, with, levels, is_open, judged, interpret, ran}
 use Rattle.interpreter.specs.InterpretingLaws.{Alike, interpret-alike, inside}
 use Rattle.interpreter.specs.Standing.{Stands, a_number, a_variable, an_unbound, the_readings, a_function, an_ask, a_call}
@@ -39,7 +40,7 @@ use Rattle.interpreter.specs.StandingLaws.{IsFunction, IsMember, a-function, a-m
 use Rattle.interpreter.specs.Cells.{bindings, scope_of, bound_at}
 use Rattle.interpreter.specs.Orders.{listed, has_level}
 use Rattle.interpreter.specs.OrdersLaws.{level-of, has_listed}
-use Rattle.interpreter.specs.Memo.{seen_by, is_known, kept, memo_cells, Remembers}
+use Rattle.interpreter.specs.Memo.{known, none, same, seen_by, is_known, kept, Remembers}
 use Rattle.interpreter.specs.Walking.{leaf_of, waits_for, Bound, Keeps, Ready, Comes, Ran, Over}
 
 -- ---- the scope of bindings
@@ -101,19 +102,20 @@ seen_alike s t w e k q =
     (λ z. rw z (ap unpack_of (same_if (has_level w 0) _ _ (outer-has w k (eqb-true k 0 z) q) (ap (λ (b : Bindings). b.outer) e))))
     (λ z. rw z (ap unpack_of (same_if (has_level w 1) _ _ (inner-has w k z q) (ap (λ (b : Bindings). b.inner) e))))
 
-known-seen : (memo : List ℕ) (i : ℕ) (seen : Bindings) → is_known memo i seen ≡ true
-    → (get_or memo (3 * i + 1) 0 ≡ seen.outer) × (get_or memo (3 * i + 2) 0 ≡ seen.inner)
+same-is : (s t : Bindings) → same s t ≡ true → s ≡ t
+same-is s t h =
+    let e = (and-eq-true_iff (eqb s.outer t.outer) _).0 h in
+    λ j. bindings (eqb-true _ _ e.0 j) (eqb-true _ _ e.1 j)
+
+known-seen : (memo : List Known) (i : ℕ) (seen : Bindings) → is_known memo i seen ≡ true → (get_or memo i none).seen ≡ seen
 unfolding is_known
-known-seen memo i seen h =
-    let a = ((and-eq-true_iff (not (eqb (get_or memo (3 * i) 0) 0)) _).0 h).1 in
-    let b = (and-eq-true_iff (eqb (get_or memo (3 * i + 1) 0) seen.outer) _).0 a in
-    (eqb-true _ _ b.0, eqb-true _ _ b.1)
+known-seen memo i seen h = same-is _ _ ((and-eq-true_iff (not (eqb (get_or memo i none).cell 0)) _).0 h).1
 
 -- ---- the walk at record i
 
-module _ (xs : List ℤ) (R : List ℕ) (orders : List Order) (s : Bindings) (i : ℕ) (memo : List ℕ) (ready : Ready xs R orders s i memo) where
+module _ (xs : List ℤ) (R : List ℕ) (orders : List Order) (s : Bindings) (i : ℕ) (memo : List Known) (ready : Ready xs R orders s i memo) where
   -- what is remembered may have become more
-  pub ready-later : (after : List ℕ) → Keeps xs R orders after → Ready xs R orders s i after
+  pub ready-later : (after : List Known) → Keeps xs R orders after → Ready xs R orders s i after
   ready-later after k =
       record {
         few = ready.few;
@@ -133,57 +135,29 @@ module _ (xs : List ℤ) (R : List ℕ) (orders : List Order) (s : Bindings) (i 
   abbrev w : Order
   w = get_or orders i Empty
 
-  pub known-comes : (seen : Bindings) → seen ≡ seen_by s w → (b : Bool) → b ≡ is_known memo i seen → b ≡ true → Comes xs R orders s i memo (get_or memo (3 * i) 0)
+  pub known-comes : (seen : Bindings) → seen ≡ seen_by s w → (b : Bool) → b ≡ is_known memo i seen → b ≡ true → Comes xs R orders s i memo (get_or memo i none).cell
   known-comes seen e b q h =
       record { right = λ F t. ready.keeps.remembers i F ready.low t s (rw (← e) (sym q ∙ h)); keeps = ready.keeps }
 
-  -- the cells of record i, and of another one
-  module _ (after : List ℕ) (size : length after ≡ memo_cells) (seen : Bindings) (c : ℕ) where
-    abbrev one : List ℕ
-    one = set after (3 * i) c
-
-    abbrev two : List ℕ
-    two = set one (3 * i + 1) seen.outer
-
-    kept-value : get_or (kept after i seen c) (3 * i) 0 ≡ c
+  -- what is kept of record i, and of another one
+  module _ (after : List Known) (size : length after ≡ text_parts) (seen : Bindings) (c : ℕ) where
+    kept-here : get_or (kept after i seen c) i none ≡ known c seen
     unfolding kept
-    kept-value =
-        get_or-set_other two (3 * i + 2) (3 * i) seen.inner 0 (λ e. omega arith)
-        ∙ get_or-set_other one (3 * i + 1) (3 * i) seen.outer 0 (λ e. omega arith)
-        ∙ get_or-set_same after (3 * i) c 0 (omega (arith, ready.low))
+    kept-here = get_or-set_same after i (known c seen) none (omega (arith, ready.low))
 
-    kept-outer : get_or (kept after i seen c) (3 * i + 1) 0 ≡ seen.outer
+    kept-other : (j : ℕ) → (j ≡ i → ⊥) → get_or (kept after i seen c) j none ≡ get_or after j none
     unfolding kept
-    kept-outer =
-        get_or-set_other two (3 * i + 2) (3 * i + 1) seen.inner 0 (λ e. omega arith)
-        ∙ get_or-set_same one (3 * i + 1) seen.outer 0 (omega (arith, ready.low, length-set after (3 * i) c))
+    kept-other j u = get_or-set_other after i j (known c seen) none (λ e. u (omega arith))
 
-    kept-inner : get_or (kept after i seen c) (3 * i + 2) 0 ≡ seen.inner
+    kept-size : length (kept after i seen c) ≡ text_parts
     unfolding kept
-    kept-inner = get_or-set_same two (3 * i + 2) seen.inner 0 (omega (arith, ready.low, length-set after (3 * i) c, length-set one (3 * i + 1) seen.outer))
-
-    kept-other : (j d : ℕ) → (j ≡ i → ⊥) → d < 3 → get_or (kept after i seen c) (3 * j + d) 0 ≡ get_or after (3 * j + d) 0
-    unfolding kept
-    kept-other j d u h =
-        get_or-set_other two (3 * i + 2) (3 * j + d) seen.inner 0 (λ e. u (omega arith))
-        ∙ get_or-set_other one (3 * i + 1) (3 * j + d) seen.outer 0 (λ e. u (omega arith))
-        ∙ get_or-set_other after (3 * i) (3 * j + d) c 0 (λ e. u (omega arith))
-
-    kept-size : length (kept after i seen c) ≡ memo_cells
-    unfolding kept
-    kept-size = length-set two (3 * i + 2) seen.inner ∙ length-set one (3 * i + 1) seen.outer ∙ length-set after (3 * i) c ∙ size
-
-    kept-first : (j : ℕ) → (j ≡ i → ⊥) → get_or (kept after i seen c) (3 * j) 0 ≡ get_or after (3 * j) 0
-    kept-first j u =
-        let o : 3 * j ≡ 3 * j + 0 = omega arith in
-        ap (λ (d : ℕ). get_or (kept after i seen c) d 0) o ∙ kept-other j 0 u (omega arith) ∙ ap (λ (d : ℕ). get_or after d 0) (sym o)
+    kept-size = length-set after i (known c seen) ∙ size
 
     kept-elsewhere : (j : ℕ) (t : Bindings) → (j ≡ i → ⊥) → is_known (kept after i seen c) j t ≡ is_known after j t
     unfolding is_known
-    kept-elsewhere j t u =
-        λ k. not (eqb (kept-first j u k) 0) && (eqb (kept-other j 1 u (omega arith) k) t.outer && eqb (kept-other j 2 u (omega arith) k) t.inner)
+    kept-elsewhere j t u = ap (λ (k : Known). not (eqb k.cell 0) && same k.seen t) (kept-other j u)
 
-  pub kept-comes : (after : List ℕ) (seen : Bindings) (c : ℕ) → Comes xs R orders s i after c → seen ≡ seen_by s w → (last : List ℕ) → last ≡ kept after i seen c
+  pub kept-comes : (after : List Known) (seen : Bindings) (c : ℕ) → Comes xs R orders s i after c → seen ≡ seen_by s w → (last : List Known) → last ≡ kept after i seen c
       → Comes xs R orders s i last c
   kept-comes after seen c done e last q =
       record {
@@ -194,9 +168,7 @@ module _ (xs : List ℤ) (R : List ℕ) (orders : List Order) (s : Bindings) (i 
       here : (F : Form) → Stands ν i F → (t : Bindings) → is_known (kept after i seen c) i (seen_by t w) ≡ true → unpack_of c ≡ interpret xs (scope_of t) F
       here F z t h =
           let k = known-seen (kept after i seen c) i (seen_by t w) h in
-          let a : seen.outer ≡ (seen_by t w).outer = sym (kept-outer after done.keeps.size seen c) ∙ k.0 in
-          let b : seen.inner ≡ (seen_by t w).inner = sym (kept-inner after done.keeps.size seen c) ∙ k.1 in
-          let u : seen_by s w ≡ seen_by t w = sym e ∙ (λ j. bindings (a j) (b j)) in
+          let u : seen_by s w ≡ seen_by t w = sym e ∙ sym (ap (λ (o : Known). o.seen) (kept-here after done.keeps.size seen c)) ∙ k in
           done.right F z
           ∙ interpret-alike xs (scope_of s) (scope_of t) F
           (subst (Alike (scope_of s) (scope_of t)) (ready.ordered.right i F ready.below z) (seen_alike s t w u))
@@ -209,15 +181,15 @@ module _ (xs : List ℤ) (R : List ℕ) (orders : List Order) (s : Bindings) (i 
           | no r ↦
               let y : j ≡ i = omega arith in
               let h' = subst (λ (d : ℕ). is_known (kept after i seen c) d (seen_by t (get_or orders d Empty)) ≡ true) y h in
-              ap (λ (d : ℕ). unpack_of (get_or (kept after i seen c) (3 * d) 0)) y
-              ∙ ap unpack_of (kept-value after done.keeps.size seen c) ∙ here F (subst (λ (d : ℕ). Stands ν d F) y z) t h'
+              ap (λ (d : ℕ). unpack_of (get_or (kept after i seen c) d none).cell) y
+              ∙ ap (λ (o : Known). unpack_of o.cell) (kept-here after done.keeps.size seen c) ∙ here F (subst (λ (d : ℕ). Stands ν d F) y z) t h'
         ]
       ]
         where
           there : (j : ℕ) (F : Form) → j < text_parts → Stands ν j F → (t : Bindings) → is_known (kept after i seen c) j (seen_by t (get_or orders j Empty)) ≡ true → (j ≡ i → ⊥)
-              → unpack_of (get_or (kept after i seen c) (3 * j) 0) ≡ interpret xs (scope_of t) F
+              → unpack_of (get_or (kept after i seen c) j none).cell ≡ interpret xs (scope_of t) F
           there j F l z t h u =
-              ap unpack_of (kept-first after done.keeps.size seen c j u)
+              ap (λ (o : Known). unpack_of o.cell) (kept-other after done.keeps.size seen c j u)
               ∙ done.keeps.remembers j F l z t (sym (kept-elsewhere after done.keeps.size seen c j (seen_by t (get_or orders j Empty)) u) ∙ h)
 
   -- ---- by the record's kind
@@ -249,7 +221,7 @@ module _ (xs : List ℤ) (R : List ℕ) (orders : List Order) (s : Bindings) (i 
         by _ (a_call _ m f a F A k g d t c v) = no _ k (omega arith)
 
     -- Ready at a record before this one
-    lower : (t : Bindings) → Bound xs t → (j : ℕ) → j < i → (F : Form) → Stands ν j F → (after : List ℕ) → Keeps xs R orders after → Ready xs R orders t j after
+    lower : (t : Bindings) → Bound xs t → (j : ℕ) → j < i → (F : Form) → Stands ν j F → (after : List Known) → Keeps xs R orders after → Ready xs R orders t j after
     lower t b j h F z after k =
         record {
           few = ready.few;
@@ -283,7 +255,7 @@ module _ (xs : List ℤ) (R : List ℕ) (orders : List Order) (s : Bindings) (i 
         inner : scope_of t ≡ with (scope_of s) x.level (unpack_of c)
         inner = ap scope_of e ∙ scope-bound s x.level c
 
-        module _ (after : List ℕ) (base : ℕ) (done : Comes xs R orders t (x.first - 1) after base) where
+        module _ (after : List Known) (base : ℕ) (done : Comes xs R orders t (x.first - 1) after base) where
           -- with its own variable delayed, and on a reading
           pub function-comes : unpack_of c ≡ Delayed → (r : ℕ) → unpack_of r ≡ judged (waits_for (scope_of s) w) (unpack_of base) → Comes xs R orders s i after r
           unfolding interpret
@@ -341,7 +313,7 @@ module _ (xs : List ℤ) (R : List ℕ) (orders : List Order) (s : Bindings) (i 
       pub member-ready : Ready xs R orders s (x.first - 1) memo
       member-ready = lower s ready.bound (x.first - 1) own-member.low own-member.receiver own-member.stands memo ready.keeps
 
-      module _ (after : List ℕ) (a : ℕ) (first : Comes xs R orders s (x.first - 1) after a) where
+      module _ (after : List Known) (a : ℕ) (first : Comes xs R orders s (x.first - 1) after a) where
         pub ask-comes : x.second ≡ 0 → (r : ℕ) → ((m : Member) → x.kind ≡ member_kind m → unpack_of r ≡ apply0 m xs (unpack_of a)) → Comes xs R orders s i after r
         unfolding interpret
         ask-comes e r u = record { right = λ F z. by F z (found-member F z); keeps = first.keeps }
@@ -370,10 +342,10 @@ module _ (xs : List ℤ) (R : List ℕ) (orders : List Order) (s : Bindings) (i 
           pub second-low : x.second - 1 < i
           second-low = (own-member.lower u).1
 
-          pub second-ready : (late : List ℕ) → Keeps xs R orders late → Ready xs R orders s (x.second - 1) late
+          pub second-ready : (late : List Known) → Keeps xs R orders late → Ready xs R orders s (x.second - 1) late
           second-ready late g = lower s ready.bound (x.second - 1) (own-member.lower u).1 own-member.argument (own-member.given u).0 late g
 
-          module _ (late : List ℕ) (b : ℕ) (second : Comes xs R orders s (x.second - 1) late b) (o : Applied)
+          module _ (late : List Known) (b : ℕ) (second : Comes xs R orders s (x.second - 1) late b) (o : Applied)
               (out : (m : Member) → x.kind ≡ member_kind m → o ≡ applied1 m xs (unpack_of a) (unpack_of b)) where
             -- the member's value, once its runs are known
             whole : (F : Form) → (f : IsMember ν i n F) → (v : Value)
@@ -393,7 +365,7 @@ module _ (xs : List ℤ) (R : List ℕ) (orders : List Order) (s : Bindings) (i 
                   keeps = second.keeps;
                 }
 
-            pub run-comes : (from count : ℕ) → o ≡ Run from count → (end : List ℕ) (r : ℕ) → Over xs R orders s (x.second - 1) x.kind from count end r → Comes xs R orders s i end r
+            pub run-comes : (from count : ℕ) → o ≡ Run from count → (end : List Known) (r : ℕ) → Over xs R orders s (x.second - 1) x.kind from count end r → Comes xs R orders s i end r
             unfolding completed
             run-comes from count d end r v =
                 record {

@@ -8,7 +8,7 @@ ghost use Rattle.interpreter.specs.Cells.{scope_of, cell_at, bound_at};
 use values::packing::Packed;
 
 // The packed value of the variable of level 0, and of that of level 1.
-#[derive(Clone, Copy)]
+#[derive(Clone, Copy, PartialEq, Eq)]
 pub struct Bindings {
     pub outer: u64,
     pub inner: u64,

@@ -1,17 +1,28 @@
 // What records came to, each for the bindings that it was last worked out for, as far as it awaits them. So a let's value, and all else that a
-// run does not change, is worked out once. Three cells a record: its packed value, 0 for none, and the two bindings.
+// run does not change, is worked out once.
 #![tactic(auto, using(crate::proofs::Paths::paths))]
 
-ghost use Rattle.std.specs.Prelude.{◌≡◌, cond, ◌<◌, length};
+ghost use Rattle.std.specs.Prelude.{◌≡◌, cond, ◌<◌};
 ghost use Rattle.language.specs.Limits.{text_parts};
-ghost use Rattle.interpreter.specs.Memo.{memo_cells, seen_by, is_known, kept};
+ghost use Rattle.interpreter.specs.Memo.{seen_by, is_known, kept};
 
 use crate::bindings::Bindings;
 use crate::orders::{Order, has_level};
 use language::limits::Text;
 
-// The cells of the records that a text can have.
-pub const MEMO_CELLS: usize = 3 * Text::PARTS;
+// What a record came to, as a cell, and the bindings that it is for. A cell of 0 is no value: an `Option` would take a fourth word.
+#[derive(Clone, Copy)]
+pub struct Known {
+    pub cell: u64,
+    pub seen: Bindings,
+}
+
+impl Known {
+    pub const NONE: Known = Known {
+        cell: 0,
+        seen: Bindings { outer: 0, inner: 0 },
+    };
+}
 
 // A binding that is awaited, and otherwise 0.
 fn only(awaited: bool, cell: u64) -> u64
@@ -31,21 +42,18 @@ pub fn seen_by(s: Bindings, w: Order) -> Bindings
 }
 
 // Whether the value of record i is known for these.
-pub fn is_known(memo: &[u64; MEMO_CELLS], i: u16, seen: Bindings) -> bool
+pub fn is_known(memo: &[Known; Text::PARTS], i: u16, seen: Bindings) -> bool
     requires { i < text_parts }
     ensures { result ≡ is_known memo.now i seen }
 {
-    let at = 3 * i as usize;
-    (memo[at] != 0) & ((memo[at + 1] == seen.outer) & (memo[at + 2] == seen.inner))
+    let known = memo[i as usize];
+    (known.cell != 0) & (known.seen == seen)
 }
 
 // The value of record i for these is known.
-pub fn keep(memo: &mut [u64; MEMO_CELLS], i: u16, seen: Bindings, cell: u64)
-    requires { (i < text_parts) × (length memo.old ≡ memo_cells) }
+pub fn keep(memo: &mut [Known; Text::PARTS], i: u16, seen: Bindings, cell: u64)
+    requires { i < text_parts }
     ensures { memo.new ≡ kept memo.old i seen cell }
 {
-    let at = 3 * i as usize;
-    memo[at] = cell;
-    memo[at + 1] = seen.outer;
-    memo[at + 2] = seen.inner;
+    memo[i as usize] = Known { cell, seen };
 }

@@ -1,7 +1,7 @@
 // The levels of the variables that records await, in the order of first occurrence.
 #![tactic(auto, using(crate::proofs::Paths::paths))]
 
-ghost use Rattle.std.specs.Prelude.{◌≡◌, ◌≤◌, ◌<◌, length};
+ghost use Rattle.std.specs.Prelude.{◌≡◌, ◌≤◌};
 ghost use Rattle.language.specs.Limits.{text_parts};
 ghost use Rattle.layout.specs.Held.{record_at};
 ghost use Rattle.interpreter.specs.Orders.{join_of, less_of, has_level, linked_of, order_at, Ordered};
@@ -27,10 +27,7 @@ fn join(w: Order, u: Order) -> Order
         Order::Empty => u,
         Order::Outer if has_level(u, 1) => Order::OuterInner,
         Order::Inner if has_level(u, 0) => Order::InnerOuter,
-        Order::Outer => w,
-        Order::Inner => w,
-        Order::OuterInner => w,
-        Order::InnerOuter => w,
+        _ => w,
     }
 }
 
@@ -100,7 +97,7 @@ fn order_at(records: &[u64; TEXT_WORDS], orders: &[Order; Text::PARTS], i: u16) 
 
 // What each of the first n records awaits.
 pub fn order_all(records: &[u64; TEXT_WORDS], n: u16, orders: &mut [Order; Text::PARTS])
-    requires { (n ≤ text_parts) × (length orders.old ≡ text_parts) }
+    requires { n ≤ text_parts }
     ensures { Ordered (record_at records.now) n orders.new }
 {
     for i in 0..n {

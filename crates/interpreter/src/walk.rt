@@ -12,7 +12,7 @@ ghost use Rattle.interpreter.specs.Cells.{scope_of};
 ghost use Rattle.interpreter.specs.Walking.{waits_for, Ready, Comes, Ran, Over};
 
 use crate::bindings::{Bindings, bind, cell_at};
-use crate::memo::{MEMO_CELLS, is_known, keep, seen_by};
+use crate::memo::{Known, is_known, keep, seen_by};
 use crate::orders::{Order, has_level};
 use columns::calling::{self, ask, call_numbers, conclude};
 use columns::leaves::{function, leaf};
@@ -53,7 +53,7 @@ fn call(kind: u16, readings: &[i32], a: u64, b: u64) -> Applied
 
 // A run of record f on a reading, which only a function does.
 #[cycle(over_ran_value_work)]
-fn ran(source: &Source, s: Bindings, f: u16, z: i32, memo: &mut [u64; MEMO_CELLS]) -> u64
+fn ran(source: &Source, s: Bindings, f: u16, z: i32, memo: &mut [Known; Text::PARTS]) -> u64
     requires { Ready source.now.readings.now source.now.records.now source.now.orders.now s f memo.old }
     ensures { Ran source.now.readings.now source.now.records.now source.now.orders.now s f z memo.new result }
 {
@@ -75,7 +75,7 @@ fn over(
     kind: u16,
     from: u16,
     count: u16,
-    memo: &mut [u64; MEMO_CELLS],
+    memo: &mut [Known; Text::PARTS],
 ) -> u64
     requires { Ready source.now.readings.now source.now.records.now source.now.orders.now s f memo.old }
     ensures { Over source.now.readings.now source.now.records.now source.now.orders.now s f kind from count memo.new result }
@@ -84,7 +84,7 @@ fn over(
     for z in part(source.readings, from, count) {
         let c = ran(source, s, f, *z, memo);
         t = step(t, unpack(c));
-        if t.stopped {
+        if t.stopped.is_some() {
             return conclude(kind, t);
         }
     }
@@ -93,7 +93,7 @@ fn over(
 
 // What record i comes to, by its kind.
 #[cycle(over_ran_value_work)]
-fn work(source: &Source, s: Bindings, i: u16, memo: &mut [u64; MEMO_CELLS]) -> u64
+fn work(source: &Source, s: Bindings, i: u16, memo: &mut [Known; Text::PARTS]) -> u64
     requires { Ready source.now.readings.now source.now.records.now source.now.orders.now s i memo.old }
     ensures { Comes source.now.readings.now source.now.records.now source.now.orders.now s i memo.new result }
 {
@@ -133,13 +133,13 @@ fn work(source: &Source, s: Bindings, i: u16, memo: &mut [u64; MEMO_CELLS]) -> u
 
 // What record i comes to: as it is known for these bindings, or worked out.
 #[cycle(over_ran_value_work)]
-pub fn value(source: &Source, s: Bindings, i: u16, memo: &mut [u64; MEMO_CELLS]) -> u64
+pub fn value(source: &Source, s: Bindings, i: u16, memo: &mut [Known; Text::PARTS]) -> u64
     requires { Ready source.now.readings.now source.now.records.now source.now.orders.now s i memo.old }
     ensures { Comes source.now.readings.now source.now.records.now source.now.orders.now s i memo.new result }
 {
     let seen = seen_by(s, source.orders[i as usize]);
     if is_known(memo, i, seen) {
-        return memo[3 * i as usize];
+        return memo[i as usize].cell;
     }
     let r = work(source, s, i, memo);
     keep(memo, i, seen, r);

@@ -2,11 +2,11 @@
 // append wait in its frame, two words each.
 #![tactic(auto, using(crate::specs::KindsLaws::kinds), unfolding(crate::specs::Memory::node_at, crate::specs::Held::fresh_at, crate::specs::Held::record_at, crate::specs::Held::held_at, crate::specs::Held::with_fresh))]
 
-ghost use Rattle.std.specs.Prelude.{◌≡◌, ℕ, ◌-◌, ◌<◌, ◌≤◌, length};
+ghost use Rattle.std.specs.Prelude.{◌≡◌, ℕ, ◌-◌, ◌<◌, ◌≤◌};
 ghost use Rattle.language.specs.Limits.{text_parts};
 ghost use Rattle.layout.specs.Memory.{Node, node_at};
 ghost use Rattle.layout.specs.Nodes.{member_of_kind};
-ghost use Rattle.layout.specs.Held.{shaped, fresh_at, record_at, row_in, entry_in, with_fresh, text_words, entry_base, word_in, packed_at};
+ghost use Rattle.layout.specs.Held.{shaped, fresh_at, record_at, row_in, entry_in, with_fresh, entry_base, word_in, packed_at};
 
 use crate::cells::{first_of, get_or, key_of, kind_of, level_of, second_of};
 use language::limits::Text;
@@ -22,11 +22,6 @@ pub const KIND_BASE: u64 = 32;
 pub const ENTRY_BASE: u64 = 1024;
 
 pub const RECORD_BASE: u64 = 256;
-
-// The weights of the second link of a record, and of its level, in such a word.
-pub const RECORD_WEIGHT: u64 = KIND_BASE * RECORD_BASE;
-
-pub const RECORD_LEVEL: u64 = RECORD_WEIGHT * RECORD_BASE;
 
 // What an entry is but for its results. A link is one more than a number, 0 for none, as in a cell of lent memory.
 #[derive(Clone, Copy, PartialEq, Eq)]
@@ -171,7 +166,7 @@ pub fn record_at(records: &[u64], r: u16) -> Shape
 
 // x waits at place i.
 pub fn add_fresh(fresh: &mut [u64; TEXT_WORDS], i: u16, x: Shape)
-    requires { (i < text_parts) × (length fresh.old ≡ text_words) }
+    requires { i < text_parts }
     ensures { fresh.new ≡ with_fresh fresh.old i (shaped x) }
 {
     let at = 2 * i as usize;

@@ -1,5 +1,5 @@
 -- The tokens that lex_at finds, one behind the other, are the tokens of the text. Assumes nothing.
-use Rattle.std.specs.Prelude.{◌≡◌, Bool, true, false, cond, ◌||◌, ℕ, zero, suc, ◌+◌, ◌-◌, ◌≤◌, ◌<◌, ℤ, length, get_or}
+use Rattle.std.specs.Prelude.{◌≡◌, Bool, true, false, cond, ◌||◌, ℕ, zero, suc, ◌+◌, ◌-◌, ◌≤◌, ◌<◌, ℤ, length, get_or, Some, None}
 use Rattle.std.proofs.Math.Path.{refl, ap}
 use Rattle.std.proofs.Common.{sym, ◌∙◌, true≢false, add-zero, length-drop, drop-drop, take_all, ltb-false}
 use mathlib.Core.List.{List, [], ◌∷◌}
@@ -12,7 +12,6 @@ use Rattle.grammar.specs.Tokens.{Token, k_let, k_in, k_equals, k_lambda, k_arrow
 use Rattle.lexer.specs.declared.tokens.Lexed.{Lexed}
 use Rattle.lexer.specs.declared.tokens.TokenKind.{TokenKind}
 use Rattle.lexer.specs.declared.tokens.TokenKind.TheVariants as K
-use Rattle.std.specs.Prelude.{Some, None}
 use Rattle.lexer.specs.Lexing.{token_kind, kind_number, placed, ended, place_from, front_at, lex_at, tokens_from, bytes_at, value_of, judged, name_at, token_for}
 use Rattle.lexer.specs.TokenLaws.{Spans, token-spans}
 

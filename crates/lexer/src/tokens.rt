@@ -1,6 +1,5 @@
 // Tokens from the lent bytes, at a place. Nothing is copied: a token is its kind and where it stands.
-ghost use Rattle.std.specs.Prelude.{Bool, ℕ, ◌≡◌, ◌+◌, ◌*◌, ◌-◌, ◌<◌, ◌≤◌, min, pos, neg_ℤ, length, drop};
-ghost use Rattle.std.specs.Prelude.{take_while};
+ghost use Rattle.std.specs.Prelude.{Bool, ℕ, ◌≡◌, ◌+◌, ◌*◌, ◌-◌, ◌<◌, ◌≤◌, min, pos, neg_ℤ, length, drop, take_while};
 ghost use Rattle.language.specs.Names.{is_long};
 ghost use Rattle.members.specs.Members.{member_of};
 ghost use Rattle.grammar.specs.Tokens.{word_token, word_at, digits_at, minus_at, mark_token, decimal};
@@ -219,40 +218,42 @@ fn negative(m: u64) -> Option<i32>
     }
 }
 
-// The value of the number token from `start` up to `end`, if it is within signed 32 bits.
-pub fn number(text: &[u8], start: usize, end: usize) -> Option<i32>
-    ensures { result ≡ judged (value_of (bytes_at text.now start end)) }
-{
-    let bytes = part(text, start, end);
-    if bytes.is_empty() {
-        return Some(0);
+impl Lexed {
+    // The value of the number token, if it is within signed 32 bits.
+    pub fn number(self, text: &[u8]) -> Option<i32>
+        ensures { result ≡ judged (value_of (bytes_at text.now self.start self.end)) }
+    {
+        let bytes = part(text, self.start, self.end);
+        if bytes.is_empty() {
+            return Some(0);
+        }
+        // No slice pattern: the arm behind it would be told nothing of the first byte.
+        if bytes[0] == b'-' {
+            negative(value(&bytes[1..]))
+        } else {
+            non_negative(value(bytes))
+        }
     }
-    // No slice pattern: the arm behind it would be told nothing of the first byte.
-    if bytes[0] == b'-' {
-        negative(value(&bytes[1..]))
-    } else {
-        non_negative(value(bytes))
+
+    // Whether the word is too long for a name.
+    pub fn is_long(self, text: &[u8]) -> bool
+        ensures { result ≡ is_long (bytes_at text.now self.start self.end) }
+    {
+        Text::NAME_BYTES < part(text, self.start, self.end).len()
     }
-}
 
-// Whether the word from `start` up to `end` is too long for a name.
-pub fn is_long(text: &[u8], start: usize, end: usize) -> bool
-    ensures { result ≡ is_long (bytes_at text.now start end) }
-{
-    Text::NAME_BYTES < part(text, start, end).len()
-}
+    // The name, packed; of its first `Text::NAME_BYTES` where it is too long.
+    pub fn name(self, text: &[u8]) -> u64
+        ensures { result ≡ name_at (bytes_at text.now self.start self.end) }
+    {
+        let word = part(text, self.start, self.end);
+        names::pack(&word[..Text::NAME_BYTES.min(word.len())])
+    }
 
-// The name from `start` up to `end`, packed; of its first `Text::NAME_BYTES` where it is too long.
-pub fn name(text: &[u8], start: usize, end: usize) -> u64
-    ensures { result ≡ name_at (bytes_at text.now start end) }
-{
-    let word = part(text, start, end);
-    names::pack(&word[..Text::NAME_BYTES.min(word.len())])
-}
-
-// The member that the word from `start` up to `end` names.
-pub fn member(text: &[u8], start: usize, end: usize) -> Option<Member>
-    ensures { result ≡ member_of (bytes_at text.now start end) }
-{
-    members::named(part(text, start, end))
+    // The member that the word names.
+    pub fn member(self, text: &[u8]) -> Option<Member>
+        ensures { result ≡ member_of (bytes_at text.now self.start self.end) }
+    {
+        members::named(part(text, self.start, self.end))
+    }
 }

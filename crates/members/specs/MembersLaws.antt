@@ -267,31 +267,30 @@ module _ (w : List ℕ) (n : ℕ) (h : n ≡ min (length w) name_bytes) where
 
 -- ---- a packed name against a row
 
-module _ (n : ℕ) (x : Name) (f : Option Member) (at : f ≡ member_at n) where
-  pub named-known : (m : Member) (y : Name) (r : Bool) → f ≡ Some m → y ≡ packed_name (spelled m) → r ≡ same_packed x y
-      → r ≡ if_member false (member_at n) (λ k. same_packed x (packed_name (spelled k)))
-  named-known m y r e q p = p ∙ rw (q, ← at, e)
+module _ (n : ℕ) (w : List ℕ) (h : n < length members) where
+  row-yes : names_it w (member_at n) ≡ true → member_at n ≡ named_in (drop n members) w
+  unfolding member_at
+  row-yes t = rw (rest-row members n w h, t)
 
-  pub named_none : f ≡ None → false ≡ if_member false (member_at n) (λ k. same_packed x (packed_name (spelled k)))
-  named_none e = rw (← at, e)
+  row-no : names_it w (member_at n) ≡ false → named_in (drop (n + 1) members) w ≡ named_in (drop n members) w
+  unfolding member_at
+  row-no t = rw (add-one, rest-row members n w h, t)
 
-module _ (n : ℕ) (w : List ℕ) (x : Name) (is : (x ≡ packed_name w) × Each Byte w) (r : Bool)
-    (e : r ≡ if_member false (member_at n) (λ m. same_packed x (packed_name (spelled m)))) where
-  named-row : r ≡ names_it w (member_at n)
-  named-row = e ∙ by (member_at n)
-    where
-      by : (f : Option Member) → if_member false f (λ m. same_packed x (packed_name (spelled m))) ≡ names_it w f
-      by (Some m) = ap (λ (y : Name). same_packed y (packed_name (spelled m))) is.0 ∙ packed-bytes w (spelled m) is.1 (name-bytes m)
-      by None = refl
+  module _ (f : Option Member) (at : f ≡ member_at n) where
+    pub row-missing : f ≡ None → named_in (drop (n + 1) members) w ≡ named_in (drop n members) w
+    row-missing e = row-no (ap (names_it w) (sym at ∙ e))
 
-  module _ (h : n < length members) where
-    pub row_is : r ≡ true → member_at n ≡ named_in (drop n members) w
-    unfolding member_at
-    row_is t = rw (rest-row members n w h, sym named-row ∙ t)
+    module _ (x : Name) (is : (x ≡ packed_name w) × Each Byte w) (m : Member) (e : f ≡ Some m) (r : Bool) (p : r ≡ same_packed x (packed_name (spelled m))) where
+      named-row : names_it w (member_at n) ≡ r
+      named-row =
+          ap (names_it w) (sym at ∙ e) ∙ sym (packed-bytes w (spelled m) is.1 (name-bytes m))
+          ∙ ap (λ (y : Name). same_packed y (packed_name (spelled m))) (sym is.0) ∙ sym p
 
-    pub row-not : r ≡ false → named_in (drop (n + 1) members) w ≡ named_in (drop n members) w
-    unfolding member_at
-    row-not t = rw (add-one, rest-row members n w h, sym named-row ∙ t)
+      pub row_is : r ≡ true → Some m ≡ named_in (drop n members) w
+      row_is t = sym e ∙ at ∙ row-yes (named-row ∙ t)
+
+      pub row-not : r ≡ false → named_in (drop (n + 1) members) w ≡ named_in (drop n members) w
+      row-not t = row-no (named-row ∙ t)
 
 -- behind the last row there is none
 pub row-over : (n : ℕ) (w : List ℕ) (f : Option Member) → length members ≤ n → named_in (drop n members) w ≡ f → None ≡ f

@@ -1,9 +1,9 @@
 // The member table, and look-up in it. A member's number is its row.
 #![tactic(auto)]
 
-ghost use Rattle.std.specs.Prelude.{◌≡◌, false, ◌≤◌, length};
+ghost use Rattle.std.specs.Prelude.{◌≡◌, ◌≤◌, length};
 ghost use Rattle.language.specs.NamesLaws.{Each, Byte};
-ghost use Rattle.members.specs.Members.{listed, arguments, spelled, row, member_number, member_at, if_member, member_of};
+ghost use Rattle.members.specs.Members.{listed, arguments, spelled, row, member_number, member_at, member_of};
 ghost use Rattle.members.specs.Members.{longest_name, packed_name, same_packed};
 
 use language::limits::Text;
@@ -180,14 +180,11 @@ fn packed_name(word: &[u8]) -> Name
     Name(names::pack(front), names::pack(back), word.len())
 }
 
-// Whether it is the name of member n.
-fn is_named(n: u8, name: Name) -> bool
-    ensures { result ≡ if_member false (member_at n) (λ m. same_packed name (packed_name (spelled m))) }
+// Whether it is the member's name.
+fn is_named(m: Member, name: Name) -> bool
+    ensures { result ≡ same_packed name (packed_name (spelled m)) }
 {
-    match member_at(n) {
-        Some(m) => name == name_of(m),
-        None => false,
-    }
+    name == name_of(m)
 }
 
 // The most bytes of a name that is packed in two numbers.
@@ -202,8 +199,10 @@ pub fn named(word: &[u8]) -> Option<Member>
     }
     let name = packed_name(word);
     for n in 0..MEMBERS as u8 {
-        if is_named(n, name) {
-            return member_at(n);
+        if let Some(m) = member_at(n)
+            && is_named(m, name)
+        {
+            return Some(m);
         }
     }
     None

@@ -1,11 +1,10 @@
 // The plan of an edit: a text is read into records, these are bound to the entries held, and there is room for the new entries or the text is
 // declined. No lent cell is written.
-ghost use Rattle.std.specs.Prelude.{◌≡◌, true, List, ℕ, ◌≤◌, ℤ, length, get_or};
-ghost use Rattle.language.specs.Limits.{text_parts, table_entries};
+ghost use Rattle.std.specs.Prelude.{◌≡◌, true, List, ℕ, ◌≤◌, ℤ, get_or};
+ghost use Rattle.language.specs.Limits.{table_entries};
 ghost use Rattle.layout.specs.Memory.{node_at, memory};
 ghost use Rattle.table.specs.WellFormed.{distinct};
 ghost use Rattle.layout.specs.Numbered.{numbered};
-ghost use Rattle.layout.specs.Held.{text_words};
 ghost use Rattle.planner.specs.Plans.{Planned};
 
 use binder::bind::{bind, is_full};
@@ -33,7 +32,7 @@ pub fn plan_edit(
     numbers: &mut [u16; Text::PARTS],
     fresh: &mut [u64; TEXT_WORDS],
 ) -> Result<Plan, Refused>
-    requires fits_table { (count ≤ table_entries) × (length parts.old ≡ text_parts) × (length numbers.old ≡ text_parts) × (length fresh.old ≡ text_words) }
+    requires fits_table { count ≤ table_entries }
     requires no_two_equal { distinct (numbered (node_at links.now cells.now) 0 count) ≡ true }
     ensures { (readings : List ℤ) (heads : List ℕ) → get_or heads 0 0 ≡ count
         → Planned (memory readings heads links.now cells.now)

@@ -137,6 +137,7 @@ fn walk(links: &[u16], cells: &[u64], count: u16, entry: u16, s: Scope, found: u
     let mut n = node_at(links, cells, entry);
     let mut marks = s.marks;
     let mut met = found;
+    // No `for`: it goes from receiver to receiver.
     while Shape::FUNCTION < n.kind {
         met = open_call(s.marks, met);
         if met == DECLINED {

@@ -153,17 +153,14 @@ fn read_lambda(
     let h = cursor::lambda_head(text, x, w, marks, level, c)?;
     scratch::enter(depth, h.name, 0, scope);
     let r = expression(text, false, marks + 1, depth + 1, h, records, places, scope)?;
-    Ok(scratch::put(
-        r,
-        c.parts,
-        Shape::FUNCTION,
-        h.name,
-        r.root + 1,
-        0,
+    let record = Shape {
+        kind: Shape::FUNCTION,
+        key: h.name,
+        first: r.root + 1,
+        second: 0,
         level,
-        records,
-        places,
-    ))
+    };
+    Ok(scratch::put(r, c.parts, record, records, places))
 }
 
 // ( expression )

@@ -15,8 +15,10 @@ use Rattle.language.specs.Names.{is_long, packed, data_word}
 use Rattle.grammar.specs.Tokens.{when}
 use Rattle.grammar.proofs.TokensLaws.{by-test}
 use Rattle.records.specs.Records.{number_key}
+use Rattle.layout.specs.Held.{shaped, record_base, word_in}
 use Rattle.layout.specs.Memory.{node_with, node}
 use Rattle.layout.specs.Nodes.{number_kind, variable_kind, unbound_kind, readings_kind}
+use Rattle.layout.specs.declared.nodes.Shape.{Shape}
 use Rattle.descent.specs.Cursor as C
 use Rattle.descent.specs.Descent.{State, moved, then}
 use Rattle.descent.specs.Descent as D
@@ -35,16 +37,21 @@ use Rattle.steps.specs.CursorsLaws.{head-word, head-value, refused-number, refus
 use Rattle.steps.specs.Scratch.{Wrote, WroteIn, WroteFor, WroteCall, Linked, Recorded, ScopedRoom, NameRoom, NameAhead, NumberAhead}
 
 -- ---- put
-pub put-path : (c : Cursor) (p k y f s l : ℕ) (records places : List ℕ)
-    → Wrote (D.put p (node_with k y f s l)) c records places
+-- the word of a record, weight by weight
+link-word : (x : Shape) → word_in record_base (shaped x) ≡ D.link_word (shaped x)
+unfolding D.link_word
+link-word x = omega arith
+
+pub put-path : (c : Cursor) (p : ℕ) (x : Shape) (word : ℕ) → word ≡ word_in record_base (shaped x) → (records places : List ℕ)
+    → Wrote (D.put p (shaped x)) c records places
     (record { at = c.at; parts = c.parts; count = c.count + 1; root = c.count; name = c.name; takes = c.takes })
-    (set (set records (2 * c.count) (k + 32 * f + 8192 * s + 2097152 * l)) (2 * c.count + 1) y) (set places p c.count)
+    (set (set records (2 * c.count) word) (2 * c.count + 1) x.key) (set places p c.count)
 unfolding D.put D.counted D.link_word
-put-path c p k y f s l records places =
+put-path c p x word e records places =
     record {
       same = λ text scope i. record {
         cursor = record { rest = tokens_from text c.at; parts = c.parts; count = add-one c.count i; root = c.count; name = c.name; takes = c.takes; number = 0; place = 0 };
-        records = set (set records (2 * c.count) (k + 32 * f + 8192 * s + 2097152 * l)) (2 * c.count + 1) y;
+        records = set (set records (2 * c.count) ((e ∙ link-word x) i)) (2 * c.count + 1) x.key;
         places = set places p c.count;
         scope = scope;
       };

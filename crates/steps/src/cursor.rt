@@ -251,10 +251,10 @@ fn binder_name(text: &[u8], c: Cursor) -> Result<Cursor, Refused>
     let x = tokens::token(text, c.at);
     match x.kind {
         TokenKind::Word => {
-            if tokens::is_long(text, x.start, x.end) {
+            if x.is_long(text) {
                 return Err(refused(x, Refusal::NameTooLong));
             }
-            let name = tokens::name(text, x.start, x.end);
+            let name = x.name(text);
             if names::is_data(name) {
                 return Err(refused(x, Refusal::DataBound));
             }
@@ -270,7 +270,7 @@ fn member_name(text: &[u8], c: Cursor) -> Result<Cursor, Refused>
 {
     let x = tokens::token(text, c.at);
     match x.kind {
-        TokenKind::Word => match tokens::member(text, x.start, x.end) {
+        TokenKind::Word => match x.member(text) {
             Some(m) => Ok(named(
                 c,
                 x.end,

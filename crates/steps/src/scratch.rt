@@ -2,7 +2,7 @@
 // Each function is the function of its name in descent's Descent. The lent arrays and the scope are parameters of their own, as in the parser.
 ghost use Rattle.std.specs.Prelude.{◌≡◌, ◌+◌, ◌*◌, ◌≤◌, ◌<◌, length, set};
 ghost use Rattle.language.specs.Limits.{text_parts, open_marks};
-ghost use Rattle.layout.specs.Memory.{node_with};
+ghost use Rattle.layout.specs.Held.{shaped};
 ghost use Rattle.descent.specs.Descent.{put, put_bound, put_scoped, put_name, read_name, read_number};
 ghost use Rattle.records.specs.Records.{number_key};
 ghost use Rattle.steps.specs.Cursors.{state_of, Leaves};
@@ -13,8 +13,7 @@ use crate::cursor::{Cursor, SCOPE_CELLS};
 use language::limits::Text;
 use language::names;
 use language::refusals::{Refusal, Refused};
-use layout::nodes::{KIND_BASE, RECORD_LEVEL, RECORD_WEIGHT, Shape, TEXT_WORDS};
-use lexer::tokens;
+use layout::nodes::{RECORD_BASE, Shape, TEXT_WORDS, packed};
 use lexer::tokens::Lexed;
 
 // A call being read: its member's kind, how many arguments are still to come, the receiver's record, its part's place, and its first
@@ -28,28 +27,21 @@ pub struct Call {
     pub argument: u16,
 }
 
-// A record for the part of place p: its kind, its number or name, what it depends on, each 0 for none or one more than a record, and its level.
+// The record x for the part of place p, whose links are each 0 for none or one more than a record.
 #[tactic(auto, using(crate::proofs::ScratchPaths::putting))]
 pub fn put(
     c: Cursor,
     p: u16,
-    kind: u16,
-    key: u64,
-    first: u16,
-    second: u16,
-    level: u16,
+    x: Shape,
     records: &mut [u64; TEXT_WORDS],
     places: &mut [u16; Text::PARTS],
 ) -> Cursor
-    requires { Recorded c p kind first second }
-    ensures { Wrote (put p (node_with kind key first second level)) c records.old places.old result records.new places.new }
+    requires { Recorded c p x.kind x.first x.second }
+    ensures { Wrote (put p (shaped x)) c records.old places.old result records.new places.new }
 {
     let n = c.count as usize;
-    records[2 * n] = kind as u64
-        + KIND_BASE * first as u64
-        + RECORD_WEIGHT * second as u64
-        + RECORD_LEVEL * level as u64;
-    records[2 * n + 1] = key;
+    records[2 * n] = packed::<RECORD_BASE>(x);
+    records[2 * n + 1] = x.key;
     places[p as usize] = c.count;
     Cursor {
         count: c.count + 1,
@@ -99,7 +91,14 @@ fn put_bound(
     ensures { Wrote (put_bound p x j level) c records.old places.old result records.new places.new }
 {
     if j == 0 {
-        put(c, p, Shape::VARIABLE, x, 0, 0, level, records, places)
+        let record = Shape {
+            kind: Shape::VARIABLE,
+            key: x,
+            first: 0,
+            second: 0,
+            level,
+        };
+        put(c, p, record, records, places)
     } else {
         link(c, p, (j - 1) as u16, places)
     }
@@ -120,7 +119,14 @@ fn put_scoped(
     ensures { WroteIn scope.now (put_scoped p x b) c records.old places.old result records.new places.new }
 {
     if b == 0 {
-        put(c, p, Shape::UNBOUND, x, 0, 0, 0, records, places)
+        let record = Shape {
+            kind: Shape::UNBOUND,
+            key: x,
+            first: 0,
+            second: 0,
+            level: 0,
+        };
+        put(c, p, record, records, places)
     } else {
         let i = b - 1;
         let level = cursor::lambdas_in(scope, i);
@@ -143,7 +149,14 @@ fn put_name(
     ensures { WroteIn scope.now (put_name p x depth) c records.old places.old result records.new places.new }
 {
     if names::is_data(x) {
-        put(c, p, Shape::READINGS, 0, 0, 0, 0, records, places)
+        let record = Shape {
+            kind: Shape::READINGS,
+            key: 0,
+            first: 0,
+            second: 0,
+            level: 0,
+        };
+        put(c, p, record, records, places)
     } else {
         put_scoped(
             c,
@@ -180,11 +193,11 @@ pub fn read_name(
         (read_name (length text.now) w depth
         (state_of text.now c records.old places.old scope.now)) }
 {
-    if tokens::is_long(text, x.start, x.end) {
+    if x.is_long(text) {
         return Err(cursor::refused(x, Refusal::NameTooLong));
     }
     let a = cursor::judged_part(x, cursor::at_atom(w, c.parts), c)?;
-    let name = tokens::name(text, x.start, x.end);
+    let name = x.name(text);
     Ok(put_name(a, c.parts, name, depth, scope, records, places))
 }
 
@@ -200,21 +213,18 @@ pub fn read_number(
     requires { NumberAhead text.now x c }
     ensures { WroteFor text.now (read_number (length text.now) w) c records.old places.old result records.new places.new }
 {
-    let Some(value) = tokens::number(text, x.start, x.end) else {
+    let Some(value) = x.number(text) else {
         return Err(cursor::refused(x, Refusal::NumberOutside));
     };
     let a = cursor::judged_part(x, cursor::at_atom(w, c.parts), c)?;
-    Ok(put(
-        a,
-        c.parts,
-        Shape::NUMBER,
-        key_of(value),
-        0,
-        0,
-        0,
-        records,
-        places,
-    ))
+    let record = Shape {
+        kind: Shape::NUMBER,
+        key: key_of(value),
+        first: 0,
+        second: 0,
+        level: 0,
+    };
+    Ok(put(a, c.parts, record, records, places))
 }
 
 // The bracket that ends a call.
@@ -229,15 +239,12 @@ pub fn read_shut(
     ensures { WroteCall x k c records.old places.old result records.new places.new }
 {
     let a = cursor::judged(x, cursor::at_shut(k.takes), c)?;
-    Ok(put(
-        a,
-        k.place,
-        k.kind as u16,
-        0,
-        k.receiver + 1,
-        k.argument,
-        0,
-        records,
-        places,
-    ))
+    let record = Shape {
+        kind: k.kind as u16,
+        key: 0,
+        first: k.receiver + 1,
+        second: k.argument,
+        level: 0,
+    };
+    Ok(put(a, k.place, record, records, places))
 }

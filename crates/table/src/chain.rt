@@ -2,14 +2,14 @@
 // for each entry holds the same of the entries before it.
 #![tactic(auto, using(crate::specs::ChainLaws::chains, crate::specs::RightLaws::loops))]
 
-ghost use Rattle.std.specs.Prelude.{◌≡◌, true, ◌+◌, ◌<◌, ◌≤◌, length};
+ghost use Rattle.std.specs.Prelude.{◌≡◌, true, ◌+◌, ◌<◌, ◌≤◌};
 ghost use Rattle.language.specs.Limits.{table_entries};
 ghost use Rattle.layout.specs.Memory.{node_at};
 ghost use Rattle.layout.specs.Nodes.{same_node};
 ghost use Rattle.table.specs.WellFormed.{distinct};
 ghost use Rattle.layout.specs.Numbered.{numbered, all_from};
 ghost use Rattle.layout.specs.Held.{shaped, row_in, entry_in};
-ghost use Rattle.table.specs.Chain.{hashes, chain_entries, chain_cells, hash_of, last_same, number_before, new_at, Chained, linked, Entered};
+ghost use Rattle.table.specs.Chain.{hashes, chain_entries, hash_of, last_same, number_before, new_at, Chained, linked, Entered};
 
 use language::limits::{Table, Text};
 use layout::nodes::{Entries, Nodes, Rows, Shape, node_at};
@@ -59,7 +59,7 @@ pub fn seek<N: Nodes>(
 
 // Entry i, of hash h, is put in front of its chain.
 pub fn enter(chain: &mut [u16; CHAIN_CELLS], h: u16, i: u16)
-    requires { (h < hashes) × (i < chain_entries) × (length chain.old ≡ chain_cells) }
+    requires { (h < hashes) × (i < chain_entries) }
     ensures { chain.new ≡ linked chain.old h i }
 {
     chain[HASHES + i as usize] = chain[h as usize];
@@ -86,6 +86,7 @@ fn is_new(links: &[u16], cells: &[u64], i: u16) -> bool
     ensures { result ≡ new_at (node_at links.now cells.now) i }
 {
     let x = node_at(links, cells, i);
+    // No chain: `!(0..i).rev().any(..)` was tried, and that its result is `new_at` stayed open.
     for j in (0..i).rev() {
         if node_at(links, cells, j) == x {
             return false;

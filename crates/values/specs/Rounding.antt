@@ -1,5 +1,5 @@
--- Division by a number above 0 as round_down goes about it: a number n below 0 is turned up to -1 - n, which is not and is as far from 0; the
--- quotient of that, turned down in the same way, is n's. Before it, a divisor below 0 is turned about 0 with the number. Assumes nothing.
+-- How large a quotient by a number above 0 is: a number n below 0 is turned up to -1 - n, which is not and is as far from 0; the quotient of that,
+-- turned down in the same way, is n's. Before it, a divisor below 0 is turned about 0 with the number. Assumes nothing.
 use Rattle.std.specs.Prelude.{◌≡◌, refl, true, false, ℕ, zero, suc, ◌/◌, ◌≤◌, ℤ, pos, negsuc, neg_ℤ, ◌-ℤ◌, ◌<ℤ◌}
 use Rattle.std.proofs.Common.{ap, true≢false, div-le_self, arith, le-ltb, ltb-true, lt→ltb}
 use Rattle.std.specs.Int.Signed.{lt_z, mag, quot_z}

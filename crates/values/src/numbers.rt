@@ -41,12 +41,12 @@ pub fn mul(a: i32, b: i32) -> Value
     number(a as i64 * b as i64)
 }
 
-// The quotient by a divisor above 0, rounded down. Below 0, where division rounds up, n is -1 - m for an m that is not, and so is the quotient.
+// The quotient by a divisor above 0, rounded down.
 pub fn round_down(n: i64, d: i64) -> i64
     requires { pos 0 <ℤ d }
     ensures { result ≡ quotient n d }
 {
-    if n < 0 { -1 - (-1 - n) / d } else { n / d }
+    n.div_euclid(d)
 }
 
 // The greatest whole number not above the quotient; reason 3 for a zero divisor. By a negative divisor it is that of the two turned about 0.

@@ -10,11 +10,10 @@ use members::Member;
 use rules::{Reason, Value};
 
 // What is kept of the results so far: how many were other than 0, the stretch of these at the end, the longest stretch, and the exact
-// total. Once stopped, the reason alone counts.
+// total. Once stopped, the reason for it alone counts.
 #[derive(Clone, Copy)]
 pub struct Tally {
-    pub stopped: bool,
-    pub reason: u8,
+    pub stopped: Option<u8>,
     pub count: u16,
     pub stretch: u16,
     pub longest: u16,
@@ -26,8 +25,7 @@ pub fn start() -> Tally
     ensures { result ≡ begun }
 {
     Tally {
-        stopped: false,
-        reason: 0,
+        stopped: None,
         count: 0,
         stretch: 0,
         longest: 0,
@@ -40,8 +38,7 @@ fn halt(reason: u8) -> Tally
     ensures { result ≡ halted reason }
 {
     Tally {
-        stopped: true,
-        reason,
+        stopped: Some(reason),
         count: 0,
         stretch: 0,
         longest: 0,
@@ -72,8 +69,7 @@ fn note(t: Tally, z: i32) -> Tally
 {
     let stretch = stretched(t.stretch, z);
     Tally {
-        stopped: false,
-        reason: 0,
+        stopped: None,
         count: counted(t.count, z),
         stretch,
         longest: t.longest.max(stretch),
@@ -86,7 +82,7 @@ pub fn step(t: Tally, v: Value) -> Tally
     requires { Within 65534 t }
     ensures { Steps t v result }
 {
-    if t.stopped {
+    if t.stopped.is_some() {
         return t;
     }
     match v {
@@ -100,8 +96,8 @@ pub fn step(t: Tally, v: Value) -> Tally
 pub fn finish(m: Member, t: Tally) -> Value
     ensures { result ≡ finished m t }
 {
-    if t.stopped {
-        return Value::Missing(t.reason);
+    if let Some(reason) = t.stopped {
+        return Value::Missing(reason);
     }
     match m {
         Member::CountWhere => Value::Number(t.count as i32),

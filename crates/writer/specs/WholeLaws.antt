@@ -1,8 +1,10 @@
--- The loop that writes all eight bytes of a packed word, and how many of these the word packs. Assumes nothing.
-use Rattle.std.specs.Prelude.{◌≡◌, refl, List, [], ◌∷◌, ◌++◌, eqb, length, drop, set}
-use Rattle.std.proofs.Common.{sym, ap, ◌∙◌, subst, arith, length-append, pow-add, pow_mono, drop-drop}
+-- All eight bytes of a packed word, and how many of these the word packs. Assumes nothing.
+use Rattle.std.specs.Prelude.{◌≡◌, refl, List, [], ◌∷◌, ◌++◌, eqb, length, take, drop}
+use Rattle.std.proofs.Common.{sym, ap, ◌∙◌, arith, length-append, pow-add, pow_mono, drop-drop}
 use Prim.Native.Nat.{ℕ, zero, suc, ◌+◌, ◌-◌, ◌*◌, ◌/◌, ◌%◌, ◌^◌, ◌≤◌, ◌<◌}
-use Rattle.std.proofs.Math.Nat.{pow-suc, one-le-pow}
+use Rattle.std.proofs.Math.Nat.{pow-suc, one-le-pow, mul_comm, div-div-eq-div-mul}
+use Rattle.std.proofs.Math.Seq.{drop_at, length-take-le}
+use Rattle.std.specs.Int.{byte_at, bytes_high_first, to_be_bytes, w64}
 use borrow.Author.Tests.{ne_eqb}
 use Rattle.std.specs.Int.Count.{count_leading_zeros}
 use Rattle.std.proofs.lemmas.Nat.{leading_length}
@@ -11,23 +13,30 @@ use Rattle.language.specs.Cases.{split}
 use Rattle.printing.specs.Printed.{unpack_onto, unpacked}
 use Rattle.writer.specs.Whole.{whole_onto}
 
-drop-set : (out : List ℕ) (k b : ℕ) → k < length out → drop k (set out k b) ≡ b ∷ drop (suc k) out
-drop-set [] k b h = absurd (omega arith)
-drop-set (x ∷ out) zero b h = refl
-drop-set (x ∷ out) (suc k) b h = drop-set out k b (omega arith)
+-- the byte above another is that byte of the number without its lowest, and so are all above it
+byte-above : (n k : ℕ) → byte_at (suc n) k ≡ byte_at n (k / 256)
+byte-above zero k = refl
+byte-above (suc n) k =
+    let e : 256 ^ suc (suc n) ≡ 256 * 256 ^ suc n = pow-suc 256 (suc n) ∙ mul_comm (256 ^ suc n) 256 in
+    ap (λ m. k / m % 256) e ∙ ap (λ m. m % 256) (sym (div-div-eq-div-mul k 256 (256 ^ suc n)))
 
--- all bytes of a packed word, with the zeros before them: one byte more, and the end
-pub whole-byte : (start left left' rest b : ℕ) (out w : List ℕ) → suc left' ≡ left → start + left ≤ length out → b ≡ rest % 256
-    → whole_onto left rest (drop (start + left) out) ≡ w → whole_onto left' (rest / 256) (drop (start + left') (set out (start + left') b)) ≡ w
-unfolding whole_onto
-whole-byte start left left' rest b out w z h e p =
-    let q : suc (start + left') ≡ start + left = omega arith in
-    let x : whole_onto (suc left') rest (drop (start + left) out) ≡ w = subst (λ k. whole_onto k rest (drop (start + left) out) ≡ w) (sym z) p in
-    rw (drop-set out (start + left') b (omega arith), q, e) x
+bytes-above : (n k : ℕ) (u : List ℕ) → bytes_high_first (suc n) k ++ u ≡ bytes_high_first n (k / 256) ++ ((k % 256) ∷ u)
+bytes-above zero k u = refl
+bytes-above (suc n) k u = λ i. byte-above n k i ∷ bytes-above n k u i
 
-pub whole-end : (start left rest : ℕ) (out w : List ℕ) → left ≡ 0 → whole_onto left rest (drop (start + left) out) ≡ w → drop start out ≡ w
+-- the bytes of a word, the highest first, are the ones that are put before others
+bytes-whole : (n k : ℕ) (u : List ℕ) → bytes_high_first n k ++ u ≡ whole_onto n k u
 unfolding whole_onto
-whole-end start left rest out w z p = let s : start + 0 ≡ start = omega arith in rw (z, s) at p
+bytes-whole zero k u = refl
+bytes-whole (suc n) k u = bytes-above n k u ∙ bytes-whole n (k / 256) ((k % 256) ∷ u)
+
+pub whole-put : (start word : ℕ) (out new : List ℕ) → start + name_bytes ≤ length out → new ≡ to_be_bytes w64 word
+    → drop start (take start out ++ (new ++ drop (start + name_bytes - start) (drop start out))) ≡ whole_onto name_bytes word (drop (start + name_bytes) out)
+whole-put start word out new h e =
+    let q : start + (start + name_bytes - start) ≡ start + name_bytes = omega arith in
+    drop_at (take start out) _ start (length-take-le start out (omega arith))
+    ∙ (λ i. e i ++ (drop-drop (start + name_bytes - start) start out ∙ ap (λ m. drop m out) q) i)
+    ∙ bytes-whole name_bytes word _
 
 -- of these the ones that the word packs: behind the zeros
 pub append-unpacked : (n k : ℕ) (v u : List ℕ) → unpack_onto n k (v ++ u) ≡ unpack_onto n k v ++ u

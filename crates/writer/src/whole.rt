@@ -5,18 +5,13 @@ ghost use Rattle.printing.specs.Printed.{unpacked};
 ghost use Rattle.writer.specs.Whole.{whole_onto};
 
 use language::limits::Text;
-use language::names::BYTE_BASE;
 
 // All eight bytes of a number, with the zeros before those that it packs: compiled they are one store.
 pub fn put_whole(out: &mut [u8; Text::BYTES], start: usize, word: u64)
     requires { (length out.old ≡ text_bytes) × (start + name_bytes ≤ text_bytes) }
     ensures { (length out.new ≡ text_bytes) × (drop start out.new ≡ whole_onto name_bytes word (drop (start + name_bytes) out.old)) }
 {
-    let mut rest = word;
-    for left in (0..Text::NAME_BYTES).rev() {
-        out[start + left] = (rest % BYTE_BASE) as u8;
-        rest /= BYTE_BASE;
-    }
+    out[start..start + Text::NAME_BYTES].copy_from_slice(&word.to_be_bytes());
 }
 
 // How many bytes a number packs.

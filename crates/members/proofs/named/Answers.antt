@@ -1,7 +1,8 @@
 -- The search among the rows that are left finds what the search among all finds. Assumes nothing.
-use Rattle.std.proofs.Common.{refl, sym, ◌∙◌}
+use Rattle.std.proofs.Common.{rules, refl, sym, ◌∙◌}
 use Rattle.members.specs.Members.{member_of}
-use Rattle.members.specs.MembersLaws.{none-longer, row_is, row-not, row-over}
+use Rattle.members.specs.MembersLaws.{none-longer, row_is, row-not, row-missing, row-over}
+use Rattle.members.proofs.named.Goals.{in_default-via-in-None-1, in_default-via-in-Some+else-is_named}
 use Rattle.members.proofs.named.Goals as goal
 
 pub returns-then-word-gt-LONGEST_NAME : goal.returns-then-word-gt-LONGEST_NAME
@@ -11,15 +12,18 @@ pub loop-n-init : goal.loop-n-init
 unfolding member_of
 loop-n-init c = refl
 
-pub returns-then-is_named : goal.returns-then-is_named
-returns-then-is_named c =
-    c.member_at.ensures
-    ∙ row_is _ _ _ c.packed_name-name.ensures _ c.is_named.ensures c.loop-n-test.true c.if-is_named.true
-    ∙ c.loop-n.invariant
+pub returns-in-loop-n : goal.returns-in-loop-n
+returns-in-loop-n c =
+    row_is _ _ c.loop-n-test.true _ c.member_at.ensures _ c.packed_name-name.ensures _ c.in-Some.is _ c.is_named.ensures c.if-is_named.true ∙ c.loop-n.invariant
 
 pub loop-n-preserved : goal.loop-n-preserved
 loop-n-preserved c =
-    row-not _ _ _ c.packed_name-name.ensures _ c.is_named.ensures c.loop-n-test.true c.if-is_named.false ∙ c.loop-n.invariant
+    elim c.in_default.branch [
+      | in_default-via-in-None-1 w ↦ row-missing _ _ c.loop-n-test.true _ c.member_at.ensures (search rules) ∙ c.loop-n.invariant
+      | in_default-via-in-Some+else-is_named w ↦
+          row-not _ _ c.loop-n-test.true _ c.member_at.ensures _ c.packed_name-name.ensures _ w.in-Some.is _ w.is_named.ensures w.if-is_named.false
+          ∙ c.loop-n.invariant
+    ]
 
 pub returns : goal.returns
 returns c = row-over _ _ _ c.loop-n-test.false c.loop-n.invariant

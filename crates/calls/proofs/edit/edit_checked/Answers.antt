@@ -9,7 +9,7 @@ pub overflow_cast-count : goal.overflow_cast-count
 overflow_cast-count c = omega (arith, well-few _ _ _ c.requires.is_well_formed _ c.get_or-count.ensures)
 
 pub plan_edit-requires-clause-fits_table : goal.plan_edit-requires-clause-fits_table
-plan_edit-requires-clause-fits_table c = (well-few _ _ _ c.requires.is_well_formed _ c.get_or-count.ensures, refl, refl, refl)
+plan_edit-requires-clause-fits_table c = well-few _ _ _ c.requires.is_well_formed _ c.get_or-count.ensures
 
 pub plan_edit-requires-clause-no_two_equal : goal.plan_edit-requires-clause-no_two_equal
 plan_edit-requires-clause-no_two_equal c = well-distinct _ _ _ c.requires.is_well_formed _ c.get_or-count.ensures
@@ -22,7 +22,7 @@ pub commit-requires-clause-total_in_range : goal.commit-requires-clause-total_in
 commit-requires-clause-total_in_range c = let a = plan-room _ _ _ _ _ _ _ _ c.plan_edit.ensures _ c.in_ok-p.was in (a.0, a.1)
 
 pub write_places-requires : goal.write_places-requires
-write_places-requires c = let a = plan-room _ _ _ _ _ _ _ _ c.plan_edit.ensures _ c.in_ok-p.was in (a.2, a.3, c.requires.whole.1)
+write_places-requires c = let a = plan-room _ _ _ _ _ _ _ _ c.plan_edit.ensures _ c.in_ok-p.was in (a.2, c.requires.whole.1)
 
 pub overflow_sub-result : goal.overflow_sub-result
 overflow_sub-result c = (plan-room _ _ _ _ _ _ _ _ c.plan_edit.ensures _ c.in_ok-p.was).0

@@ -6,7 +6,7 @@ use Rattle.evaluator.proofs.Reaching.{gather-begin, gather-yes, gather-no, gathe
 use Rattle.evaluator.proofs.reach.gather.Goals as goal
 
 pub loop-j-init : goal.loop-j-init
-loop-j-init c = record { low = search rules; room = search rules; within = search rules; size = search rules; upto = λ k h l. absurd (omega arith); marks = marks-set _ _ (marks_begin _ c.requires.1.1); same = search (rules, gather-begin) }
+loop-j-init c = record { low = search rules; room = search rules; within = search rules; size = search rules; upto = λ k h l. absurd (omega arith); marks = marks-set _ _ (marks_begin _ c.requires.1); same = search (rules, gather-begin) }
 
 pub loop-j-preserved-then-flags-j-eq1 : goal.loop-j-preserved-then-flags-j-eq1
 loop-j-preserved-then-flags-j-eq1 c =
@@ -29,4 +29,4 @@ pub returns-after-loop-j : goal.returns-after-loop-j
 returns-after-loop-j c = record { within = search rules; size = search rules; upto = c.loop-j.invariant.upto; marks = c.loop-j.invariant.marks; same = search (rules, gather-end) }
 
 pub returns-else-moves : goal.returns-else-moves
-returns-else-moves c = record { within = search rules; size = search rules; upto = λ k h l. absurd (omega arith); marks = marks_begin _ c.requires.1.1; same = search (rules, gather_none) }
+returns-else-moves c = record { within = search rules; size = search rules; upto = λ k h l. absurd (omega arith); marks = marks_begin _ c.requires.1; same = search (rules, gather_none) }

@@ -18,7 +18,7 @@ pub apply-returns-in-Known : goal.apply-returns-in-Known
 apply-returns-in-Known t c = known-applies (graph c.args.links.now c.args.waits.now c.args.readings.now) c.args.frame.now c.args.i c.plan.ensures.same c.in-Known.is
 
 pub apply-gather-at-requires : goal.apply-gather-at-requires
-apply-gather-at-requires t c = (omega (arith, (planned-body c.in-Body.is c.plan.ensures.right).0, c.requires), (refl, refl))
+apply-gather-at-requires t c = (omega (arith, (planned-body c.in-Body.is c.plan.ensures.right).0, c.requires), refl)
 
 pub apply-rerun-base-requires : goal.apply-rerun-base-requires
 apply-rerun-base-requires t c = (
@@ -38,13 +38,13 @@ apply-rerun-r-requires t c = (
   reruns (graph c.args.links.now c.args.waits.now c.args.readings.now) c.args.frame.now c.args.i c.plan.ensures.same c.in-Body.is c.plan.ensures.right (listed _ _ _ _ _ _ c.gather-at.ensures) c.requires,
 )
 
-pub apply-returns-then-t : goal.apply-returns-then-t
-apply-returns-then-t t c =
+pub apply-returns-then-is_some : goal.apply-returns-then-is_some
+apply-returns-then-is_some t c =
     run-applies (graph c.args.links.now c.args.waits.now c.args.readings.now) c.args.frame.now c.args.i c.plan.ensures.same c.in-Body.is c.plan.ensures.right (listed _ _ _ _ _ _ c.gather-at.ensures) c.in-Over.is
-    (runs-stop c.loop-z.invariant c.part-z-items.ensures c.loop-z-test.true (to_z w32 (of_z w32 (get_or c.part-z-items.result.now c.loop-z.z-index (pos 0)))) (search rules) c.number.ensures c.rerun-r.ensures c.tally-t.ensures c.if-t.true) c.conclude-then-t.ensures.same
+    (runs-stop c.loop-z.invariant c.part-z-items.ensures c.loop-z-test.true (to_z w32 (of_z w32 (get_or c.part-z-items.result.now c.loop-z.z-index (pos 0)))) (search rules) c.number.ensures c.rerun-r.ensures c.tally-t.ensures (rw c.is_some.ensures at c.if-is_some.true)) c.conclude-then-is_some.ensures.same
 
 pub apply-loop-z-preserved : goal.apply-loop-z-preserved
-apply-loop-z-preserved t c = runs-again c.loop-z.invariant c.part-z-items.ensures c.loop-z-test.true (to_z w32 (of_z w32 (get_or c.part-z-items.result.now c.loop-z.z-index (pos 0)))) (search rules) c.number.ensures c.rerun-r.ensures c.tally-t.ensures c.if-t.false
+apply-loop-z-preserved t c = runs-again c.loop-z.invariant c.part-z-items.ensures c.loop-z-test.true (to_z w32 (of_z w32 (get_or c.part-z-items.result.now c.loop-z.z-index (pos 0)))) (search rules) c.number.ensures c.rerun-r.ensures c.tally-t.ensures (rw c.is_some.ensures at c.if-is_some.false)
 
 pub apply-returns-in-Judge : goal.apply-returns-in-Judge
 apply-returns-in-Judge t c = judge-applies (graph c.args.links.now c.args.waits.now c.args.readings.now) c.args.frame.now c.args.i c.plan.ensures.same c.in-Body.is c.plan.ensures.right (listed _ _ _ _ _ _ c.gather-at.ensures) c.in-Judge.is c.rerun-base.ensures (function-waits _ _ _ _ _ c.is_open.ensures c.function.ensures.same)

@@ -22,12 +22,12 @@ over-step-t-requires t c =
     sums-within c.args.source.now.readings.now c.args.source.now.records.now c.args.source.now.orders.now c.args.s c.args.f c.part-z-items.result.now c.loop-z.t c.loop-z.z-index c.loop-z.invariant.1
     (window-short c.args.source.now.readings.now c.args.from c.args.count c.part-z-items.result.now c.part-z-items.ensures (omega (arith, c.ranges.count.fits))) c.loop-z-test.true
 
-pub over-returns-then-t : goal.over-returns-then-t
-over-returns-then-t t c =
+pub over-returns-then-is_some : goal.over-returns-then-is_some
+over-returns-then-is_some t c =
     over-stopped c.args.source.now.readings.now c.args.source.now.records.now c.args.source.now.orders.now c.args.s c.args.f c.args.from c.args.count c.part-z-items.result.now c.part-z-items.ensures c.step-t.result (c.loop-z.z-index + 1)
     (sums-more c.args.source.now.readings.now c.args.source.now.records.now c.args.source.now.orders.now c.args.s c.args.f c.part-z-items.result.now c.loop-z.t c.loop-z.z-index c.loop-z.invariant.1 c.loop-z-test.true _ c.ran-c.result _ c.ran-c.ensures (search rules) c.unpack.result c.unpack.ensures
     c.step-t.result c.step-t.ensures)
-    _ c.ran-c.ensures.keeps c.args.kind c.conclude.result (of-kind c.args.kind _ c.conclude.ensures.back) c.if-t.true
+    _ c.ran-c.ensures.keeps c.args.kind c.conclude.result (of-kind c.args.kind _ c.conclude.ensures.back) (rw c.is_some.ensures at c.if-is_some.true)
 
 pub over-loop-z-preserved : goal.over-loop-z-preserved
 over-loop-z-preserved t c = (
@@ -84,7 +84,7 @@ pub value-is_known-requires : goal.value-is_known-requires
 value-is_known-requires t c = c.requires.low
 
 pub value-bounds-memo-i : goal.value-bounds-memo-i
-value-bounds-memo-i t c = omega (arith, c.requires.low)
+value-bounds-memo-i t c = c.requires.low
 
 pub value-returns-then-is_known : goal.value-returns-then-is_known
 value-returns-then-is_known t c =
@@ -108,7 +108,7 @@ value-keep-requires t c =
     let R = c.args.source.now.records.now in
     let W = c.args.source.now.orders.now in
     let s = c.args.s in
-    (c.requires.low, c.work-r.ensures.keeps.size)
+    c.requires.low
 
 pub value-returns : goal.value-returns
 value-returns t c =

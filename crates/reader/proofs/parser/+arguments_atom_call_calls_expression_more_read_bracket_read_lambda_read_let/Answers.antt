@@ -137,8 +137,8 @@ read_lambda-returns-in_err-r t c =
     (L.lambda-body-refused _ _ _ _ _ _ _ _ c.requires _ (c.in_ok-h.ensures _ _ c.lambdas_in-level.ensures) _ c.enter.ensures _ _ _ _
     c.in_err-r.ensures)
 
-pub read_lambda-overflow_add-r : goal.read_lambda-overflow_add-r
-read_lambda-overflow_add-r t c =
+pub read_lambda-overflow_add-record : goal.read_lambda-overflow_add-record
+read_lambda-overflow_add-record t c =
     omega (
       arith,
       L.lambda-root _ _ _ _ _ _ _ _ c.requires _ (c.in_ok-h.ensures _ _ c.lambdas_in-level.ensures) _ c.enter.ensures _ _ _ _ c.in_ok-r.ensures,

@@ -1,16 +1,11 @@
--- The invariant: what is written and what is left are the word's eight bytes. Assumes nothing.
-use mathlib.Core.Path.{refl}
-use borrow.Author.Rules.{rules}
-use Rattle.writer.specs.WholeLaws.{whole-byte, whole-end}
+-- The word's eight bytes, and behind them what stood there. Assumes nothing.
+use Rattle.std.proofs.Common.{arith, ◌∙◌}
+use borrow.Rule.Slice.PartMut.{same_len_mid}
+use Rattle.writer.specs.WholeLaws.{whole-put}
 use Rattle.writer.proofs.whole.put_whole.Goals as goal
 
-pub loop-left-init : goal.loop-left-init
-loop-left-init c = (search rules, search rules, refl)
-
-pub loop-left-preserved : goal.loop-left-preserved
-loop-left-preserved c =
-    let i = c.loop-left.invariant in
-    (search rules, search rules, whole-byte _ _ _ _ _ _ _ (search rules) (search rules) refl i.2)
-
 pub returns : goal.returns
-returns c = let i = c.loop-left.invariant in (i.0, whole-end _ _ _ _ _ (search rules) i.2)
+returns c = (
+  same_len_mid _ _ _ _ c.copy_from_slice.ensures.len ∙ c.requires.0,
+  whole-put c.args.start c.args.word c.args.out.now _ (omega (arith, c.requires)) (c.copy_from_slice.ensures.after ∙ c.to_be_bytes.ensures),
+)
