@@ -6,8 +6,8 @@
 #include "recording.h"
 
 /*
- * Runs in one another that a preview may have, by the stack of the task: depth 1 takes up to 19,320 bytes, each
- * further one 5,904 more (docs/INTEGRATION.md). Depth 3 takes 31,128. Parts that are deeper are not previewed.
+ * Runs in one another that a preview may have, by the stack of the task: depth 1 takes up to 18,736 bytes, each
+ * further one 5,856 more (docs/INTEGRATION.md). Depth 3 takes 30,448. Parts that are deeper are not previewed.
  */
 #define MOST_DEPTH 3
 

@@ -147,12 +147,33 @@ pub fn take_rows(t: Tally, cells: &[u64]) -> Tally
     u
 }
 
-// A chunk of c readings: they are read, and the columns worked out. By itself, so that its loops have the registers.
+// A chunk of c readings: they are read, and the columns worked out. By itself, so that its loops have the registers; and the body and its columns part
+// by part: in structs, behind a `&` or by value, they take 16 or 32 bytes more of the stack in each frame of runs in one another.
 #[inline(never)]
-pub fn chunk(body: Body, columns: Columns, from: usize, c: usize, buf: &mut [u64])
-    requires { Chunks body.links.now body.list.now body.variable body.root columns.map.now columns.width c buf.old × (from ≤ 131070) }
-    ensures { Turned body.entry.links.now body.entry.readings.now body.entry.list.now body.entry.variable body.entry.root columns.entry.map.now columns.entry.frame.now from columns.entry.width c buf.old buf.new }
+pub fn chunk(
+    readings: &[i32],
+    from: usize,
+    links: &[u16],
+    list: &[u16],
+    root: usize,
+    variable: u32,
+    frame: &[u64; Table::ENTRIES],
+    map: &[u8; Table::ENTRIES],
+    width: usize,
+    c: usize,
+    buf: &mut [u64],
+)
+    requires { Chunks links.now list.now variable root map.now width c buf.old × (from ≤ 131070) }
+    ensures { Turned links.now readings.now list.now variable root map.now frame.now from width c buf.old buf.new }
 {
-    read_rows(body.readings, from, c, buf);
+    let body = Body {
+        readings,
+        links,
+        list,
+        root,
+        variable,
+    };
+    let columns = Columns { frame, map, width };
+    read_rows(readings, from, c, buf);
     work_rows(body, columns, c, buf);
 }

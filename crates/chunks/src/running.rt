@@ -36,7 +36,19 @@ fn run(body: Body, columns: Columns, from: u16, most: u16, buf: &mut [u64]) -> T
     // No `for`: it steps by as many readings as a chunk has, and the last one has fewer.
     while k < count {
         let c = columns.width.min(count - k);
-        chunk(body, columns, from as usize + k, c, buf);
+        chunk(
+            body.readings,
+            from as usize + k,
+            body.links,
+            body.list,
+            body.root,
+            body.variable,
+            columns.frame,
+            columns.map,
+            columns.width,
+            c,
+            buf,
+        );
         t = take_rows(t, &buf[to..to + c]);
         if t.stopped.is_some() {
             return t;

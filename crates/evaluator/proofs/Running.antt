@@ -8,14 +8,15 @@ use native.Mathlib.Omega.{arith}
 use native.Mathlib.Numerals.{add-one}
 use borrow.Author.Tests.{lt-leb}
 use lib.IntN.{ℤ, pos}
-use lib.ListN.{length, get_or, set, take, drop, length-drop, drop_of_length-le}
+use lib.ListN.{length, get_or, set, take, drop, length-drop, length-take, drop_of_length-le}
 use Rattle.std.proofs.lemmas.List.{take_all}
-use lib.Seq.{drop-cons, get_or-drop}
+use lib.Seq.{drop-cons, get_or-drop, get_or-take}
 use Rattle.language.specs.Limits.{table_entries}
 use Rattle.rules.specs.declared.Value.TheVariants.{Number}
 use Rattle.values.specs.declared.runs.Tally.{Tally}
 use Rattle.values.specs.Packing.{pack_of, delayed_cell}
 use Rattle.values.specs.Tallies.{is_stopped, begun, Within}
+use Rattle.values.specs.TallyLaws.{within_none, within_more}
 use Rattle.rules.specs.Windows.{readings_in}
 use Rattle.layout.specs.Nodes.{member_of_kind}
 use Rattle.evaluator.specs.declared.working.Task.{Task}
@@ -97,7 +98,22 @@ pub record Runs (g : Graph) (body v : ℕ) (list frame : List ℕ) (zs : List �
   pub within : Within k t
   pub same : (f : ℕ) → body < f → over_of (apply_at g f) body list v frame begun zs ≡ over_of (apply_at g f) body list v local t (drop k zs)
 
+pub runs-begin : (g : Graph) (body v : ℕ) (list frame : List ℕ) (zs : List ℤ) (local : List ℕ) (t : Tally) (s : ℕ) → local ≡ frame → t ≡ begun → Runs g body v list frame zs local t (s - s)
+runs-begin g body v list frame zs local t s o e =
+    let n : 0 ≡ s - s = omega arith in
+    rw (o, e, ← n) (record { within = within_none; same = λ f h. refl })
+
+-- reading k of the recording is the window's, by its place in the window
+pub reading-at : (xs : List ℤ) (s l k : ℕ) → s ≤ k → k - s < length (readings_in xs s l) → get_or xs k (pos 0) ≡ get_or (readings_in xs s l) (k - s) (pos 0)
+reading-at xs s l k b h =
+    let few : k - s < l = omega (arith, simp length-take at h) in
+    let e : s + (k - s) ≡ k = omega arith in
+    sym (get_or-take l (drop s xs) (k - s) (pos 0) few ∙ get_or-drop s xs (k - s) (pos 0) ∙ ap (λ (j : ℕ). get_or xs j (pos 0)) e)
+
 module _ {g : Graph} {body v : ℕ} {list frame : List ℕ} {zs : List ℤ} {local : List ℕ} {t : Tally} {k : ℕ} (run : Runs g body v list frame zs local t k) where
+  pub runs-within : k ≤ 65534 → Within 65534 t
+  runs-within h = within_more k 65534 t h run.within
+
   pub runs-end : length zs ≤ k → (f : ℕ) → body < f → over_of (apply_at g f) body list v frame begun zs ≡ t
   unfolding over_of
   runs-end h f b = run.same f b ∙ ap (over_of (apply_at g f) body list v local t) (drop_of_length-le zs {i = k} h)

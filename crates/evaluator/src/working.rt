@@ -13,7 +13,7 @@ use crate::frames::{bind, is_open};
 use crate::reach::gather;
 use chunks::body::Body;
 use chunks::fitting::settles;
-use chunks::rows::{number, tally};
+use chunks::rows::{count_in, reading, tally};
 use chunks::running::by_columns;
 use columns::calling::{ask, call, cell, conclude};
 use columns::leaves::function;
@@ -24,7 +24,6 @@ use table::waits::own;
 use values::apply::Applied;
 use values::packing::{Packed, pack};
 use values::runs::start as begin;
-use values::windows::part;
 
 // What an entry asks for: its value is known; or a body is to be worked out with a variable set.
 #[derive(Clone, Copy)]
@@ -241,9 +240,12 @@ pub fn apply(
             if let Some(t) = by_columns(body, frame, start, length, &mut map, &mut local) {
                 return conclude(kind, t);
             }
+            let from = start as usize;
+            let to = from + count_in(readings, start, length);
             let mut t = begin();
-            for z in part(readings, start, length) {
-                let r = rerun(body, waits, number(*z), &mut local);
+            // By index: over the part itself, its place in the recording would stand in each frame of runs in one another too.
+            for k in from..to {
+                let r = rerun(body, waits, reading(readings, k), &mut local);
                 t = tally(t, r);
                 if t.stopped.is_some() {
                     return conclude(kind, t);

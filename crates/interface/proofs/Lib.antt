@@ -1,5 +1,6 @@
 -- Laws of interface: what follows from its definitions.
 pub mod AcceptanceLaws
+pub mod AnswersLaws
 pub mod CallExamples
 pub mod CallsLaws
 pub mod EvaluateExamples

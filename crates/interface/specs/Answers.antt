@@ -5,7 +5,8 @@ use Rattle.model.specs.Model.{Answer, refused, opened, edited, not_yet, finished
 use Rattle.formulas.specs.Formulas.{formulas}
 use Rattle.schedule.specs.declared.View.{View}
 use Rattle.language.specs.declared.refusals.Refusal.{Refusal}
-use Rattle.language.specs.Refusals.{refusal_number}
+use Rattle.language.specs.declared.refusals.Refusal.TheVariants as R
+use Rattle.language.specs.Refusals.{refusal_number, text_refusal}
 use Rattle.language.specs.declared.refusals.Refused.{Refused}
 use Rattle.interface.specs.declared.answers.Edited.{Edited}
 use Rattle.interface.specs.declared.answers.Previewed.{Previewed}
@@ -66,6 +67,28 @@ preview_reply (Err e) = refused (refusal_number e) 0
 abbrev pub PrintReply : Result ℕ Refusal → Reply → Type 0
 PrintReply (Ok n) x = (text : List ℕ) × (x ≡ printed text) × (n ≡ length text)
 PrintReply (Err e) x = x ≡ refused (refusal_number e) 0
+
+-- the refusal that has this number, one from 5 to 12 as a text's; a number that no refusal has is read as 12
+unfoldable pub refusal_of_number : ℕ → Refusal
+refusal_of_number n =
+    cond (eqb n 1) R.TextTooLong
+    (cond (eqb n 2) R.RecordingTooLong
+    (cond (eqb n 3) R.MemoryTooSmall
+    (cond (eqb n 4) R.CacheIllFormed
+    (cond (eqb n 13) R.TableFull
+    (cond (eqb n 14) R.NoSuchEntry
+    (cond (eqb n 15) R.TextUnfit
+    (cond (eqb n 16) R.OtherForm
+    (text_refusal n))))))))
+
+-- the same as a function of what is replied: the answers of other calls are none of a print's, and there is no refusal 0
+abbrev pub printed_as : Reply → Result ℕ Refusal
+printed_as (printed text) = Ok (length text)
+printed_as (refused n at) = Err (refusal_of_number n)
+printed_as opened = Err (refusal_of_number 0)
+printed_as (edited whole parts added numbers) = Err (refusal_of_number 0)
+printed_as (not_yet k) = Err (refusal_of_number 0)
+printed_as (finished k v) = Err (refusal_of_number 0)
 
 -- the answers as plain numbers, for callers in C: a refusal's number, 0 for an accepted call, and then its values
 abbrev pub open_number : Opened → ℕ

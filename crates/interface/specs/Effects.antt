@@ -10,7 +10,7 @@ use Rattle.interface.specs.declared.answers.EditAnswer.{EditAnswer}
 use Rattle.interface.specs.declared.answers.PreviewAnswer.{PreviewAnswer}
 use Rattle.interface.specs.declared.answers.PrintAnswer.{PrintAnswer}
 use Rattle.interface.specs.declared.answers.EvaluateAnswer.{EvaluateAnswer}
-use Rattle.interface.specs.Answers.{Opened, open_reply, edit_reply, PrintReply, open_number, edit_numbers, preview_numbers, print_numbers, evaluate_numbers}
+use Rattle.interface.specs.Answers.{Opened, open_reply, edit_reply, PrintReply, printed_as, open_number, edit_numbers, preview_numbers, print_numbers, evaluate_numbers}
 use Rattle.interface.specs.Calls.{open_answer, open_memory, edit_answer, edit_memory, edit_places, previewed, preview_memory, print_answer, print_bytes, evaluated}
 
 -- the memory m before a call and m' after it
@@ -29,6 +29,7 @@ pub record Previews (m : Memory) (entry allowance : ℕ) (m' : Memory) (r : Resu
 
 pub record Prints (m : Memory) (entry : ℕ) (bytes bytes' : List ℕ) (r : Result ℕ Refusal) : Type 0 where
   pub answer : PrintReply r (print_answer m entry bytes)
+  pub same : r ≡ printed_as (print_answer m entry bytes)
   pub filled : bytes' ≡ print_bytes m entry bytes
 
 -- the same for C: the numbers of an answer for which that holds

@@ -8,6 +8,7 @@ use Rattle.layout.specs.Held.{record_at}
 use Rattle.layout.specs.declared.nodes.Shape.{Shape}
 use Rattle.levels.specs.Interpreting.{levels, variable_at}
 use Rattle.interpreter.specs.declared.orders.Order.{Order}
+use Rattle.interpreter.specs.declared.orders.Order.TheVariants.{Empty, Outer, Inner, OuterInner, InnerOuter}
 use Rattle.interpreter.specs.Standing.{Stands}
 use Rattle.interpreter.specs.Orders.{has_level, linked_of, Ordered}
 
@@ -30,6 +31,14 @@ pub record Awaits (R : List ℕ) (orders : List Order) (i k : ℕ) : Type 0 wher
 -- the name of that variable
 abbrev pub NamedBy : List ℕ → ℕ → ℕ → ℕ → Type 0
 NamedBy R i k r = (F : Form) → Stands (record_at R) i F → has_name k (levels F) ≡ true → r ≡ name_in (variable_at k F)
+
+-- the level that comes first
+unfoldable pub first_level : Order → ℕ
+first_level Empty = 0
+first_level Outer = 0
+first_level Inner = 1
+first_level OuterInner = 0
+first_level InnerOuter = 1
 
 -- record i stands for a form, and it and the records before it have their orders
 pub record Nameable (R : List ℕ) (orders : List Order) (i : ℕ) : Type 0 where

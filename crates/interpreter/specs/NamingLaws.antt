@@ -1,8 +1,8 @@
 -- Following the link to a level's variable comes to that variable. Assumes nothing.
-use Rattle.std.specs.Prelude.{◌≡◌, Bool, cond, List, [], ◌∷◌, map, eqb, get_or}
+use Rattle.std.specs.Prelude.{◌≡◌, ◌⊎◌, Bool, cond, List, [], ◌∷◌, map, eqb, get_or}
 use Rattle.std.proofs.lemmas.Bool.{false≢true}
 use Rattle.std.proofs.Math.Path.{refl, ap}
-use Rattle.std.proofs.Common.{sym, ◌∙◌, subst}
+use Rattle.std.proofs.Common.{sym, ◌∙◌, subst, inl, inr}
 use Rattle.std.proofs.Math.Bool.{true, false}
 use Prim.Native.Nat.{ℕ, suc, ◌-◌, ◌≤◌, ◌<◌}
 use native.Mathlib.Omega.{arith}
@@ -18,11 +18,11 @@ use Rattle.layout.specs.Held.{shaped, record_at}
 use Rattle.layout.specs.declared.nodes.Shape.{Shape}
 use Rattle.levels.specs.Interpreting.{levels, variable_at}
 use Rattle.interpreter.specs.declared.orders.Order.{Order}
-use Rattle.interpreter.specs.declared.orders.Order.TheVariants.{Empty}
+use Rattle.interpreter.specs.declared.orders.Order.TheVariants.{Empty, Outer, Inner, OuterInner, InnerOuter}
 use Rattle.interpreter.specs.Standing.{Stands, a_number, a_variable, an_unbound, the_readings, a_function, an_ask, a_call}
 use Rattle.interpreter.specs.Orders.{listed, has_level, linked_of}
 use Rattle.interpreter.specs.OrdersLaws.{has_listed}
-use Rattle.interpreter.specs.Naming.{next_of, Awaits, NamedBy, Nameable, Named}
+use Rattle.interpreter.specs.Naming.{next_of, Awaits, NamedBy, first_level, Nameable, Named}
 
 -- a form that awaits the level, its variable of that level the other form's
 pub record Leads (R : List ℕ) (at k : ℕ) (F : Form) : Type 0 where
@@ -156,6 +156,27 @@ name_for F k = name_in (variable_at k F)
 abbrev at_names : Form → List ℕ → ℕ → ℕ
 at_names F ks j = get_or (map (λ k. name_in (variable_at k F)) ks) j 0
 
+pub first-low : (w : Order) → first_level w < 2
+unfolding first_level
+first-low Empty = omega arith
+first-low Outer = omega arith
+first-low Inner = omega arith
+first-low OuterInner = omega arith
+first-low InnerOuter = omega arith
+
+first-has : (w : Order) → (w ≡ Empty → ⊥) → has_name (first_level w) (listed w) ≡ true
+unfolding first_level listed has_name
+first-has Empty u = absurd (u refl)
+first-has Outer u = refl
+first-has Inner u = refl
+first-has OuterInner u = refl
+first-has InnerOuter u = refl
+
+second-has : (w : Order) → (w ≡ OuterInner) ⊎ (w ≡ InnerOuter) → has_name (1 - first_level w) (listed w) ≡ true
+unfolding first_level listed has_name
+second-has w (inl e) = rw e refl
+second-has w (inr e) = rw e refl
+
 module _ (R : List ℕ) (orders : List Order) (i : ℕ) (nameable : Nameable R orders i) where
   abbrev w : Order
   w = get_or orders i Empty
@@ -202,3 +223,10 @@ module _ (R : List ℕ) (orders : List Order) (i : ℕ) (nameable : Nameable R o
         first = named-at (k ∷ l ∷ []) e 0 name (of-level (k ∷ l ∷ []) e k name h n);
         second = named-at (k ∷ l ∷ []) e 1 other (of-level (k ∷ l ∷ []) e l other g m);
       }
+
+  module _ (u : w ≡ Empty → ⊥) (k : ℕ) (z : k ≡ first_level w) where
+    pub awaits-first : Awaits R orders i k
+    awaits-first = rw z (awaits-level (listed w) refl (first_level w) (first-low w) (first-has w u))
+
+    pub awaits-second : (w ≡ OuterInner) ⊎ (w ≡ InnerOuter) → Awaits R orders i (1 - k)
+    awaits-second l = rw z (awaits-level (listed w) refl (1 - first_level w) (omega arith) (second-has w l))

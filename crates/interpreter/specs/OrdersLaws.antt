@@ -1,9 +1,9 @@
 -- Orders are joined, lessened and asked as the lists that they stand for are, and what the records have is what their forms await. Assumes nothing.
-use Rattle.std.specs.Prelude.{◌≡◌, List, [], ◌∷◌, eqb, get_or, set}
+use Rattle.std.specs.Prelude.{◌≡◌, List, [], ◌∷◌, eqb, length, get_or, set}
 use Rattle.std.proofs.Math.Path.{refl, ap}
 use Rattle.std.proofs.Common.{sym, ◌∙◌, subst, length-set, get_or-set_same, get_or-set_other}
 use Rattle.std.proofs.Math.Bool.{cond}
-use Prim.Native.Nat.{ℕ, zero, suc, ◌+◌, ◌-◌, ◌<◌}
+use Prim.Native.Nat.{ℕ, zero, suc, ◌+◌, ◌-◌, ◌≤◌, ◌<◌}
 use native.Mathlib.Omega.{arith}
 use Rattle.std.proofs.Math.Decide.{dec_lt}
 use borrow.Author.Tests.{ne_eqb, le-ltb, le-leb}
@@ -19,7 +19,15 @@ use Rattle.interpreter.specs.declared.orders.Order.TheVariants.{Empty, Outer, In
 use Rattle.interpreter.specs.Standing.{Stands, a_number, a_variable, an_unbound, the_readings, a_function, an_ask, a_call}
 use Rattle.interpreter.specs.Orders.{listed, join_of, less_of, has_level, linked_of, order_at, Ordered}
 
--- ---- by the orders, and by the two levels
+-- ---- by five numbers, by the orders, and by the two levels
+
+pub five : (P : ℕ → Type 0) → P 0 → P 1 → P 2 → P 3 → P 4 → (w : ℕ) → w ≤ 4 → P w
+five P a b c d e zero h = a
+five P a b c d e (suc zero) h = b
+five P a b c d e (suc (suc zero)) h = c
+five P a b c d e (suc (suc (suc zero))) h = d
+five P a b c d e (suc (suc (suc (suc zero)))) h = e
+five P a b c d e (suc (suc (suc (suc (suc w))))) h = absurd (omega arith)
 
 two : (P : ℕ → Type 0) → P 0 → P 1 → (k : ℕ) → k < 2 → P k
 two P a b zero h = a
@@ -124,3 +132,10 @@ module _ (ν : ℕ → Node) (i : ℕ) (orders : List Order) (before : Ordered �
     where
       here : (j : ℕ) → j ≡ i → get_or (set orders i w) j Empty ≡ order_at (ν i) orders
       here j z = let l = before.size in ap (λ (d : ℕ). get_or (set orders i w) d Empty) z ∙ get_or-set_same orders i w Empty (omega arith) ∙ q
+
+pub ordered-none : (ν : ℕ → Node) (orders : List Order) → length orders ≡ text_parts → Ordered ν 0 orders
+ordered-none ν orders e = record { size = e; right = λ i F h s. absurd (omega arith) }
+
+-- all of them
+pub ordered-all : (ν : ℕ → Node) (i n : ℕ) (orders : List Order) → Ordered ν i orders → i ≤ n → n ≤ i → Ordered ν n orders
+ordered-all ν i n orders o h k = let z : i ≡ n = omega arith in subst (λ (d : ℕ). Ordered ν d orders) z o

@@ -1,5 +1,5 @@
 -- The runs of a function over a window, reading by reading: what is left of them gives the same tally. Assumes nothing.
-use Rattle.std.specs.Prelude.{◌≡◌, true, ℕ, ◌+◌, ◌≤◌, ◌<◌, ℤ, pos, length}
+use Rattle.std.specs.Prelude.{◌≡◌, refl, true, ℕ, ◌+◌, ◌≤◌, ◌<◌, ℤ, pos, length}
 use Rattle.std.proofs.Math.Path.{sym, ap}
 use Rattle.std.proofs.Common.{◌∙◌, arith, drop_of_length-le, drop-cons}
 use mathlib.Core.List.{List, ◌∷◌, map}
@@ -10,7 +10,7 @@ use Rattle.rules.specs.declared.Value.{Value}
 use Rattle.rules.specs.Windows.{readings_in}
 use Rattle.values.specs.declared.runs.Tally.{Tally}
 use Rattle.values.specs.Tallies.{is_stopped, begun, stepped, gathered, finished, Within, Steps}
-use Rattle.values.specs.TallyLaws.{stopped-stays, finished-is, within_more}
+use Rattle.values.specs.TallyLaws.{stopped-stays, finished-is, within_none, within_more}
 use Rattle.values.specs.WindowLaws.{readings-short}
 use Rattle.values.specs.Packing.{unpack_of}
 use Rattle.meaning.specs.Forms.{Form}
@@ -32,6 +32,9 @@ module _ (xs : List ℤ) (R : List ℕ) (orders : List Order) (s : Bindings) (f 
   pub record Sums (zs : List ℤ) (t : Tally) (k : ℕ) : Type 0 where
     pub within : Within k t
     pub same : (F : Form) → Stands (record_at R) f F → gathered t (results F (drop k zs)) ≡ gathered begun (results F zs)
+
+  pub sums-begin : (zs : List ℤ) (t : Tally) → t ≡ begun → Sums zs t 0
+  sums-begin zs t e = rw e (record { within = within_none; same = λ F h. refl })
 
   module _ (zs : List ℤ) (t : Tally) (k : ℕ) (so : Sums zs t k) where
     pub sums-within : length zs ≤ 65535 → k < length zs → Within 65534 t

@@ -1,8 +1,11 @@
 // The limits of a text and of a table of entries, as constants of their types. The contracts of the functions that test them tie each to
 // specs/Limits.
 
-// Of a text.
-pub enum Text {}
+// The size of a text.
+#[derive(Clone, Copy)]
+pub struct Text {
+    pub length: usize,
+}
 
 impl Text {
     pub const BYTES: usize = 1024;
@@ -16,8 +19,12 @@ impl Text {
     pub const NAME_BYTES: usize = 8;
 }
 
-// Of a table of entries: how many they are, and the readings beside it.
-pub enum Table {}
+// The size of a table: its entries, and the readings beside it.
+#[derive(Clone, Copy)]
+pub struct Table {
+    pub entries: usize,
+    pub readings: usize,
+}
 
 impl Table {
     pub const ENTRIES: usize = 512;

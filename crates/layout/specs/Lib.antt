@@ -1,4 +1,5 @@
 pub mod Held
+pub mod HeldLaws
 pub mod Links
 pub mod LinksLaws
 pub mod Memory

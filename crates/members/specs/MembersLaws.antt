@@ -2,7 +2,7 @@
 -- Assumes nothing.
 use Rattle.std.specs.Prelude.{Option, Some, None}
 use Rattle.std.proofs.lemmas.Bool.{false≢true}
-use Rattle.std.specs.Prelude.{◌≡◌, Bool, true, false, ◌&&◌, cond, List, [], ◌∷◌, ◌++◌, map, ◌↔◌, ℕ, zero, suc, ◌+◌, ◌≤◌, ◌<◌, min, eqb, leb, ltb, length, get_or, take, drop}
+use Rattle.std.specs.Prelude.{◌≡◌, Bool, true, false, ◌&&◌, cond, List, [], ◌∷◌, ◌++◌, map, ◌↔◌, ℕ, zero, suc, ◌+◌, ◌-◌, ◌≤◌, ◌<◌, min, eqb, leb, ltb, length, get_or, take, drop}
 use Rattle.std.proofs.Math.Path.{refl, sym, subst}
 use Rattle.std.proofs.Common.{ap, ◌∙◌, add-zero, zero-add, add-suc, suc-add, add-one, arith, drop_of_length-le, take_all}
 use Rattle.std.proofs.Math.Bool.{and-eq-true_iff}
@@ -12,7 +12,7 @@ use Rattle.std.proofs.Math.ListN.{length-take, length-drop, take-append-drop}
 use borrow.Author.Tests.{eqb-true, eq-eqb, ne_eqb, leb-true, ltb-true}
 use Rattle.language.specs.Cases.{split}
 use Rattle.language.specs.Limits.{name_bytes}
-use Rattle.language.specs.Names.{bytes, packed}
+use Rattle.language.specs.Names.{bytes, pack_onto, packed}
 use Rattle.language.specs.NamesLaws.{Each, Byte, packed-same}
 use Rattle.members.specs.Members.{arguments, spelled, members, member_number, if_member, member_at, same_bytes, named_in, member_of, longest_name, packed_name, same_packed}
 use Rattle.members.specs.declared.Member.{Member}
@@ -241,9 +241,23 @@ none-longer w h = by (member_of w) refl
 
 -- ---- how a word's packed name is made
 
+pub short-name : (w : List ℕ) (r : ℕ) → length w ≤ name_bytes → (r ≡ packed w) × Each Byte w
+    → (◌≡◌ {A = Name} (r, 0, length w) (packed_name w)) × Each Byte w
+unfolding packed_name pack_onto
+short-name w r l h = (rw (take_all 8 w l, drop_of_length-le w l, h.0), h.1)
+
 bytes-joined : (v w : List ℕ) → Each Byte v → Each Byte w → Each Byte (v ++ w)
 bytes-joined [] w hv hw = hw
 bytes-joined (b ∷ v) w hv hw = (hv.0, bytes-joined v w hv.1 hw)
+
+pub long-name : (w : List ℕ) (r s : ℕ) → (r ≡ packed (take 8 w)) × Each Byte (take 8 w)
+    → (s ≡ packed (take (length w - 8) (drop 8 w))) × Each Byte (take (length w - 8) (drop 8 w))
+    → (◌≡◌ {A = Name} (r, s, length w) (packed_name w)) × Each Byte w
+unfolding packed_name
+long-name w r s h k =
+    let rest : take (length w - 8) (drop 8 w) ≡ drop 8 w = take_all (length w - 8) (drop 8 w) (omega (arith, length-drop 8 w)) in
+    let b : Each Byte (drop 8 w) = rw rest at k.1 in
+    (rw (h.0, k.0, rest), rw take-append-drop at (bytes-joined (take 8 w) (drop 8 w) h.1 b))
 
 -- the word is cut behind its eighth byte, or at its end
 module _ (w : List ℕ) (n : ℕ) (h : n ≡ min (length w) name_bytes) where
@@ -267,30 +281,47 @@ module _ (w : List ℕ) (n : ℕ) (h : n ≡ min (length w) name_bytes) where
 
 -- ---- a packed name against a row
 
-module _ (n : ℕ) (w : List ℕ) (h : n < length members) where
-  row-yes : names_it w (member_at n) ≡ true → member_at n ≡ named_in (drop n members) w
+module _ (n : ℕ) (x : Name) (f : Option Member) (at : f ≡ member_at n) where
+  pub named-known : (m : Member) (y : Name) (r : Bool) → f ≡ Some m → y ≡ packed_name (spelled m) → r ≡ same_packed x y
+      → r ≡ if_member false (member_at n) (λ k. same_packed x (packed_name (spelled k)))
+  named-known m y r e q p = p ∙ rw (q, ← at, e)
+
+  pub named_none : f ≡ None → false ≡ if_member false (member_at n) (λ k. same_packed x (packed_name (spelled k)))
+  named_none e = rw (← at, e)
+
+module _ (n : ℕ) (w : List ℕ) (x : Name) (is : (x ≡ packed_name w) × Each Byte w) (r : Bool)
+    (e : r ≡ if_member false (member_at n) (λ m. same_packed x (packed_name (spelled m)))) where
+  named-row : r ≡ names_it w (member_at n)
+  named-row = e ∙ by (member_at n)
+    where
+      by : (f : Option Member) → if_member false f (λ m. same_packed x (packed_name (spelled m))) ≡ names_it w f
+      by (Some m) = ap (λ (y : Name). same_packed y (packed_name (spelled m))) is.0 ∙ packed-bytes w (spelled m) is.1 (name-bytes m)
+      by None = refl
+
+  module _ (h : n < length members) where
+    pub row_is : r ≡ true → member_at n ≡ named_in (drop n members) w
+    unfolding member_at
+    row_is t = rw (rest-row members n w h, sym named-row ∙ t)
+
+    pub row-not : r ≡ false → named_in (drop (n + 1) members) w ≡ named_in (drop n members) w
+    unfolding member_at
+    row-not t = rw (add-one, rest-row members n w h, sym named-row ∙ t)
+
+-- a row that was looked up: there is none, or it is a member's
+module _ (n : ℕ) (w : List ℕ) (h : n < length members) (f : Option Member) (at : f ≡ member_at n) where
+  pub row-missing : f ≡ None → named_in (drop (n + 1) members) w ≡ named_in (drop n members) w
   unfolding member_at
-  row-yes t = rw (rest-row members n w h, t)
+  row-missing e = rw (add-one, rest-row members n w h, ap (names_it w) (sym at ∙ e))
 
-  row-no : names_it w (member_at n) ≡ false → named_in (drop (n + 1) members) w ≡ named_in (drop n members) w
-  unfolding member_at
-  row-no t = rw (add-one, rest-row members n w h, t)
+  module _ (x : Name) (is : (x ≡ packed_name w) × Each Byte w) (m : Member) (e : f ≡ Some m) (r : Bool) (p : r ≡ same_packed x (packed_name (spelled m))) where
+    known : r ≡ if_member false (member_at n) (λ k. same_packed x (packed_name (spelled k)))
+    known = named-known n x f at m (packed_name (spelled m)) r e refl p
 
-  module _ (f : Option Member) (at : f ≡ member_at n) where
-    pub row-missing : f ≡ None → named_in (drop (n + 1) members) w ≡ named_in (drop n members) w
-    row-missing e = row-no (ap (names_it w) (sym at ∙ e))
+    pub row-found : r ≡ true → Some m ≡ named_in (drop n members) w
+    row-found t = sym e ∙ at ∙ row_is n w x is r known h t
 
-    module _ (x : Name) (is : (x ≡ packed_name w) × Each Byte w) (m : Member) (e : f ≡ Some m) (r : Bool) (p : r ≡ same_packed x (packed_name (spelled m))) where
-      named-row : names_it w (member_at n) ≡ r
-      named-row =
-          ap (names_it w) (sym at ∙ e) ∙ sym (packed-bytes w (spelled m) is.1 (name-bytes m))
-          ∙ ap (λ (y : Name). same_packed y (packed_name (spelled m))) (sym is.0) ∙ sym p
-
-      pub row_is : r ≡ true → Some m ≡ named_in (drop n members) w
-      row_is t = sym e ∙ at ∙ row-yes (named-row ∙ t)
-
-      pub row-not : r ≡ false → named_in (drop (n + 1) members) w ≡ named_in (drop n members) w
-      row-not t = row-no (named-row ∙ t)
+    pub row-other : r ≡ false → named_in (drop (n + 1) members) w ≡ named_in (drop n members) w
+    row-other t = row-not n w x is r known h t
 
 -- behind the last row there is none
 pub row-over : (n : ℕ) (w : List ℕ) (f : Option Member) → length members ≤ n → named_in (drop n members) w ≡ f → None ≡ f

@@ -27,6 +27,7 @@ use Rattle.language.specs.Refusals.{refusal_number}
 use Rattle.language.specs.RefusalsLaws.{refusal-some}
 use Rattle.interface.specs.Calls.{form_at, print_answer}
 use Rattle.interface.specs.Effects.{Prints}
+use Rattle.interface.proofs.AnswersLaws.{prints-by}
 use Rattle.planner.specs.Ready.{any-readings}
 use Rattle.demand.proofs.PrintedEntries.{entry-printable, entry-saturated}
 use Rattle.calls.specs.Previewing.{checked, accepted}
@@ -178,9 +179,9 @@ print-refused m n bytes r q e u x w =
     (λ f. split (well_formed m)
     (λ w. split (ltb n (entry_count m))
     (λ l. absurd (false≢true (let z = rw (f, w, l) at q in cc)))
-    (λ l. let z : e ≡ NoSuchEntry = (let k = rw (f, w, l) at q in cc) in record { answer = rw (f, w, l, z); filled = rw (f, w, l) }))
-    (λ w. let z : e ≡ CacheIllFormed = (let k = rw (f, w) at q in cc) in record { answer = rw (f, w, z); filled = rw (f, w) }))
-    (λ f. let z : e ≡ MemoryTooSmall = (let k = rw f at q in cc) in record { answer = rw (f, z); filled = rw f }))
+    (λ l. let z : e ≡ NoSuchEntry = (let k = rw (f, w, l) at q in cc) in prints-by m n bytes bytes (Err e) (rw (f, w, l, z)) (rw (f, w, l))))
+    (λ w. let z : e ≡ CacheIllFormed = (let k = rw (f, w) at q in cc) in prints-by m n bytes bytes (Err e) (rw (f, w, z)) (rw (f, w))))
+    (λ f. let z : e ≡ MemoryTooSmall = (let k = rw f at q in cc) in prints-by m n bytes bytes (Err e) (rw (f, z)) (rw f)))
 
 module _ (rs : List ℤ) (heads links cells : List ℕ) (n : ℕ) (r : Result (Unit {0}) Refusal) (e : r ≡ checked (memory rs heads links cells) n)
     (done : Unit {0}) (z : r ≡ Ok done) where
@@ -192,7 +193,7 @@ module _ (rs : List ℤ) (heads links cells : List ℕ) (n : ℕ) (r : Result (U
       let f = a.whole in
       let w = a.well in
       let l = a.held in
-      record { answer = rw (f, w, l) p.answer; filled = rw (f, w, l) p.filled }
+      prints-by (memory rs heads links cells) n bytes bytes' x (rw (f, w, l) p.answer) (rw (f, w, l) p.filled)
 
   pub print-ready : (n < get_or heads 0 0) × ((xs : List ℤ) → well_formed (memory xs heads links cells) ≡ true) × (get_or heads 0 0 ≤ table_entries)
   print-ready =

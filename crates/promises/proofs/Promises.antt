@@ -73,7 +73,7 @@ use Rattle.interface.specs.declared.answers.EditAnswer.{EditAnswer}
 use Rattle.interface.specs.declared.answers.PreviewAnswer.{PreviewAnswer}
 use Rattle.interface.specs.declared.answers.PrintAnswer.{PrintAnswer}
 use Rattle.interface.specs.declared.answers.EvaluateAnswer.{EvaluateAnswer}
-use Rattle.interface.specs.Answers.{Opened, open_reply, edit_reply, preview_reply, PrintReply, declined, shown_of}
+use Rattle.interface.specs.Answers.{Opened, open_reply, edit_reply, preview_reply, PrintReply, printed_as, declined, shown_of}
 use Rattle.interface.specs.Calls.{open_answer, open_memory, edit_answer, edit_memory, edit_places, previewed, preview_answer, preview_memory, part_of, fetched}
 use Rattle.interface.specs.Calls.{form_at, print_answer, print_bytes, evaluated}
 use Rattle.interface.specs.Effects.{Opens, Edits, Previews, Prints, OpensForC, EditsForC, PreviewsForC, PrintsForC, EvaluatesForC}
@@ -114,6 +114,10 @@ preview-answers m n a m' x p = ap preview_reply p.answer
 -- A print answers its text's length. Its contract has no memory afterwards: the cache is only read.
 pub print-answers : (m : Memory) (n : ℕ) (bytes bytes' : List ℕ) (x : Result ℕ Refusal) → Prints m n bytes bytes' x → PrintReply x (print_answer m n bytes)
 print-answers m n bytes bytes' x p = p.answer
+
+-- The same as an equation: it is the answer of Calls, with a text by its length and a refusal by its number.
+pub print-equals : (m : Memory) (n : ℕ) (bytes bytes' : List ℕ) (x : Result ℕ Refusal) → Prints m n bytes bytes' x → x ≡ printed_as (print_answer m n bytes)
+print-equals m n bytes bytes' x p = p.same
 
 -- 1. When a call is accepted. An open: the memory fits, and the recording has at most 1,024 readings.
 pub open-accepted : (m : Memory) (r : List ℤ) → (open_answer m r ≡ opened) ↔ ((fits m ≡ true) × (length r ≤ table_readings))

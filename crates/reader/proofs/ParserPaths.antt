@@ -44,7 +44,7 @@ use Rattle.lexer.specs.declared.tokens.TokenKind.TheVariants as K
 use Rattle.reader.specs.declared.answer.Read.{Read}
 use Rattle.lexer.specs.Lexing.{kind_number, lex_at, tokens_from}
 use Rattle.steps.specs.Cursors.{cursor_of, state_of, refused_at, fault_of, passed_or_refused, passing, Comes, Leaves}
-use Rattle.steps.specs.CursorsLaws.{at-kind, not-kind, refused-number, ungrammatical-here, judged-here, left-is, left-refused}
+use Rattle.steps.specs.CursorsLaws.{at-token, not-token, refused-number, ungrammatical-here, judged-here, left-is, left-refused}
 use Rattle.steps.specs.Scratch.{Wrote, WroteFor, WroteCall, NameAhead, NumberAhead, ShutAhead, Recorded, call_of}
 use Rattle.reader.specs.Parsing.{Ready, ReadyAt, Parses, Continues}
 use Rattle.reader.specs.Results.{answer_of, no_binders, ReadsInto}
@@ -71,10 +71,10 @@ module _ (text : List ℕ) where
 
   module _ (c : Cursor) (x : Lexed) (e : x ≡ lex_at text c.at) where
     pub ahead : (k : TokenKind) → x.kind ≡ k → C.is_at (kind_number k) (tokens_from text c.at) ≡ true
-    ahead k q = at-kind text c.at x e k q
+    ahead k q = at-token text c.at x e k q
 
     pub not-ahead : (k : TokenKind) → (x.kind ≡ k → ⊥) → C.is_at (kind_number k) (tokens_from text c.at) ≡ false
-    not-ahead k q = not-kind text c.at x e k q
+    not-ahead k q = not-token text c.at x e k q
 
   ahead_of : {k : TokenKind} {x : Lexed} {m : Mode} {c : Cursor} {R P S : List ℕ} → ReadyAt k x m text c R P S → C.is_at (kind_number k) (tokens_from text c.at) ≡ true
   ahead_of {k} {x} {c = c} f = ahead c x f.next k f.kind
@@ -645,11 +645,11 @@ module _ (text R P : List ℕ) where
 
       pub read_done : x.kind ≡ K.End → ReadsInto text R P (Ok (record { parts = a.parts; records = a.count; root = a.root })) R' P'
       unfolding D.ended C.judge C.at_mark answer_of when
-      read_done q = reading whole whole-is (cursor_of text a) (Paths.then-go _ refl refl (rw (at-kind text a.at x e K.End q))) _ refl R' P' refl refl
+      read_done q = reading whole whole-is (cursor_of text a) (Paths.then-go _ refl refl (rw (at-token text a.at x e K.End q))) _ refl R' P' refl refl
 
       pub read_more : (x.kind ≡ K.End → ⊥) → (f : Refused) → f ≡ refused_at x Ungrammatical → ReadsInto text R P (Err f) R' P'
       unfolding D.ended C.judge C.at_mark when
       read_more q f g =
           let u = C.refuse (length text) 5 (cursor_of text a) in
-          let j : D.ended (length text) whole ≡ moved whole u = Paths.then-go _ refl refl (rw (not-kind text a.at x e K.End q)) in
+          let j : D.ended (length text) whole ≡ moved whole u = Paths.then-go _ refl refl (rw (not-token text a.at x e K.End q)) in
           reading whole whole-is u j (Err f) (refusing whole whole-is u j f (ungrammatical-here text a x e f g)) R' P' refl refl

@@ -26,20 +26,20 @@ fn raise(j: usize, link: usize, flags: &mut [u8; Table::ENTRIES])
     }
 }
 
-// The entries at or below entry n, flagged by a falling sweep.
-fn need(links: &[u16], n: usize) -> [u8; Table::ENTRIES]
+// Flags the entries at or below entry n, by a falling sweep. The flags are the caller's: an array that is given back takes its place in the stack
+// twice.
+fn need(links: &[u16], n: usize, flags: &mut [u8; Table::ENTRIES])
     requires { n < table_entries }
-    ensures { result ≡ need_of links.now n }
+    ensures { flags.new ≡ need_of links.now n }
 {
-    let mut flags = [0u8; Table::ENTRIES];
+    *flags = [0u8; Table::ENTRIES];
     flags[n] = 1;
     for j in (0..n + 1).rev() {
         if flags[j] == 1 {
-            raise(j, first_of(links, j) as usize, &mut flags);
-            raise(j, second_of(links, j) as usize, &mut flags);
+            raise(j, first_of(links, j) as usize, flags);
+            raise(j, second_of(links, j) as usize, flags);
         }
     }
-    flags
 }
 
 // Whether entry i is to be worked out.
@@ -113,7 +113,8 @@ pub fn work(readings: &[i32], links: &[u16], cells: &mut [u64], n: usize, allowa
     fill_waits(links, cells, n + 1, &mut waits);
     let mut frame = [0u64; Table::ENTRIES];
     start_frame(readings.len() as u16, links, cells, n + 1, &mut frame);
-    let flags = need(links, n);
+    let mut flags = [0u8; Table::ENTRIES];
+    need(links, n, &mut flags);
     let mut count: u32 = 0;
     for i in 0..n + 1 {
         if !chosen(links, &flags, &frame, i) {

@@ -28,7 +28,7 @@ use Rattle.lexer.specs.declared.tokens.TokenKind.TheVariants as K
 use Rattle.lexer.specs.Lexing.{kind_number, lex_at, tokens_from, bytes_at, name_at}
 use Rattle.lexer.specs.LexingLaws.{name-whole}
 use Rattle.steps.specs.Cursors.{cursor_of, passed_to, named_to, refused_at, fault_of, passed_or_refused, part_or_refused, Comes, passing_part, binder_named, member_named, call_opened}
-use Rattle.steps.specs.CursorsLaws.{behind-head, head-word, at-kind, not-kind, refused-number, refused-here, goes-here, passed_here, judged-here, judged-part-here}
+use Rattle.steps.specs.CursorsLaws.{behind-head, head-word, at-token, not-token, refused-number, refused-here, goes-here, passed_here, judged-here, judged-part-here}
 
 -- ---- the scope
 module _ (scope : List ℕ) (x : ℕ) where
@@ -107,22 +107,22 @@ module _ (text : List ℕ) (c : Cursor) (x : Lexed) (e : x ≡ lex_at text c.at)
   -- a token of one kind
   pub need-passed : (k : TokenKind) → x.kind ≡ k → (r : Cursor) → r ≡ passed_to c x.end → Comes text (Ok r) (D.need (length text) (kind_number k) (cursor_of text c))
   unfolding D.need D.at_mark
-  need-passed k z r q = goes-here text c x e _ (ap (λ (t : Bool). cond t 0 5) (sym (at-kind text c.at x e k z))) r _ (ap (cursor_of text) q ∙ passed_here text c x e)
+  need-passed k z r q = goes-here text c x e _ (ap (λ (t : Bool). cond t 0 5) (sym (at-token text c.at x e k z))) r _ (ap (cursor_of text) q ∙ passed_here text c x e)
 
   pub need-refused : (k : TokenKind) → (x.kind ≡ k → ⊥) → (f : Refused) → f ≡ refused_at x Ungrammatical
       → Comes text (Err f) (D.need (length text) (kind_number k) (cursor_of text c))
   unfolding D.need D.at_mark
-  need-refused k z f q = stops Ungrammatical _ (ap (λ (t : Bool). cond t 0 5) (sym (not-kind text c.at x e k z))) f q _
+  need-refused k z f q = stops Ungrammatical _ (ap (λ (t : Bool). cond t 0 5) (sym (not-token text c.at x e k z))) f q _
 
   -- the name that a let or a lambda binds
   pub name-none : (x.kind ≡ K.Word → ⊥) → (f : Refused) → f ≡ refused_at x Ungrammatical → Comes text (Err f) (binder_named text c)
   unfolding D.at_binder
-  name-none z f q = stops Ungrammatical _ (rw (not-kind text c.at x e K.Word z)) f q _
+  name-none z f q = stops Ungrammatical _ (rw (not-token text c.at x e K.Word z)) f q _
 
   module _ (z : x.kind ≡ K.Word) (long : Bool) (l : long ≡ is_long bytes) where
     binder-number : D.at_binder left ≡ cond long 7 (cond (is_data bytes) 8 0)
     unfolding D.at_binder
-    binder-number = rw (at-kind text c.at x e K.Word z, head-word text c.at x e z, l)
+    binder-number = rw (at-token text c.at x e K.Word z, head-word text c.at x e z, l)
 
     pub binder-long : long ≡ true → (f : Refused) → f ≡ refused_at x NameTooLong → Comes text (Err f) (binder_named text c)
     binder-long t f q = stops NameTooLong _ (sym (binder-number ∙ rw t)) f q _
@@ -147,12 +147,12 @@ module _ (text : List ℕ) (c : Cursor) (x : Lexed) (e : x ≡ lex_at text c.at)
   -- a member: none, one that is not known, and one that is
   pub member-none : (x.kind ≡ K.Word → ⊥) → (f : Refused) → f ≡ refused_at x Ungrammatical → Comes text (Err f) (member_named text c)
   unfolding D.at_member
-  member-none z f q = stops Ungrammatical _ (rw (not-kind text c.at x e K.Word z)) f q _
+  member-none z f q = stops Ungrammatical _ (rw (not-token text c.at x e K.Word z)) f q _
 
   module _ (z : x.kind ≡ K.Word) (found : Option Member) (g : found ≡ member_of bytes) where
     member-number : D.at_member left ≡ cond (is_unknown found) 9 0
     unfolding D.at_member
-    member-number = rw (at-kind text c.at x e K.Word z, head-word text c.at x e z, g)
+    member-number = rw (at-token text c.at x e K.Word z, head-word text c.at x e z, g)
 
     pub member-unknown : found ≡ None → (f : Refused) → f ≡ refused_at x WrongCall → Comes text (Err f) (member_named text c)
     member-unknown i f q = stops WrongCall _ (sym (member-number ∙ rw i)) f q _
@@ -170,12 +170,12 @@ module _ (text : List ℕ) (c : Cursor) (x : Lexed) (e : x ≡ lex_at text c.at)
   module _ (marks : ℕ) where
     pub open-none : (x.kind ≡ K.Open → ⊥) → (f : Refused) → f ≡ refused_at x Ungrammatical → Comes text (Err f) (call_opened text marks c)
     unfolding D.at_call_open
-    open-none z f q = stops Ungrammatical _ (rw (not-kind text c.at x e K.Open z)) f q _
+    open-none z f q = stops Ungrammatical _ (rw (not-token text c.at x e K.Open z)) f q _
 
     pub open_judged : x.kind ≡ K.Open → (v : Result (Unit {0}) Refusal) → fault_of v ≡ cond (leb open_marks marks) 12 0 → (r : Result Cursor Refused)
         → r ≡ passed_or_refused x v c → Comes text r (call_opened text marks c)
     unfolding D.at_call_open
-    open_judged z v p r q = judged-here text c x e _ v (p ∙ rw (at-kind text c.at x e K.Open z)) r q
+    open_judged z v p r q = judged-here text c x e _ v (p ∙ rw (at-token text c.at x e K.Open z)) r q
 
 -- ---- the heads
 module _ (text : List ℕ) (x : Lexed) (c : Cursor) (e : x ≡ lex_at text c.at) (v : Result (Unit {0}) Refusal) where

@@ -46,6 +46,15 @@ abbrev pub part_or_refused : Lexed → Result (Unit {0}) Refusal → Cursor → 
 part_or_refused x (Ok u) c = Ok (part_to c x.end)
 part_or_refused x (Err e) c = Err (refused_at x e)
 
+-- descent's cursor where the token at the code's cursor is refused, by a number at a place; and where the code comes to a cursor or a refusal
+abbrev pub stopped_of : List ℕ → Cursor → (number place : ℕ) → D.Cursor
+stopped_of text c n place =
+    record { rest = tokens_from text c.at; parts = c.parts; count = c.count; root = c.root; name = c.name; takes = c.takes; number = n; place = place }
+
+abbrev pub came_to : List ℕ → Cursor → Result Cursor Refused → D.Cursor
+came_to text c (Ok r) = cursor_of text r
+came_to text c (Err e) = stopped_of text c (refusal_number e.refusal) e.place
+
 -- what the code comes to where descent comes to the cursor d: a cursor that stands for it, or its refusal
 abbrev pub Comes : List ℕ → Result Cursor Refused → D.Cursor → Type 0
 Comes text (Ok c) d = cursor_of text c ≡ d

@@ -21,7 +21,7 @@ use Rattle.language.specs.RefusalsLaws.{refusal-some}
 use Rattle.lexer.specs.Lexing.{token_kind, kind_number, ended, lex_at, tokens_from, bytes_at, value_of, token_for}
 use Rattle.lexer.specs.LexingLaws.{Stands, same-kind, lex-none, lex-end, lex-some, lex-word, lex-number}
 use Rattle.steps.specs.declared.cursor.Cursor.{Cursor}
-use Rattle.steps.specs.Cursors.{cursor_of, passed_to, part_to, refused_at, fault_of, passed_or_refused, part_or_refused, Comes, Leaves, state_of, passing, passing_part}
+use Rattle.steps.specs.Cursors.{cursor_of, passed_to, part_to, refused_at, fault_of, passed_or_refused, part_or_refused, stopped_of, came_to, Comes, Leaves, state_of, passing, passing_part}
 
 same_kind : (t : Token) → kind_of t ≡ kind_number (token_kind t)
 unfolding kind_of
@@ -78,14 +78,20 @@ module _ (text : List ℕ) (at : ℕ) (x : Lexed) (e : x ≡ lex_at text at) whe
   head-value q = rw (lex-number text at x e q)
 
   -- the tests of a token's kind
-  is-at : (k : TokenKind) → is_at (kind_number k) (tokens_from text at) ≡ eqb (kind_number x.kind) (kind_number k)
-  is-at k = ap (λ (j : ℕ). eqb j (kind_number k)) head-kind
+  pub is-at : (k : ℕ) → is_at k (tokens_from text at) ≡ eqb (kind_number x.kind) k
+  is-at k = ap (λ (j : ℕ). eqb j k) head-kind
 
-  pub at-kind : (k : TokenKind) → x.kind ≡ k → is_at (kind_number k) (tokens_from text at) ≡ true
-  at-kind k q = is-at k ∙ eq-eqb _ _ (ap kind_number q)
+  pub at-kind : (k : ℕ) → kind_number x.kind ≡ k → is_at k (tokens_from text at) ≡ true
+  at-kind k q = is-at k ∙ eq-eqb (kind_number x.kind) k q
 
-  pub not-kind : (k : TokenKind) → (x.kind ≡ k → ⊥) → is_at (kind_number k) (tokens_from text at) ≡ false
-  not-kind k q = is-at k ∙ ne_eqb _ _ (λ z. q (same-kind x.kind k z))
+  pub not-kind : (k : ℕ) → (kind_number x.kind ≡ k → ⊥) → is_at k (tokens_from text at) ≡ false
+  not-kind k q = is-at k ∙ ne_eqb (kind_number x.kind) k q
+
+  pub at-token : (k : TokenKind) → x.kind ≡ k → is_at (kind_number k) (tokens_from text at) ≡ true
+  at-token k q = at-kind (kind_number k) (ap kind_number q)
+
+  pub not-token : (k : TokenKind) → (x.kind ≡ k → ⊥) → is_at (kind_number k) (tokens_from text at) ≡ false
+  not-token k q = not-kind (kind_number k) (λ z. q (same-kind x.kind k z))
 
 -- what a `?` hands on
 pub raised : {T E : Type 0} {e : E} (r : Result T E) → IsErrAnd r (λ (x : E). x ≡ e) → r ≡ Err e
@@ -106,6 +112,19 @@ left-refused text e r R P S s h q = refused-number text e s.cursor (rw q at h).c
 
 -- what the code makes of the token, descent makes of the one at the front
 module _ (text : List ℕ) (c : Cursor) (x : Lexed) (e : x ≡ lex_at text c.at) where
+  pub refused-whole : (n : ℕ) → stopped_of text c n x.start ≡ D.refuse (length text) n (cursor_of text c)
+  unfolding D.refuse
+  refused-whole n = λ i. record {
+    rest = tokens_from text c.at;
+    parts = c.parts;
+    count = c.count;
+    root = c.root;
+    name = c.name;
+    takes = c.takes;
+    number = n;
+    place = sym (head-place text c.at x e) i;
+  }
+
   pub refused-here : (f : Refusal) (n : ℕ) → refusal_number f ≡ n → (d : Unit {0} → D.Cursor)
       → Comes text (Err (refused_at x f)) (D.judge (length text) n (cursor_of text c) d)
   unfolding D.judge D.refuse when
@@ -145,6 +164,18 @@ module _ (text : List ℕ) (c : Cursor) (x : Lexed) (e : x ≡ lex_at text c.at)
       → Comes text (Ok r) (D.judge (length text) n (cursor_of text c) d)
   unfolding D.judge when
   goes-here n p r d q = rw (← p) q
+
+  -- with all that descent's cursor holds, also where the token is refused
+  module _ (n : ℕ) where
+    pub judged-whole : (v : Result (Unit {0}) Refusal) → fault_of v ≡ n → (r : Result Cursor Refused) → r ≡ passed_or_refused x v c → came_to text c r ≡ passing text n c
+    unfolding D.judge when
+    judged-whole (Ok u) p r q = rw (q, ← p) passed_here
+    judged-whole (Err f) p r q = rw (q, ne_eqb n 0 (λ z. refusal-some f (p ∙ z))) (ap (λ (k : ℕ). stopped_of text c k x.start) p ∙ refused-whole n)
+
+    pub judged-part-whole : (v : Result (Unit {0}) Refusal) → fault_of v ≡ n → (r : Result Cursor Refused) → r ≡ part_or_refused x v c → came_to text c r ≡ passing_part text n c
+    unfolding D.judge when
+    judged-part-whole (Ok u) p r q = rw (q, ← p) part-here
+    judged-part-whole (Err f) p r q = rw (q, ne_eqb n 0 (λ z. refusal-some f (p ∙ z))) (ap (λ (k : ℕ). stopped_of text c k x.start) p ∙ refused-whole n)
 
   module _ (n : ℕ) where
     pub judged-here : (v : Result (Unit {0}) Refusal) → fault_of v ≡ n → (r : Result Cursor Refused) → r ≡ passed_or_refused x v c → Comes text r (passing text n c)

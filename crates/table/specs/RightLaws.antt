@@ -2,7 +2,7 @@
 use Rattle.std.specs.Prelude.{Option, Some}
 use Rattle.std.specs.Prelude.{◌≡◌, refl, Bool, true, false, not, ◌&&◌, ◌||◌, List, eqb, leb, ltb}
 use Rattle.std.proofs.Math.Path.{sym}
-use Rattle.std.proofs.Common.{◌∙◌, mod-eq_of_lt}
+use Rattle.std.proofs.Common.{ap, ◌∙◌, mod-eq_of_lt}
 use Rattle.std.proofs.Math.Bool.{cond, and-eq-true_iff}
 use Prim.Native.Nat.{ℕ, zero, suc, ◌+◌, ◌-◌, ◌/◌, ◌%◌, ◌≤◌, ◌<◌}
 use Rattle.std.proofs.Math.Nat.{sub-zero}
@@ -13,10 +13,11 @@ use Rattle.language.specs.Cases.{split}
 use Rattle.language.specs.Names.{is_letter, in_word, pack_onto, bytes, let_word, word_in, data_word}
 use Rattle.members.specs.Members.{arguments}
 use Rattle.members.specs.declared.Member.{Member}
+use Rattle.layout.specs.Links.{kind_at, first_at, second_at, level_at, key_at}
 use Rattle.layout.specs.Memory.{Node, node_at, node_with, node}
 use Rattle.layout.specs.Held.{shaped}
 use Rattle.layout.specs.declared.nodes.Shape.{Shape}
-use Rattle.layout.specs.Nodes.{number_kind, variable_kind, function_kind, kind_count, member_of_kind, member_arity, arity, word_number, is_name}
+use Rattle.layout.specs.Nodes.{number_kind, variable_kind, unbound_kind, function_kind, kind_count, member_of_kind, member_arity, arity, word_number, is_name}
 use Rattle.table.specs.WellFormed.{kind_known, key_right, has_level, level_right, arity_right, lower}
 use Rattle.table.specs.Right.{node_right, right_at}
 use Rattle.layout.specs.Numbered.{all_from}
@@ -43,26 +44,46 @@ module _ (p : ℕ → Bool) (n : ℕ) where
     unfolding all_from
     all_end h = let z : n - i ≡ 0 = omega arith in sym (all ∙ rw z)
 
+-- packed words
+module _ (k left rest : ℕ) (whole : word_number 8 k ≡ word_number left rest) where
+  word-step : 0 < left → word_number left rest ≡ cond (ltb rest 256) (is_letter rest) (in_word (rest % 256) && word_number (left - 1) (rest / 256))
+  unfolding word_number
+  word-step h = by left h
+    where
+      by : (l : ℕ) → 0 < l → word_number l rest ≡ cond (ltb rest 256) (is_letter rest) (in_word (rest % 256) && word_number (l - 1) (rest / 256))
+      by zero h = absurd (omega arith)
+      by (suc l) h = let z : suc l - 1 ≡ l = omega arith in rw z
+
+  pub word-stop : (b : ℕ) (r : Bool) → r ≡ is_letter b → b ≡ rest % 256 → rest < 256 → 0 < left → r ≡ word_number 8 k
+  word-stop b r q e s h = let z : b ≡ rest = e ∙ mod-eq_of_lt s in sym (whole ∙ word-step h ∙ rw (lt-ltb rest 256 s) (rw (← z, ← q)))
+
+  pub word-go : (b : ℕ) (r : Bool) → r ≡ in_word b → b ≡ rest % 256 → r ≡ true → 256 ≤ rest → 0 < left → word_number 8 k ≡ word_number (left - 1) (rest / 256)
+  word-go b r q e t s h = whole ∙ word-step h ∙ rw (le-ltb rest 256 s) (rw (← e) (rw (sym q ∙ t)))
+
+  pub word-fail : (b : ℕ) (r : Bool) → r ≡ in_word b → b ≡ rest % 256 → r ≡ false → 256 ≤ rest → 0 < left → false ≡ word_number 8 k
+  word-fail b r q e t s h = sym (whole ∙ word-step h ∙ rw (le-ltb rest 256 s) (rw (← e) (rw (sym q ∙ t))))
+
+  pub word_end : left ≤ 0 → false ≡ word_number 8 k
+  unfolding word_number
+  word_end h = let z : left ≡ 0 = omega arith in sym (whole ∙ rw z)
+
 -- packed words, of whose bytes n were passed
 module _ (k n rest : ℕ) (whole : word_number 8 k ≡ word_number (8 - n) rest) where
   module _ (h : n < 8) where
-    word-step : word_number (8 - n) rest ≡ cond (ltb rest 256) (is_letter rest) (in_word (rest % 256) && word_number (8 - (n + 1)) (rest / 256))
-    unfolding word_number
-    word-step = let z : 8 - n ≡ suc (8 - (n + 1)) = omega arith in rw z
-
-    pub word-stop : (b : ℕ) (r : Bool) → r ≡ is_letter b → b ≡ rest % 256 → rest < 256 → r ≡ word_number 8 k
-    word-stop b r q e s = let z : b ≡ rest = e ∙ mod-eq_of_lt s in sym (whole ∙ word-step ∙ rw (lt-ltb rest 256 s) (rw (← z, ← q)))
+    pub passed-stop : (b : ℕ) (r : Bool) → r ≡ is_letter b → b ≡ rest % 256 → rest < 256 → r ≡ word_number 8 k
+    passed-stop b r q e s = word-stop k (8 - n) rest whole b r q e s (omega arith)
 
     module _ (b : ℕ) (r : Bool) (q : r ≡ in_word b) (e : b ≡ rest % 256) (s : 256 ≤ rest) where
-      pub word-go : r ≡ true → word_number 8 k ≡ word_number (8 - (n + 1)) (rest / 256)
-      word-go t = whole ∙ word-step ∙ rw (le-ltb rest 256 s) (rw (← e) (rw (sym q ∙ t)))
+      pub passed-go : r ≡ true → word_number 8 k ≡ word_number (8 - (n + 1)) (rest / 256)
+      passed-go t =
+          let z : 8 - n - 1 ≡ 8 - (n + 1) = omega arith in
+          word-go k (8 - n) rest whole b r q e t s (omega arith) ∙ ap (λ (l : ℕ). word_number l (rest / 256)) z
 
-      pub word-fail : r ≡ false → false ≡ word_number 8 k
-      word-fail t = sym (whole ∙ word-step ∙ rw (le-ltb rest 256 s) (rw (← e) (rw (sym q ∙ t))))
+      pub passed-fail : r ≡ false → false ≡ word_number 8 k
+      passed-fail t = word-fail k (8 - n) rest whole b r q e t s (omega arith)
 
-  pub word_end : 8 ≤ n → false ≡ word_number 8 k
-  unfolding word_number
-  word_end h = let z : 8 - n ≡ 0 = omega arith in sym (whole ∙ rw z)
+  pub passed_all : 8 ≤ n → false ≡ word_number 8 k
+  passed_all h = word_end k (8 - n) rest whole (omega arith)
 
 pub name-is : (k : ℕ) (r : Bool) → r ≡ word_number 8 k → (((r && not (eqb k 7103860)) && not (eqb k 26990)) && not (eqb k 1684108385)) ≡ is_name k
 unfolding is_name pack_onto bytes let_word word_in data_word
@@ -86,6 +107,55 @@ module _ (k : ℕ) where
   pub arity-member : (f : Option Member) (a : ℕ) → a ≡ member_arity f → f ≡ member_of_kind k → (k ≡ function_kind → ⊥) → a ≡ arity k
   unfolding arity
   arity-member f a q e u = rw (ne_eqb k function_kind u) (rw (q, e))
+
+-- the key by kind
+module _ (kind key : ℕ) where
+  pub key-number : kind ≡ number_kind → ltb key 4294967296 ≡ key_right (node kind key 0 0)
+  unfolding key_right
+  key-number e = rw (eq-eqb kind number_kind e)
+
+  pub key-name : (r : Bool) → r ≡ is_name key → (eqb kind variable_kind || (eqb kind unbound_kind || eqb kind function_kind)) ≡ true → (kind ≡ number_kind → ⊥) → r ≡ key_right (node kind key 0 0)
+  unfolding key_right
+  key-name r q t e = rw (ne_eqb kind number_kind e, t) q
+
+  pub key-none : (eqb kind variable_kind || (eqb kind unbound_kind || eqb kind function_kind)) ≡ false → (kind ≡ number_kind → ⊥) → eqb key 0 ≡ key_right (node kind key 0 0)
+  unfolding key_right
+  key-none t e = rw (ne_eqb kind number_kind e, t)
+
+-- the level by kind
+module _ (kind level : ℕ) where
+  pub level-some : has_level kind ≡ true → ltb level 2 ≡ level_right (node_with kind 0 0 0 level)
+  unfolding level_right
+  level-some t = rw t
+
+  pub level-none : has_level kind ≡ false → eqb level 0 ≡ level_right (node_with kind 0 0 0 level)
+  unfolding level_right
+  level-none t = rw t
+
+-- the dependencies by their number
+module _ (kind first second n : ℕ) (q : n ≡ arity kind) where
+  pub arity-zero : n ≡ 0 → (eqb first 0 && eqb second 0) ≡ arity_right (node kind 0 first second)
+  unfolding arity_right
+  arity-zero e = rw (← q, eq-eqb n 0 e)
+
+  pub arity-one : (n ≡ 0 → ⊥) → n ≡ 1 → (leb 1 first && eqb second 0) ≡ arity_right (node kind 0 first second)
+  unfolding arity_right
+  arity-one u e = rw (← q, ne_eqb n 0 u, eq-eqb n 1 e)
+
+  pub arity-two : (n ≡ 0 → ⊥) → (n ≡ 1 → ⊥) → (leb 1 first && leb 1 second) ≡ arity_right (node kind 0 first second)
+  unfolding arity_right
+  arity-two u v = rw (← q, ne_eqb n 0 u, ne_eqb n 1 v)
+
+module _ (links cells : List ℕ) (i kind : ℕ) (qk : kind ≡ kind_at links i) where
+  pub right-known : (key first second level : ℕ) (a b c : Bool) → a ≡ key_right (node kind key 0 0) → b ≡ level_right (node_with kind 0 0 0 level)
+      → c ≡ arity_right (node kind 0 first second) → key ≡ key_at cells i → first ≡ first_at links i → second ≡ second_at links i → level ≡ level_at links i
+      → kind < kind_count → (a && (b && (c && (leb first i && leb second i)))) ≡ right_at links cells i
+  unfolding right_at node_right node_at key_right level_right arity_right
+  right-known key first second level a b c qa qb qc q f s l h = rw (← qk, ← q, ← f, ← s, ← l, lt-ltb kind kind_count h) (rw (qa, qb, qc))
+
+  pub right-unknown : kind_count ≤ kind → false ≡ right_at links cells i
+  unfolding right_at node_right node_at
+  right-unknown h = rw (← qk, le-ltb kind kind_count h)
 
 -- the clauses one after the other
 pub right-is : (links cells : List ℕ) (i : ℕ) (x : Shape) (a b c : Bool) → a ≡ key_right (node x.kind x.key 0 0) → b ≡ level_right (node_with x.kind 0 0 0 x.level)
@@ -179,10 +249,10 @@ all_of p (suc n) i h = rw (h i (omega arith) (omega arith)) (all_of p n (suc i) 
 
 pub ruleset entries = (
   arity-of,
-  word-stop,
-  word-go,
-  word-fail,
-  word_end,
+  passed-stop,
+  passed-go,
+  passed-fail,
+  passed_all,
   name-is,
   arity-function,
   arity-member,

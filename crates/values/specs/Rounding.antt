@@ -1,8 +1,11 @@
--- How large a quotient by a number above 0 is: a number n below 0 is turned up to -1 - n, which is not and is as far from 0; the quotient of that,
--- turned down in the same way, is n's. Before it, a divisor below 0 is turned about 0 with the number. Assumes nothing.
+-- Division by a number above 0 as round_down goes about it, by the library's quotient whose remainder is not negative: a number n below 0 is
+-- turned up to -1 - n, which is not and is as far from 0; the quotient of that, turned down in the same way, is n's. Before it, a divisor below 0
+-- is turned about 0 with the number. Assumes nothing.
 use Rattle.std.specs.Prelude.{◌≡◌, refl, true, false, ℕ, zero, suc, ◌/◌, ◌≤◌, ℤ, pos, negsuc, neg_ℤ, ◌-ℤ◌, ◌<ℤ◌}
-use Rattle.std.proofs.Common.{ap, true≢false, div-le_self, arith, le-ltb, ltb-true, lt→ltb}
+use Rattle.std.proofs.Common.{sym, ap, ◌∙◌, true≢false, div-le_self, arith, le-ltb, ltb-true, lt→ltb}
+use Rattle.std.specs.Int.{int_div_euclid}
 use Rattle.std.specs.Int.Signed.{lt_z, mag, quot_z}
+use Rattle.language.specs.Cases.{split}
 use Rattle.rules.specs.Numbers.{quotient}
 
 -- ---- turned up, and down again
@@ -43,6 +46,23 @@ pub quotient-high : (n d : ℤ) → pos 0 <ℤ d → lt_z n (pos 0) ≡ false �
 quotient-high (pos m) (pos d) up h = refl
 quotient-high (pos m) (negsuc d) up h = absurd up.lt
 quotient-high (negsuc m) d up h = cc
+
+-- the library's quotient goes the same way, so it is that one
+euclid-low : (n d : ℤ) → pos 0 <ℤ d → lt_z n (pos 0) ≡ true → int_div_euclid n d ≡ negsuc 0 -ℤ quot_z (negsuc 0 -ℤ n) d
+euclid-low (pos m) d up h = absurd (not-below-0 m h)
+euclid-low (negsuc m) (pos d) up h = rw (turned_up m) (sym (turned_down (m / d)))
+euclid-low (negsuc m) (negsuc d) up h = absurd up.lt
+
+euclid-high : (n d : ℤ) → pos 0 <ℤ d → lt_z n (pos 0) ≡ false → int_div_euclid n d ≡ quot_z n d
+euclid-high (pos m) (pos d) up h = refl
+euclid-high (pos m) (negsuc d) up h = absurd up.lt
+euclid-high (negsuc m) d up h = cc
+
+pub euclid-quotient : (n d : ℤ) → pos 0 <ℤ d → int_div_euclid n d ≡ quotient n d
+euclid-quotient n d up =
+    split (lt_z n (pos 0))
+    (λ h. euclid-low n d up h ∙ quotient-low n d up h)
+    (λ h. euclid-high n d up h ∙ quotient-high n d up h)
 
 -- ---- turned about 0
 

@@ -85,6 +85,32 @@ summed_all xs t i s h = sym (ap (λ (ys : List ℤ). t +ℤ total ys) (drop_of_l
 pub totals_all : (xs : List ℤ) (t : ℤ) (i : ℕ) → Summed xs t i → length xs ≤ i → Totals xs t
 totals_all xs t i h k = record { exact = summed_all xs t i h k; small = omega (arith, h.small, h.within) }
 
+-- ---- a least or greatest, after i readings
+
+pub record Folded (f : ℤ → ℤ → ℤ) (xs : List ℤ) (b : ℤ) (i : ℕ) : Type 0 where
+  pub within : i ≤ length xs
+  pub rest : Number (fold_from f b (drop i xs)) ≡ extreme f xs
+
+pub folded-one : (f : ℤ → ℤ → ℤ) (xs : List ℤ) → (length xs ≡ 0 → ⊥) → Folded f xs (get_or xs 0 (pos 0)) 1
+unfolding extreme
+folded-one f [] h = absurd (h refl)
+folded-one f (x ∷ xs) h = record { within = omega arith; rest = refl }
+
+pub folded_more : (f : ℤ → ℤ → ℤ) (xs : List ℤ) (b : ℤ) (i : ℕ) → Folded f xs b i → i < length xs → Folded f xs (f b (get_or xs i (pos 0))) (i + 1)
+unfolding fold_from
+folded_more f xs b i s h = record {
+  within = omega arith;
+  rest = ap (λ (ys : List ℤ). Number (fold_from f b ys)) (drop-next xs i h) ∙ s.rest;
+}
+
+pub folded-all : (f : ℤ → ℤ → ℤ) (xs : List ℤ) (b : ℤ) (i : ℕ) → Folded f xs b i → length xs ≤ i → Number b ≡ extreme f xs
+unfolding fold_from
+folded-all f xs b i s h = ap (λ (ys : List ℤ). Number (fold_from f b ys)) (sym (drop_of_length-le xs h)) ∙ s.rest
+
+pub no-readings : (xs : List ℤ) → length xs ≡ 0 → xs ≡ []
+no-readings [] h = refl
+no-readings (x ∷ xs) h = absurd (omega arith)
+
 -- ---- a least or greatest, from std's word
 
 fold-same : (f : ℤ → ℤ → ℤ) (a : ℤ) (xs : List ℤ) → fold f a xs ≡ fold_from f a xs

@@ -9,9 +9,13 @@ ghost use Rattle.values.specs.PackingLaws.{number_in};
 use language::names::BYTE_BASE;
 use rules::{Reason, Value};
 
-// The least cell of each kind of value, in their order, and that of a value of the wrong kind.
-pub enum Packed {}
+// A packed value.
+#[derive(Clone, Copy)]
+pub struct Packed {
+    pub cell: u64,
+}
 
+// The least cell of each kind of value, in their order, and that of a value of the wrong kind.
 impl Packed {
     pub const WINDOW: u64 = 1 << 33;
 

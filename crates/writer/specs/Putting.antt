@@ -1,6 +1,7 @@
 -- What it means that bytes are written directly before what is written, from right to left, as long as there is room. Assumes nothing: these
 -- are definitions.
-use Rattle.std.specs.Prelude.{◌≡◌, Option, Some, None, Bool, cond, List, [], ◌++◌, ℕ, suc, ◌+◌, ◌^◌, ◌≤◌, ◌<◌, eqb, length, drop}
+use Rattle.std.specs.Prelude.{◌≡◌, Option, Some, None, Bool, ◌&&◌, cond, List, [], ◌++◌, ℕ, suc, ◌+◌, ◌^◌, ◌≤◌, ◌<◌, eqb, leb, length, drop}
+use Rattle.language.specs.Limits.{text_bytes, name_bytes}
 use Rattle.language.specs.Names.{bytes, data_word}
 use Rattle.members.specs.Members.{if_member, spelled}
 use Rattle.members.specs.declared.Member.{Member}
@@ -20,6 +21,10 @@ pub record Puts (w : List ℕ) (p : Page) (r : Option (Unit {0})) (q : Page) : T
   pub same : q.low ≡ p.low
   pub written : r ≡ Some tt → Stands w p q
   pub full : r ≡ None → p.at < p.low + length w
+
+-- the bytes of a whole word have room before a place
+abbrev pub has_room : ℕ → ℕ → Bool
+has_room low at = leb (low + name_bytes) at && leb at text_bytes
 
 -- the bytes of an entry that is no function and no member
 unfoldable pub leaf_bytes : Node → List ℕ

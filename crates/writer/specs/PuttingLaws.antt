@@ -1,11 +1,12 @@
 -- Bytes written one after the other, from right to left, are written as one piece; and the loops that write the bytes of a packed word, one by
 -- one or all eight, and the digits of a number. Assumes nothing.
-use Rattle.std.specs.Prelude.{◌≡◌, refl, Option, Some, None, Bool, true, cond, List, [], ◌∷◌, ◌++◌, ltb, length, drop}
+use Rattle.std.specs.Prelude.{◌≡◌, refl, Option, Some, None, Bool, true, false, ◌&&◌, cond, List, [], ◌∷◌, ◌++◌, leb, ltb, length, drop, set}
 use Rattle.std.proofs.Common.{sym, ap, ◌∙◌, append_assoc, arith, length-append, drop-drop}
+use Rattle.std.proofs.Math.Bool.{and-eq-true_iff}
 use Prim.Native.Nat.{ℕ, zero, suc, ◌+◌, ◌-◌, ◌/◌, ◌%◌, ◌^◌, ◌≤◌, ◌<◌}
 use Rattle.std.proofs.Math.Nat.{pow-suc}
-use borrow.Author.Tests.{ne_eqb, lt-ltb, le-ltb, ltb-true}
-use Rattle.language.specs.Limits.{name_bytes}
+use borrow.Author.Tests.{ne_eqb, lt-ltb, le-ltb, ltb-true, lt-leb, le-leb, leb-true, leb-false}
+use Rattle.language.specs.Limits.{text_bytes, name_bytes}
 use Rattle.language.specs.Cases.{split}
 use Rattle.language.specs.Names.{bytes, pack_onto, data_word}
 use Rattle.members.specs.Members.{spelled, same_bytes, packed_name}
@@ -18,13 +19,41 @@ use Rattle.table.specs.WellFormed.{key_right}
 use Rattle.printing.specs.Printed.{digits_onto, digits, decimals, unpack_onto, unpacked}
 use Rattle.printing.proofs.Unpacking.{none-packed}
 use Rattle.writer.specs.Whole.{whole_onto}
-use Rattle.writer.specs.WholeLaws.{append-unpacked, past-zeros}
+use Rattle.writer.specs.WholeLaws.{drop-set, append-unpacked, past-zeros}
 use Rattle.writer.specs.declared.page.Page.{Page}
-use Rattle.writer.specs.Putting.{Puts, leaf_bytes, member_bytes, head_bytes, Unpacks, Counts}
+use Rattle.writer.specs.Putting.{Puts, has_room, leaf_bytes, member_bytes, head_bytes, Unpacks, Counts}
 
 -- nothing is written
 pub puts_none : (p : Page) → Puts [] p (Some tt) p
 puts_none p = record { same = refl; written = λ _. record { room = λ r. r; size = omega arith; bytes = refl }; full = λ e. absurd (cc) }
+
+-- no room for a piece, and a byte that was put
+pub puts-full : (w : List ℕ) (p : Page) → p.at < p.low + length w → Puts w p None p
+puts-full w p h = record { same = refl; written = λ e. absurd (cc); full = λ e. h }
+
+pub puts-byte : (b : ℕ) (p q : Page) → p.low < p.at → q.low ≡ p.low → q.at ≡ p.at - 1 → q.bytes ≡ set p.bytes (p.at - 1) b → Puts (b ∷ []) p (Some tt) q
+puts-byte b p q l same a e =
+    let whole = p.whole in
+    let inside = p.inside in
+    let z : suc (p.at - 1) ≡ p.at = omega arith in
+    record {
+      same = same;
+      written = λ _.
+          record {
+            room = λ r. omega arith;
+            size = omega arith;
+            bytes = rw (a, e) (drop-set p.bytes (p.at - 1) b (omega arith) ∙ ap (λ k. b ∷ drop k p.bytes) z);
+          };
+      full = λ e. absurd (cc);
+    }
+
+-- a byte that is wanted, or not
+module _ (b : ℕ) (wanted : Bool) (p : Page) where
+  pub puts-wanted : {r : Option (Unit {0})} {q : Page} → wanted ≡ true → Puts (b ∷ []) p r q → Puts (cond wanted (b ∷ []) []) p r q
+  puts-wanted e h = rw e h
+
+  pub puts-unwanted : wanted ≡ false → Puts (cond wanted (b ∷ []) []) p (Some tt) p
+  puts-unwanted e = rw e (puts_none p)
 
 -- one piece directly before another
 module _ {u : List ℕ} {p q : Page} where
@@ -81,6 +110,28 @@ module _ {word rest : ℕ} {p q : Page} (h : Unpacks word p rest q) where
 
   pub unpacks_end : rest ≡ 0 → Puts (unpacked word) p (Some tt) q
   unpacks_end e = rw (← h.same, e, none-packed h.left h.done) h.puts
+
+-- whether a whole word has room, by three tests; and what it means
+pub room-few : (low at : ℕ) → at < name_bytes → false ≡ has_room low at
+room-few low at h = rw (lt-leb (low + name_bytes) at (omega arith))
+
+pub room-none : (low at : ℕ) → text_bytes < at → false ≡ has_room low at
+room-none low at h = rw (lt-leb at text_bytes h) (sym (and_none (leb (low + name_bytes) at)))
+  where
+    and_none : (b : Bool) → (b && false) ≡ false
+    and_none true = refl
+    and_none false = refl
+
+pub room-before : (low at : ℕ) → name_bytes ≤ at → at ≤ text_bytes → leb low (at - name_bytes) ≡ has_room low at
+room-before low at h t =
+    split (leb low (at - name_bytes))
+    (λ e. let l = leb-true low (at - name_bytes) e in rw (e, le-leb (low + name_bytes) at (omega arith), le-leb at text_bytes t))
+    (λ e. let l = leb-false low (at - name_bytes) e in rw (e, lt-leb (low + name_bytes) at (omega arith)))
+
+pub room-is : (low at : ℕ) (r : Bool) → r ≡ has_room low at → r ≡ true → (low + name_bytes ≤ at) × (at ≤ text_bytes)
+room-is low at r e t =
+    let p = (and-eq-true_iff (leb (low + name_bytes) at) (leb at text_bytes)).0 (sym e ∙ t) in
+    (leb-true (low + name_bytes) at p.0, leb-true at text_bytes p.1)
 
 -- all eight of them at once
 pub puts_whole : (word r : ℕ) (p q : Page) → q.low ≡ p.low → p.low + name_bytes ≤ p.at → q.at ≡ p.at - r → r ≡ length (unpacked word) → r ≤ name_bytes
@@ -141,13 +192,13 @@ module _ {n rest : ℕ} {p q : Page} (h : Counts n p rest q) where
       rw (← x, ← e) (puts_both h.puts k)
 
 -- a number by its key
-negative-bytes : (key : ℕ) → key < 2147483648 → decimals (number_of_key key) ≡ (45 ∷ []) ++ digits (2147483648 - key)
+pub negative-bytes : (key : ℕ) → key < 2147483648 → decimals (number_of_key key) ≡ (45 ∷ []) ++ digits (2147483648 - key)
 unfolding decimals
 negative-bytes key h =
     let z : suc (2147483648 - suc key) ≡ 2147483648 - key = omega arith in
     rw (lt-ltb key 2147483648 h) (ap (λ (k : ℕ). 45 ∷ digits k) z)
 
-natural-bytes : (key : ℕ) → 2147483648 ≤ key → decimals (number_of_key key) ≡ digits (key - 2147483648)
+pub natural-bytes : (key : ℕ) → 2147483648 ≤ key → decimals (number_of_key key) ≡ digits (key - 2147483648)
 unfolding decimals
 natural-bytes key h = rw (le-ltb key 2147483648 h)
 
@@ -185,7 +236,7 @@ module _ (n : Node) where
 abbrev two_words : Member → List ℕ
 two_words m = unpacked (packed_name (spelled m)).0 ++ unpacked (packed_name (spelled m)).1
 
-name-bytes : (m : Member) → two_words m ≡ spelled m
+pub name-bytes : (m : Member) → two_words m ≡ spelled m
 unfolding packed_name pack_onto unpack_onto same_bytes spelled bytes
 name-bytes m = (same_bytes_lem (two_words m) (spelled m)).0 (each (λ k. same_bytes (two_words k) (spelled k)) refl m)
 

@@ -1,6 +1,6 @@
 -- All eight bytes of a packed word, and how many of these the word packs. Assumes nothing.
-use Rattle.std.specs.Prelude.{◌≡◌, refl, List, [], ◌∷◌, ◌++◌, eqb, length, take, drop}
-use Rattle.std.proofs.Common.{sym, ap, ◌∙◌, arith, length-append, pow-add, pow_mono, drop-drop}
+use Rattle.std.specs.Prelude.{◌≡◌, refl, List, [], ◌∷◌, ◌++◌, eqb, length, take, drop, set}
+use Rattle.std.proofs.Common.{sym, ap, ◌∙◌, subst, arith, length-append, pow-add, pow_mono, drop-drop}
 use Prim.Native.Nat.{ℕ, zero, suc, ◌+◌, ◌-◌, ◌*◌, ◌/◌, ◌%◌, ◌^◌, ◌≤◌, ◌<◌}
 use Rattle.std.proofs.Math.Nat.{pow-suc, one-le-pow, mul_comm, div-div-eq-div-mul}
 use Rattle.std.proofs.Math.Seq.{drop_at, length-take-le}
@@ -37,6 +37,24 @@ whole-put start word out new h e =
     drop_at (take start out) _ start (length-take-le start out (omega arith))
     ∙ (λ i. e i ++ (drop-drop (start + name_bytes - start) start out ∙ ap (λ m. drop m out) q) i)
     ∙ bytes-whole name_bytes word _
+
+-- byte by byte: one byte more, and the end
+pub drop-set : (out : List ℕ) (k b : ℕ) → k < length out → drop k (set out k b) ≡ b ∷ drop (suc k) out
+drop-set [] k b h = absurd (omega arith)
+drop-set (x ∷ out) zero b h = refl
+drop-set (x ∷ out) (suc k) b h = drop-set out k b (omega arith)
+
+pub whole-byte : (start left left' rest b : ℕ) (out w : List ℕ) → suc left' ≡ left → start + left ≤ length out → b ≡ rest % 256
+    → whole_onto left rest (drop (start + left) out) ≡ w → whole_onto left' (rest / 256) (drop (start + left') (set out (start + left') b)) ≡ w
+unfolding whole_onto
+whole-byte start left left' rest b out w z h e p =
+    let q : suc (start + left') ≡ start + left = omega arith in
+    let x : whole_onto (suc left') rest (drop (start + left) out) ≡ w = subst (λ k. whole_onto k rest (drop (start + left) out) ≡ w) (sym z) p in
+    rw (drop-set out (start + left') b (omega arith), q, e) x
+
+pub whole-end : (start left rest : ℕ) (out w : List ℕ) → left ≡ 0 → whole_onto left rest (drop (start + left) out) ≡ w → drop start out ≡ w
+unfolding whole_onto
+whole-end start left rest out w z p = let s : start + 0 ≡ start = omega arith in rw (z, s) at p
 
 -- of these the ones that the word packs: behind the zeros
 pub append-unpacked : (n k : ℕ) (v u : List ℕ) → unpack_onto n k (v ++ u) ≡ unpack_onto n k v ++ u

@@ -164,7 +164,7 @@ module _ {links cells : List ℕ} {count : ℕ} {s : Spot} {pending : List ℕ} 
             closed = λ e. absurd (omega arith);
           }
 
-      moves : Moves links cells count s pending p (Some s') pending' p'
+      pub moves : Moves links cells count s pending p (Some s') pending' p'
       moves =
           record {
             same = h.same;
@@ -172,7 +172,7 @@ module _ {links cells : List ℕ} {count : ℕ} {s : Spot} {pending : List ℕ} 
             full = λ e. cc;
           }
 
-    stops : {p' : Page} → Puts w p None p' → Moves links cells count s pending p None pending' p'
+    pub stops : {p' : Page} → Puts w p None p' → Moves links cells count s pending p None pending' p'
     stops h =
         record {
           same = h.same;
@@ -456,9 +456,26 @@ module _ {links cells : List ℕ} {count : ℕ} {s : Spot} {pending : List ℕ} 
           given (inl e) = absurd (n e)
           given (inr h) = h.1
 
--- ---- all the steps
+-- ---- one step, and all of them
+
+module _ {links cells : List ℕ} {count : ℕ} {s : Spot} {pending : List ℕ} {p : Page} {r : Option Spot} {pending' : List ℕ} {p' : Page}
+    (m : Moves links cells count s pending p r pending' p') where
+  pub step-on : (s' : Spot) → r ≡ Some s' → Onward links cells count s pending p s' pending' p'
+  step-on s' e = m.on s' e
+
+  pub step-stop : r ≡ None → (t : List ℕ) → Spelled links cells count s pending p t → text_bytes < p.low + length t
+  step-stop e = m.full e
 
 module _ {links cells : List ℕ} {count low : ℕ} {t : List ℕ} {s : Spot} {pending : List ℕ} {p : Page} (g : Goes links cells count low t s pending p) where
+  pub goes-ready : (turn_number s.turn ≡ 3 → ⊥) → Ready links cells count s pending p × (turn_number s.turn ≤ 2)
+  goes-ready n = (g.ready, by s.turn n)
+    where
+      by : (x : Turn) → (turn_number x ≡ 3 → ⊥) → turn_number x ≤ 2
+      by Enter u = omega arith
+      by Receiver u = omega arith
+      by Leave u = omega arith
+      by Done u = absurd (u refl)
+
   module _ {r : Option Spot} {pending' : List ℕ} {p' : Page} (m : Moves links cells count s pending p r pending' p') where
     pub goes_on : (s' : Spot) → r ≡ Some s' → Goes links cells count low t s' pending' p'
     goes_on s' e = let x = m.on s' e in record { same = m.same ∙ g.same; ready = x.ready; spells = x.spells t g.spells; closed = x.closed }

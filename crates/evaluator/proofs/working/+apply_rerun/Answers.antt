@@ -4,13 +4,10 @@ use borrow.Author.Rules.{rules}
 use native.Mathlib.Omega.{arith}
 use mathlib.Core.Path.{refl}
 use Rattle.evaluator.proofs.Framing.{function-waits}
-use Rattle.evaluator.proofs.Running.{planned-body, listed, known-applies, same-applies, reruns, columns-applies, judge-applies, run-applies, runs-end, runs-stop, runs-again, works-end, works-again}
+use Rattle.evaluator.proofs.Running.{planned-body, listed, known-applies, same-applies, reruns, columns-applies, judge-applies, run-applies, runs-begin, reading-at, runs-within, runs-end, runs-stop, runs-again, works-end, works-again}
 use Rattle.evaluator.proofs.Plain.{plain-is}
 use Rattle.evaluator.proofs.working.+apply_rerun.Goals as goal
-use lib.IntN.{pos}
-use lib.ListN.{get_or}
-use mir.Syntax.{w32}
-use mir.Val.{to_z, of_z}
+use Rattle.std.proofs.Common.{◌≡◌, ◌+◌, ◌-◌}
 use Rattle.evaluator.specs.Applying.{graph}
 use Rattle.evaluator.proofs.working.+apply_rerun.Goals.{rerun-then-is_plain, rerun-else-is_plain}
 
@@ -38,21 +35,33 @@ apply-rerun-r-requires t c = (
   reruns (graph c.args.links.now c.args.waits.now c.args.readings.now) c.args.frame.now c.args.i c.plan.ensures.same c.in-Body.is c.plan.ensures.right (listed _ _ _ _ _ _ c.gather-at.ensures) c.requires,
 )
 
+pub apply-loop-k-init : goal.apply-loop-k-init
+apply-loop-k-init t c = search (rules, runs-begin)
+
+pub apply-tally-t-requires : goal.apply-tally-t-requires
+apply-tally-t-requires t c = runs-within c.loop-k.invariant (omega (arith, c.count_in.ensures.few, c.loop-k-test.true))
+
 pub apply-returns-then-is_some : goal.apply-returns-then-is_some
 apply-returns-then-is_some t c =
     run-applies (graph c.args.links.now c.args.waits.now c.args.readings.now) c.args.frame.now c.args.i c.plan.ensures.same c.in-Body.is c.plan.ensures.right (listed _ _ _ _ _ _ c.gather-at.ensures) c.in-Over.is
-    (runs-stop c.loop-z.invariant c.part-z-items.ensures c.loop-z-test.true (to_z w32 (of_z w32 (get_or c.part-z-items.result.now c.loop-z.z-index (pos 0)))) (search rules) c.number.ensures c.rerun-r.ensures c.tally-t.ensures (rw c.is_some.ensures at c.if-is_some.true)) c.conclude-then-is_some.ensures.same
+    (runs-stop c.loop-k.invariant refl (omega (arith, c.count_in.ensures.same, c.loop-k-test.true, c.loop-k.auto.k)) _
+    (reading-at c.args.readings.now _ _ c.loop-k.k c.loop-k.auto.k (omega (arith, c.count_in.ensures.same, c.loop-k-test.true, c.loop-k.auto.k)))
+    c.reading.ensures c.rerun-r.ensures c.tally-t.ensures (rw c.is_some.ensures at c.if-is_some.true)) c.conclude-then-is_some.ensures.same
 
-pub apply-loop-z-preserved : goal.apply-loop-z-preserved
-apply-loop-z-preserved t c = runs-again c.loop-z.invariant c.part-z-items.ensures c.loop-z-test.true (to_z w32 (of_z w32 (get_or c.part-z-items.result.now c.loop-z.z-index (pos 0)))) (search rules) c.number.ensures c.rerun-r.ensures c.tally-t.ensures (rw c.is_some.ensures at c.if-is_some.false)
+pub apply-loop-k-preserved : goal.apply-loop-k-preserved
+apply-loop-k-preserved t c =
+    let n : c.loop-k.k - c.in-Over.start + 1 ≡ c.loop-k.k + 1 - c.in-Over.start = omega (arith, c.loop-k.auto.k) in
+    rw n at (runs-again c.loop-k.invariant refl (omega (arith, c.count_in.ensures.same, c.loop-k-test.true, c.loop-k.auto.k)) _
+    (reading-at c.args.readings.now _ _ c.loop-k.k c.loop-k.auto.k (omega (arith, c.count_in.ensures.same, c.loop-k-test.true, c.loop-k.auto.k)))
+    c.reading.ensures c.rerun-r.ensures c.tally-t.ensures (rw c.is_some.ensures at c.if-is_some.false))
 
 pub apply-returns-in-Judge : goal.apply-returns-in-Judge
 apply-returns-in-Judge t c = judge-applies (graph c.args.links.now c.args.waits.now c.args.readings.now) c.args.frame.now c.args.i c.plan.ensures.same c.in-Body.is c.plan.ensures.right (listed _ _ _ _ _ _ c.gather-at.ensures) c.in-Judge.is c.rerun-base.ensures (function-waits _ _ _ _ _ c.is_open.ensures c.function.ensures.same)
 
-pub apply-returns-after-loop-z : goal.apply-returns-after-loop-z
-apply-returns-after-loop-z t c =
+pub apply-returns-after-loop-k : goal.apply-returns-after-loop-k
+apply-returns-after-loop-k t c =
     run-applies (graph c.args.links.now c.args.waits.now c.args.readings.now) c.args.frame.now c.args.i c.plan.ensures.same c.in-Body.is c.plan.ensures.right (listed _ _ _ _ _ _ c.gather-at.ensures) c.in-Over.is
-    (runs-end c.loop-z.invariant (rw c.part-z-items.ensures at c.loop-z-test.false)) c.conclude-in-Over.ensures.same
+    (runs-end c.loop-k.invariant (omega (arith, c.count_in.ensures.same, c.loop-k-test.false, c.loop-k.auto.k))) c.conclude-in-Over.ensures.same
 
 pub rerun-loop-next-preserved : goal.rerun-loop-next-preserved
 rerun-loop-next-preserved t c =

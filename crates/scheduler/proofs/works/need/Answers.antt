@@ -4,7 +4,7 @@ use Rattle.scheduler.proofs.Choosing.{need-no, need-yes, need-end, need-begin}
 use Rattle.scheduler.proofs.works.need.Goals as goal
 
 pub loop-j-init : goal.loop-j-init
-loop-j-init c = need-begin _ _
+loop-j-init c = search (rules, need-begin)
 
 pub loop-j-preserved-then-flags-j-eq1 : goal.loop-j-preserved-then-flags-j-eq1
 loop-j-preserved-then-flags-j-eq1 c = search (rules, need-yes)

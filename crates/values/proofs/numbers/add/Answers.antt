@@ -1,0 +1,10 @@
+-- The sum of two numbers of 32 bits fits in 64. Assumes nothing.
+use Rattle.std.proofs.Common.{◌∙◌, ap}
+use Rattle.rules.specs.Values.{ranged}
+use Rattle.rules.specs.Rules.{rule, on_numbers}
+use Rattle.values.proofs.Signed.{sum_is}
+use Rattle.values.proofs.numbers.add.Goals as goal
+
+pub returns : goal.returns
+unfolding on_numbers rule
+returns c = c.number.ensures ∙ ap ranged (sum_is c.ranges.a c.ranges.b)
