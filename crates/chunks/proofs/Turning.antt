@@ -19,7 +19,7 @@ use Rattle.language.specs.Cases.{split}
 use Rattle.rules.specs.declared.Value.TheVariants.{Number}
 use Rattle.rules.specs.Windows.{readings_in}
 use Rattle.values.specs.declared.runs.Tally.{Tally}
-use Rattle.values.specs.Tallies.{is_stopped, begun, stepped, Within}
+use Rattle.values.specs.Tallies.{begun, stepped, Within}
 use Rattle.values.specs.TallyLaws.{within_none, within_more}
 use Rattle.values.specs.Packing.{pack_of, unpack_of}
 use Rattle.chunks.specs.Rows.{Go, set_of, over_of, plain_of}
@@ -56,7 +56,7 @@ module _ {cells : List ℕ} {t u : Tally} {i : ℕ} (so : Taking cells t u i) wh
   taking-asks h l w = within_more (65535 - length cells + i) 65534 u (omega arith) (so.bound (65535 - length cells) w)
 
   module _ (h : i < length cells) {r : Tally} (y : Tallied u (get_or cells i 0) r) where
-    turned : tallied_of cells t ≡ cond (is_stopped r) r (tallied_of (drop (i + 1) cells) r)
+    turned : tallied_of cells t ≡ cond r.stopped r (tallied_of (drop (i + 1) cells) r)
     unfolding tallied_of
     turned =
         let q : drop i cells ≡ get_or cells i 0 ∷ drop (i + 1) cells = rw add-one (drop-cons cells i 0 h) in
@@ -65,10 +65,10 @@ module _ {cells : List ℕ} {t u : Tally} {i : ℕ} (so : Taking cells t u i) wh
     more : (k m : ℕ) → k + i + 1 ≤ m → Within k t → Within m r
     more k m l w = within_more (k + i + 1) m r l (y.bound (k + i) (so.bound k w))
 
-    pub taking-stop : is_stopped r ≡ true → Takes cells t r
+    pub taking-stop : r.stopped ≡ true → Takes cells t r
     taking-stop d = record { same = sym (turned ∙ rw d); bound = λ k w. more k (k + length cells) (omega arith) w }
 
-    pub taking-again : is_stopped r ≡ false → Taking cells t r (i + 1)
+    pub taking-again : r.stopped ≡ false → Taking cells t r (i + 1)
     taking-again d = record { same = turned ∙ rw d; bound = λ k w. more k (k + (i + 1)) (omega arith) w }
 
   pub taking-end : length cells ≤ i → i ≤ length cells → Takes cells t u
@@ -132,7 +132,7 @@ drop-reading xs s l k h =
 record Over (go : Go) (body : ℕ) (list : List ℕ) (v : ℕ) (map frame : List ℕ) (zs : List ℤ) (other : List ℕ) (t u : Tally) (i j : ℕ) : Type 0 where
   pub next : List ℕ
   pub agrees : Agrees map frame next
-  pub same : over_of go body list v other t (drop i zs) ≡ cond (is_stopped u) u (over_of go body list v next u (drop j zs))
+  pub same : over_of go body list v other t (drop i zs) ≡ cond u.stopped u (over_of go body list v next u (drop j zs))
 
 module _ (go : Go) (body : ℕ) (list : List ℕ) (v : ℕ) (map frame : List ℕ) (xs : List ℤ) (s l k c : ℕ) (earlier before after : List ℕ) (off : ℕ)
     (read : Read xs (s + k) c earlier before) (few : k + c ≤ length (readings_in xs s l))
@@ -150,39 +150,39 @@ module _ (go : Go) (body : ℕ) (list : List ℕ) (v : ℕ) (map frame : List �
       let o : suc (off + i) ≡ off + (i + 1) = omega arith in
       ap (take (suc n)) (drop-cons after (off + i) 0 (omega (arith, room))) ∙ ap (λ (m : ℕ). get_or after (off + i) 0 ∷ take n (drop m after)) o
 
-  over : (n i : ℕ) → i + n ≡ c → (other : List ℕ) → Agrees map frame other → (t : Tally) → is_stopped t ≡ false
+  over : (n i : ℕ) → i + n ≡ c → (other : List ℕ) → Agrees map frame other → (t : Tally) → t.stopped ≡ false
       → Over go body list v map frame zs other t (tallied_of (from-row n i) t) (k + i) (k + c)
   unfolding tallied_of over_of
   over zero i e other a t d =
       let j : k + i ≡ k + c = omega arith in
-      record { next = other; agrees = a; same = ap (λ (m : ℕ). over_of go body list v other t (drop m zs)) j ∙ sym (cond-false (is_stopped t) _ _ d) }
+      record { next = other; agrees = a; same = ap (λ (m : ℕ). over_of go body list v other t (drop m zs)) j ∙ sym (cond-false t.stopped _ _ d) }
   over (suc n) i e other a t d =
       let here : Row go body list v (get_or before (2 + i) 0) map frame other (get_or after (off + i) 0) = row i (omega arith) other a in
       let u : Tally = stepped t (unpack_of (get_or after (off + i) 0)) in
       let w : List ℕ = set_of go (body + 1) list v (get_or before (2 + i) 0) other in
       let j : s + k + i ≡ s + (k + i) = omega arith in
       let z : get_or before (2 + i) 0 ≡ pack_of (Number (get_or xs (s + (k + i)) (pos 0))) = read.cell i (omega arith) ∙ ap (λ (m : ℕ). pack_of (Number (get_or xs m (pos 0)))) j in
-      let one : over_of go body list v other t (drop (k + i) zs) ≡ cond (is_stopped u) u (over_of go body list v w u (drop (k + i + 1) zs)) =
+      let one : over_of go body list v other t (drop (k + i) zs) ≡ cond u.stopped u (over_of go body list v w u (drop (k + i + 1) zs)) =
       ap (over_of go body list v other t) (drop-reading xs s l (k + i) (omega arith)) ∙ rw (← z, here.value) in
-      let cut : tallied_of (from-row (suc n) i) t ≡ cond (is_stopped u) u (tallied_of (from-row n (i + 1)) u) = ap (λ (cs : List ℕ). tallied_of cs t) (one-row n i (omega arith)) in
-      split (is_stopped u)
+      let cut : tallied_of (from-row (suc n) i) t ≡ cond u.stopped u (tallied_of (from-row n (i + 1)) u) = ap (λ (cs : List ℕ). tallied_of cs t) (one-row n i (omega arith)) in
+      split u.stopped
       (λ q.
-      let whole : tallied_of (from-row (suc n) i) t ≡ u = cut ∙ cond-true (is_stopped u) _ _ q in
+      let whole : tallied_of (from-row (suc n) i) t ≡ u = cut ∙ cond-true u.stopped _ _ q in
       record {
         next = other;
         agrees = a;
-        same = one ∙ cond-true (is_stopped u) _ _ q ∙ sym (ap (λ (m : Tally). cond (is_stopped m) m (over_of go body list v other m (drop (k + c) zs))) whole ∙ cond-true (is_stopped u) _ _ q);
+        same = one ∙ cond-true u.stopped _ _ q ∙ sym (ap (λ (m : Tally). cond m.stopped m (over_of go body list v other m (drop (k + c) zs))) whole ∙ cond-true u.stopped _ _ q);
       })
       (λ q.
       let j' : k + i + 1 ≡ k + (i + 1) = omega arith in
       let rest : Over go body list v map frame zs w u (tallied_of (from-row n (i + 1)) u) (k + (i + 1)) (k + c) =
       over n (i + 1) (omega arith) w here.agrees u q in
-      let whole : tallied_of (from-row (suc n) i) t ≡ tallied_of (from-row n (i + 1)) u = cut ∙ cond-false (is_stopped u) _ _ q in
+      let whole : tallied_of (from-row (suc n) i) t ≡ tallied_of (from-row n (i + 1)) u = cut ∙ cond-false u.stopped _ _ q in
       record {
         next = rest.next;
         agrees = rest.agrees;
-        same = one ∙ cond-false (is_stopped u) _ _ q ∙ ap (λ (m : ℕ). over_of go body list v w u (drop m zs)) j' ∙ rest.same
-            ∙ sym (ap (λ (m : Tally). cond (is_stopped m) m (over_of go body list v rest.next m (drop (k + c) zs))) whole);
+        same = one ∙ cond-false u.stopped _ _ q ∙ ap (λ (m : ℕ). over_of go body list v w u (drop m zs)) j' ∙ rest.same
+            ∙ sym (ap (λ (m : Tally). cond m.stopped m (over_of go body list v rest.next m (drop (k + c) zs))) whole);
       })
 
 -- the runs before reading k: what is left of them gives the same tally, from a frame that agrees
@@ -197,7 +197,7 @@ pub record Turns (links list : List ℕ) (v body : ℕ) (map frame : List ℕ) (
   pub wide : Wide (length list) width
   pub place : to ≡ column_at width (get_or map body 0)
   pub room : to + width ≤ table_entries
-  pub going : is_stopped t ≡ false
+  pub going : t.stopped ≡ false
   pub within : Within k t
   pub most : k ≤ count
   pub left : Left links list v body map frame xs s l t k
@@ -252,10 +252,10 @@ module _ {links list : List ℕ} {v body : ℕ} {map frame : List ℕ} {xs : Lis
         (over (plain_of links xs) body list v map frame xs s l k c buf before after to read (omega (arith, turns.counts.same, turns.most)) rows room c 0
         (omega arith) turns.left.other turns.left.agrees t turns.going)
 
-    pub turns-stop : is_stopped u ≡ true → u ≡ over_of (plain_of links xs) body list v frame begun (readings_in xs s l)
-    turns-stop d = sym (turns.left.same ∙ turn.same ∙ cond-true (is_stopped u) _ _ d)
+    pub turns-stop : u.stopped ≡ true → u ≡ over_of (plain_of links xs) body list v frame begun (readings_in xs s l)
+    turns-stop d = sym (turns.left.same ∙ turn.same ∙ cond-true u.stopped _ _ d)
 
-    pub turns-again : is_stopped u ≡ false → Turns links list v body map frame xs s l count width to after u (k + c)
+    pub turns-again : u.stopped ≡ false → Turns links list v body map frame xs s l count width to after u (k + c)
     turns-again d = record {
       asks = record { fitted = turns.asks.fitted; room = q.size ∙ read.size ∙ turns.asks.room };
       counts = turns.counts;
@@ -267,7 +267,7 @@ module _ {links list : List ℕ} {v body : ℕ} {map frame : List ℕ} {xs : Lis
           let n : length (take (to + c - to) (drop to after)) ≤ c = simp length-take (omega arith) in
           within_more (k + length (take (to + c - to) (drop to after))) (k + c) u (omega (arith, n)) (y.bound k turns.within);
       most = omega (arith, turns.most);
-      left = record { other = turn.next; agrees = turn.agrees; same = turns.left.same ∙ turn.same ∙ cond-false (is_stopped u) _ _ d };
+      left = record { other = turn.next; agrees = turn.agrees; same = turns.left.same ∙ turn.same ∙ cond-false u.stopped _ _ d };
     }
 
 -- ---- which runs go by columns

@@ -5,7 +5,7 @@ use Rattle.language.specs.Limits.{table_entries}
 use Rattle.rules.specs.declared.Value.TheVariants.{Number}
 use Rattle.rules.specs.Windows.{readings_in}
 use Rattle.values.specs.declared.runs.Tally.{Tally}
-use Rattle.values.specs.Tallies.{is_stopped, begun, stepped, Within}
+use Rattle.values.specs.Tallies.{begun, stepped, Within}
 use Rattle.values.specs.Packing.{pack_of, unpack_of}
 use Rattle.layout.specs.Nodes.{member_of_kind}
 use Rattle.layout.specs.Links.{kind_at, first_at, second_at, is_below}
@@ -102,7 +102,7 @@ unfoldable pub tallied_of : List ℕ → Tally → Tally
 tallied_of [] t = t
 tallied_of (c ∷ cs) t =
     let u : Tally = stepped t (unpack_of c) in
-    cond (is_stopped u) u (tallied_of cs u)
+    cond u.stopped u (tallied_of cs u)
 
 pub record Takes (cells : List ℕ) (t r : Tally) : Type 0 where
   pub same : r ≡ tallied_of cells t

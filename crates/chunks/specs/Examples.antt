@@ -1,5 +1,5 @@
 -- Runs by columns, computed: which lists go by columns, and where a tally ends. Assumes nothing.
-use Rattle.std.specs.Prelude.{◌≡◌, refl, Bool, true, false, List, [], ◌∷◌, ◌++◌, ℕ, pos, negsuc, replicate, take, drop, Some, None}
+use Rattle.std.specs.Prelude.{◌≡◌, refl, Bool, true, false, List, [], ◌∷◌, ◌++◌, ℕ, pos, negsuc, replicate, take, drop}
 use Rattle.members.specs.Members
 use Rattle.rules.specs.declared.Value.TheVariants.{Number, Missing}
 use Rattle.rules.specs.Rules
@@ -74,16 +74,16 @@ unfolding Chunks.tallied_of Packing.unpack_of Tallies.stepped Tallies.entered Ta
 tallied at n = tallied_of (take n (drop at cells)) begun
 
 -- three numbers: two other than 0, and their sum
-all : tallied 0 3 ≡ record { stopped = None; count = 2; stretch = 1; longest = 1; total = negsuc 2 }
+all : tallied 0 3 ≡ record { stopped = false; reason = 0; count = 2; stretch = 1; longest = 1; total = negsuc 2 }
 unfolding tallied
 all = refl
 
 -- the first missing result decides, and nothing behind it counts
-stops : tallied 0 6 ≡ record { stopped = Some 3; count = 0; stretch = 0; longest = 0; total = pos 0 }
+stops : tallied 0 6 ≡ record { stopped = true; reason = 3; count = 0; stretch = 0; longest = 0; total = pos 0 }
 unfolding tallied
 stops = refl
 
 -- from a place on
-later : tallied 5 1 ≡ record { stopped = None; count = 1; stretch = 1; longest = 1; total = pos 7 }
+later : tallied 5 1 ≡ record { stopped = false; reason = 0; count = 1; stretch = 1; longest = 1; total = pos 7 }
 unfolding tallied
 later = refl

@@ -5,7 +5,7 @@ use Rattle.members.specs.Members.{if_member}
 use Rattle.rules.specs.declared.Value.TheVariants.{Number}
 use Rattle.rules.specs.Rules.{rule, if_runs}
 use Rattle.values.specs.declared.runs.Tally.{Tally}
-use Rattle.values.specs.Tallies.{is_stopped, stepped}
+use Rattle.values.specs.Tallies.{stepped}
 use Rattle.values.specs.Packing.{pack_of, unpack_of}
 use Rattle.layout.specs.Nodes.{member_of_kind}
 use Rattle.layout.specs.Links.{kind_at, first_at, second_at, is_below}
@@ -34,7 +34,7 @@ over_of go body list v frame t [] = t
 over_of go body list v frame t (z ∷ zs) =
     let after : List ℕ = set_of go (body + 1) list v (pack_of (Number z)) frame in
     let u : Tally = stepped t (unpack_of (get_or after body 0)) in
-    cond (is_stopped u) u (over_of go body list v after u zs)
+    cond u.stopped u (over_of go body list v after u zs)
 
 -- an entry that is a member which runs no function, from the values of those that it depends on
 unfoldable pub plain_of : List ℕ → List ℤ → Go

@@ -140,7 +140,7 @@ pub fn take_rows(t: Tally, cells: &[u64]) -> Tally
     let mut u = t;
     for c in cells {
         u = tally(u, *c);
-        if u.stopped.is_some() {
+        if u.stopped {
             return u;
         }
     }

@@ -50,7 +50,7 @@ fn run(body: Body, columns: Columns, from: u16, most: u16, buf: &mut [u64]) -> T
             buf,
         );
         t = take_rows(t, &buf[to..to + c]);
-        if t.stopped.is_some() {
+        if t.stopped {
             return t;
         }
         k += c;

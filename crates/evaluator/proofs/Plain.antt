@@ -22,7 +22,7 @@ use Rattle.values.specs.declared.apply.Applied.{Applied}
 use Rattle.values.specs.declared.apply.Applied.TheVariants.{Done, Run}
 use Rattle.values.specs.declared.runs.Tally.{Tally}
 use Rattle.values.specs.Applied.{applied1}
-use Rattle.values.specs.Tallies.{is_stopped, stepped}
+use Rattle.values.specs.Tallies.{stepped}
 use Rattle.values.specs.Packing.{pack_of, unpack_of}
 use Rattle.layout.specs.Nodes.{function_kind, first_member, member_of_kind}
 use Rattle.layout.specs.Links.{kind_at, first_at, second_at, is_below}
@@ -112,7 +112,7 @@ module _ (links waits : List ℕ) (xs : List ℤ) (body : ℕ) where
       let after : List ℕ = set_of (plain_of links xs) (body + 1) list v (pack_of (Number z)) frame in
       let u : Tally = stepped t (unpack_of (get_or after body 0)) in
       rw (fill-plain f (body + 1) h list (bound frame v (pack_of (Number z))) p)
-      (ap (λ (rest : Tally). cond (is_stopped u) u rest) (over_plain f h list p v zs after u))
+      (ap (λ (rest : Tally). cond u.stopped u rest) (over_plain f h list p v zs after u))
 
 -- ---- as the code has it: whether entry j is such a member, and what it comes to
 module _ (links : List ℕ) (j k : ℕ) (p : k ≡ kind_at links j) where

@@ -15,7 +15,7 @@ use Rattle.language.specs.Limits.{table_entries}
 use Rattle.rules.specs.declared.Value.TheVariants.{Number}
 use Rattle.values.specs.declared.runs.Tally.{Tally}
 use Rattle.values.specs.Packing.{pack_of, delayed_cell}
-use Rattle.values.specs.Tallies.{is_stopped, begun, Within}
+use Rattle.values.specs.Tallies.{begun, Within}
 use Rattle.values.specs.TallyLaws.{within_none, within_more}
 use Rattle.rules.specs.Windows.{readings_in}
 use Rattle.layout.specs.Nodes.{member_of_kind}
@@ -119,16 +119,16 @@ module _ {g : Graph} {body v : ℕ} {list frame : List ℕ} {zs : List ℤ} {loc
   runs-end h f b = run.same f b ∙ ap (over_of (apply_at g f) body list v local t) (drop_of_length-le zs {i = k} h)
 
   module _ {ys : List ℤ} (same : ys ≡ zs) (h : k < length ys) {c : ℕ} (z : ℤ) (e : z ≡ get_or ys k (pos 0)) (o : c ≡ pack_of (Number z)) {after : List ℕ} {r : ℕ} (w : Fills g body list v c local after r) {u : Tally} (y : Tallied t r u) where
-    turned : (f : ℕ) → body < f → over_of (apply_at g f) body list v frame begun zs ≡ cond (is_stopped u) u (over_of (apply_at g f) body list v after u (drop (k + 1) zs))
+    turned : (f : ℕ) → body < f → over_of (apply_at g f) body list v frame begun zs ≡ cond u.stopped u (over_of (apply_at g f) body list v after u (drop (k + 1) zs))
     unfolding over_of
     turned f b =
         let left : drop k zs ≡ z ∷ drop (k + 1) zs = rw (add-one, e, same) (drop-cons zs k (pos 0) (rw same at h)) in
         run.same f b ∙ ap (over_of (apply_at g f) body list v local t) left ∙ rw (← o, w.same f b, ← w.value, ← y.same) refl
 
-    pub runs-stop : is_stopped u ≡ true → (f : ℕ) → body < f → over_of (apply_at g f) body list v frame begun zs ≡ u
+    pub runs-stop : u.stopped ≡ true → (f : ℕ) → body < f → over_of (apply_at g f) body list v frame begun zs ≡ u
     runs-stop d f b = turned f b ∙ rw d
 
-    pub runs-again : is_stopped u ≡ false → Runs g body v list frame zs after u (k + 1)
+    pub runs-again : u.stopped ≡ false → Runs g body v list frame zs after u (k + 1)
     runs-again d = record { within = y.bound k run.within; same = λ f b. turned f b ∙ rw d }
 
 -- the work on a list before place k: what is left of it gives the same frame

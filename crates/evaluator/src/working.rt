@@ -247,7 +247,7 @@ pub fn apply(
             for k in from..to {
                 let r = rerun(body, waits, reading(readings, k), &mut local);
                 t = tally(t, r);
-                if t.stopped.is_some() {
+                if t.stopped {
                     return conclude(kind, t);
                 }
             }

@@ -9,7 +9,7 @@ use Rattle.members.specs.declared.Member.{Member}
 use Rattle.rules.specs.declared.Value.{Value}
 use Rattle.rules.specs.Windows.{readings_in}
 use Rattle.values.specs.declared.runs.Tally.{Tally}
-use Rattle.values.specs.Tallies.{is_stopped, begun, stepped, gathered, finished, Within, Steps}
+use Rattle.values.specs.Tallies.{begun, stepped, gathered, finished, Within, Steps}
 use Rattle.values.specs.TallyLaws.{stopped-stays, finished-is, within_none, within_more}
 use Rattle.values.specs.WindowLaws.{readings-short}
 use Rattle.values.specs.Packing.{unpack_of}
@@ -63,7 +63,7 @@ module _ (xs : List ℤ) (R : List ℕ) (orders : List Order) (s : Bindings) (f 
 
     module _ (window : List ℤ) (e : window ≡ zs) (t : Tally) (k : ℕ) (so : Sums window t k) (memo : List Known) (keeps : Keeps xs R orders memo) (kind r : ℕ)
         (end : (m : Member) → kind ≡ member_kind m → unpack_of r ≡ finished m t) where
-      pub over-stopped : is_stopped t ≡ true → Over xs R orders s f kind from count memo r
+      pub over-stopped : t.stopped ≡ true → Over xs R orders s f kind from count memo r
       over-stopped h =
           over_by t (λ F z. sym (stopped-stays t (results F (drop k window)) h) ∙ so.same F z ∙ ap (λ (ys : List ℤ). gathered begun (results F ys)) e) memo keeps kind r end
 

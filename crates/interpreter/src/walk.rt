@@ -84,7 +84,7 @@ fn over(
     for z in part(source.readings, from, count) {
         let c = ran(source, s, f, *z, memo);
         t = step(t, unpack(c));
-        if t.stopped.is_some() {
+        if t.stopped {
             return conclude(kind, t);
         }
     }

@@ -41,7 +41,7 @@ Small [] = Unit {0}
 Small (z ∷ zs) = (mag z < 2147483648) × Small zs
 
 -- a tally that has stopped takes no further results
-pub turn : (u o : Tally) (vs : List Value) (b : Bool) → Tallies.is_stopped u ≡ b → o ≡ Tallies.gathered u vs → cond b u o ≡ Tallies.gathered u vs
+pub turn : (u o : Tally) (vs : List Value) (b : Bool) → u.stopped ≡ b → o ≡ Tallies.gathered u vs → cond b u o ≡ Tallies.gathered u vs
 turn u o vs true p e = sym (stopped-stays u vs p)
 turn u o vs false p e = e
 
@@ -227,4 +227,4 @@ module _ (links cells waits : List ℕ) (xs : List ℤ) (n : ℕ) (φ : ℕ → 
           let is : unpack_of (get_or after body 0) ≡ run_at z =
           ap unpack_of (set_value (Number z) a.0 frame l rest) ∙ round (run_at z) (kept_entry links cells waits xs n φ good body body-n (bind x (Number z) ρ) (a.0, plain)).held in
           let again = over-right zs a.1 after (set-size (Number z) a.0 frame l rest) (set_rest (Number z) a.0 frame l rest) (Tallies.stepped t (run_at z)) in
-          rw is (turn (Tallies.stepped t (run_at z)) _ (map run_at zs) (Tallies.is_stopped (Tallies.stepped t (run_at z))) refl again)
+          rw is (turn (Tallies.stepped t (run_at z)) _ (map run_at zs) (Tallies.stepped t (run_at z)).stopped refl again)

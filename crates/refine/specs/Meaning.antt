@@ -34,7 +34,7 @@ use Rattle.values.specs.Packing.{pack_of, unpack_of, function_cell, delayed_cell
 use Rattle.values.specs.PackingLaws.{round}
 use Rattle.values.specs.Ranges.{up-size}
 use Rattle.rules.specs.Rules.{rule, of_runs}
-use Rattle.values.specs.Tallies.{is_stopped, begun}
+use Rattle.values.specs.Tallies.{begun}
 use Rattle.values.specs.Tallies as Tallies
 use Rattle.values.specs.TallyLaws.{finished-is}
 use Rattle.rules.specs.Windows.{readings_in}
@@ -472,7 +472,7 @@ module _ (links cells waits : List ℕ) (xs : List ℤ) (n : ℕ) (φ : ℕ → 
         still e [] t = refl
         still e (z ∷ zs) t =
             let is : unpack_of (get_or frame b 0) ≡ run z = opened b b-n' (sees-rest b (here b) e) ∙ ap value_of (sym (unbound-same xs ρ x' (Number z) (φ b) e)) in
-            rw is (turn (Tallies.stepped t (run z)) _ (map run zs) (is_stopped (Tallies.stepped t (run z))) refl (still e zs (Tallies.stepped t (run z))))
+            rw is (turn (Tallies.stepped t (run z)) _ (map run zs) (Tallies.stepped t (run z)).stopped refl (still e zs (Tallies.stepped t (run z))))
 
         run-right : finish_of (graph links waits xs) go frame i (task_run links waits a (member_kind m) s l) ≡ pack_of (of_runs m (map run (readings_in xs s l)))
         run-right = split (free x' (φ b)) with-own without-own

@@ -27,7 +27,7 @@ use Rattle.rules.specs.Rules.{of_runs}
 use Rattle.rules.specs.Apply.{apply1}
 use Rattle.values.specs.Applied.{applied1, completed}
 use Rattle.values.specs.ApplyLaws.{completed-is}
-use Rattle.values.specs.Tallies.{is_stopped, begun, stepped, gathered, finished}
+use Rattle.values.specs.Tallies.{begun, stepped, gathered, finished}
 use Rattle.values.specs.TallyLaws.{finished-is}
 use Rattle.values.specs.WindowLaws.{readings-short}
 use Rattle.values.specs.Keepable.{Keepable}
@@ -216,7 +216,7 @@ module _ (g : Graph) (n : ℕ) (short : n ≤ 65535) (small : (k : ℕ) → k < 
         let u : Tally = stepped t x in
         let k : Keepable n x = value-kept n (get_or after body 0) (s body) in
         let w = tallied body js v after u zs s (λ i h. r (suc i) (omega arith)) in
-        tallied-if (length (z ∷ zs)) t (is_stopped u) u (over_of go body js v after u zs)
+        tallied-if (length (z ∷ zs)) t u.stopped u (over_of go body js v after u zs)
         (record { values = x ∷ []; same = refl; kept = (k, tt); few = omega arith })
         (record { values = x ∷ w.values; same = w.same; kept = (k, w.kept); few = omega (arith, w.few) })
 

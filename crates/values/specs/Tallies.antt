@@ -1,6 +1,6 @@
 -- The runs of a function, result by result: what is kept of the results so far, from which any of the members that run a function is
 -- concluded. Nothing changes any more once a result was no number. Assumes nothing: these are definitions.
-use Rattle.std.specs.Prelude.{◌≡◌, Bool, cond, List, [], ◌∷◌, ℕ, ◌+◌, ◌*◌, max, ◌≤◌, ℤ, pos, nat_abs, ◌+ℤ◌, Option, Some, None, is_some}
+use Rattle.std.specs.Prelude.{◌≡◌, true, false, cond, List, [], ◌∷◌, ℕ, ◌+◌, ◌*◌, max, ◌≤◌, ℤ, pos, nat_abs, ◌+ℤ◌}
 use Rattle.members.specs.declared.Member.{Member}
 use Rattle.rules.specs.declared.Value.{Value}
 use Rattle.rules.specs.declared.Value.TheVariants.{Number, Window, Function, Delayed, Missing}
@@ -9,12 +9,8 @@ use Rattle.rules.specs.Values.{wrong_kind}
 use Rattle.rules.specs.Runs.{is_nonzero, Summary}
 use Rattle.rules.specs.Rules.{rule, if_runs}
 
--- whether a result was no number
-abbrev pub is_stopped : Tally → Bool
-is_stopped t = is_some t.stopped
-
 abbrev pub begun : Tally
-begun = record { stopped = None; count = 0; stretch = 0; longest = 0; total = pos 0 }
+begun = record { stopped = false; reason = 0; count = 0; stretch = 0; longest = 0; total = pos 0 }
 
 -- the stretch that ends with z
 abbrev pub stretched : Tally → ℤ → ℕ
@@ -22,7 +18,8 @@ stretched t z = cond (is_nonzero z) (t.stretch + 1) 0
 
 unfoldable pub noted : Tally → ℤ → Tally
 noted t z = record {
-  stopped = None;
+  stopped = false;
+  reason = 0;
   count = t.count + cond (is_nonzero z) 1 0;
   stretch = stretched t z;
   longest = max t.longest (stretched t z);
@@ -30,7 +27,7 @@ noted t z = record {
 }
 
 abbrev pub halted : ℕ → Tally
-halted r = record { stopped = Some r; count = 0; stretch = 0; longest = 0; total = pos 0 }
+halted r = record { stopped = true; reason = r; count = 0; stretch = 0; longest = 0; total = pos 0 }
 
 unfoldable pub entered : Tally → Value → Tally
 entered t (Number z) = noted t z
@@ -41,7 +38,7 @@ entered t (Missing r) = halted r
 
 -- one more result
 unfoldable pub stepped : Tally → Value → Tally
-stepped t v = cond (is_stopped t) t (entered t v)
+stepped t v = cond t.stopped t (entered t v)
 
 unfoldable pub gathered : Tally → List Value → Tally
 gathered t [] = t
@@ -51,13 +48,8 @@ gathered t (v ∷ vs) = gathered (stepped t v) vs
 abbrev pub summed : Tally → Summary
 summed t = record { count = t.count; longest = t.longest; total = t.total }
 
--- the reason for which it stopped, or what one that goes on comes to
-abbrev pub or_stopped : Option ℕ → Value → Value
-or_stopped (Some r) v = Missing r
-or_stopped None v = v
-
 unfoldable pub finished : Member → Tally → Value
-finished m t = or_stopped t.stopped (if_runs (Missing wrong_kind) (rule m) (λ f. f (summed t)))
+finished m t = cond t.stopped (Missing t.reason) (if_runs (Missing wrong_kind) (rule m) (λ f. f (summed t)))
 
 -- what k results of signed 32 bits can come to
 pub record Within (k : ℕ) (t : Tally) : Type 0 where

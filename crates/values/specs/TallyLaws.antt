@@ -1,6 +1,6 @@
 -- Gathering the results one at a time comes to what Runs says of the whole list: a tally that goes on counts, measures and adds the numbers
 -- so far, and one that has stopped stays. By induction on the results. Assumes nothing.
-use Rattle.std.specs.Prelude.{◌≡◌, refl, Bool, true, false, cond, List, [], ◌∷◌, ℕ, suc, ◌+◌, max, ◌≤◌, ◌<◌, ℤ, ◌+ℤ◌, Option, None}
+use Rattle.std.specs.Prelude.{◌≡◌, refl, Bool, true, false, cond, List, [], ◌∷◌, ℕ, suc, ◌+◌, max, ◌≤◌, ◌<◌, ℤ, ◌+ℤ◌}
 use Rattle.std.proofs.Common.{sym, ap, ◌∙◌, arith}
 use Rattle.std.proofs.Math.IntN.{+ℤ_idl, +ℤ_idr, +ℤ_assoc}
 use Rattle.std.specs.Int.Signed.{mag}
@@ -13,20 +13,20 @@ use Rattle.rules.specs.Windows.{total}
 use Rattle.rules.specs.Runs.{Results, numbers, because, with, results, is_nonzero, count_of, stretch, longest, summary}
 use Rattle.rules.specs.Rules.{rule, by_runs, concluded, of_runs}
 use Rattle.values.specs.Ranges.{total-range}
-use Rattle.values.specs.Tallies.{is_stopped, begun, noted, halted, entered, stepped, gathered, summed, or_stopped, finished, Within}
+use Rattle.values.specs.Tallies.{begun, noted, halted, entered, stepped, gathered, summed, finished, Within}
 
 -- ---- a tally that has stopped stays, so the rest of the results need not be worked out
 
-pub stopped-steps : (t : Tally) (v : Value) → is_stopped t ≡ true → stepped t v ≡ t
+pub stopped-steps : (t : Tally) (v : Value) → t.stopped ≡ true → stepped t v ≡ t
 unfolding stepped
 stopped-steps t v h = ap (λ (b : Bool). cond b t (entered t v)) h
 
-pub stopped-stays : (t : Tally) (vs : List Value) → is_stopped t ≡ true → gathered t vs ≡ t
+pub stopped-stays : (t : Tally) (vs : List Value) → t.stopped ≡ true → gathered t vs ≡ t
 unfolding gathered
 stopped-stays t [] h = refl
 stopped-stays t (v ∷ vs) h = ap (λ (u : Tally). gathered u vs) (stopped-steps t v h) ∙ stopped-stays t vs h
 
-pub going_steps : (t : Tally) (v : Value) → is_stopped t ≡ false → stepped t v ≡ entered t v
+pub going_steps : (t : Tally) (v : Value) → t.stopped ≡ false → stepped t v ≡ entered t v
 unfolding stepped
 going_steps t v h = ap (λ (b : Bool). cond b t (entered t v)) h
 
@@ -45,7 +45,7 @@ unfolding after noted_all
 after-with t z (numbers zs) = refl
 after-with t z (because r) = refl
 
-gathered-is : (t : Tally) (vs : List Value) → is_stopped t ≡ false → gathered t vs ≡ after t (results vs)
+gathered-is : (t : Tally) (vs : List Value) → t.stopped ≡ false → gathered t vs ≡ after t (results vs)
 unfolding gathered results after noted_all entered noted
 gathered-is t [] h = refl
 gathered-is t (Number z ∷ vs) h =
@@ -61,7 +61,7 @@ gathered-is t (Missing r ∷ vs) h =
 
 -- ---- what the numbers come to
 
-going : (t : Tally) (zs : List ℤ) → t.stopped ≡ None → (noted_all t zs).stopped ≡ None
+going : (t : Tally) (zs : List ℤ) → t.stopped ≡ false → (noted_all t zs).stopped ≡ false
 unfolding noted_all noted
 going t [] h = h
 going t (z ∷ zs) h = going (noted t z) zs refl
@@ -104,7 +104,7 @@ summed-is zs =
 finished-after : (m : Member) (rs : Results) → finished m (after begun rs) ≡ concluded m rs
 unfolding finished after
 finished-after m (numbers zs) =
-    ap (λ (o : Option ℕ). or_stopped o (by_runs (rule m) (summed (noted_all begun zs)))) (going begun zs refl)
+    ap (λ (b : Bool). cond b (Missing (noted_all begun zs).reason) (by_runs (rule m) (summed (noted_all begun zs)))) (going begun zs refl)
     ∙ ap (by_runs (rule m)) (summed-is zs)
 finished-after m (because r) = refl
 
@@ -154,7 +154,7 @@ within-entered k t (Missing r) h w = within-halted (k + 1) r
 
 pub within-stepped : (k : ℕ) (t : Tally) (v : Value) → Small v → Within k t → Within (k + 1) (stepped t v)
 unfolding stepped
-within-stepped k t v h w = either (is_stopped t)
+within-stepped k t v h w = either t.stopped
   where
     either : (b : Bool) → Within (k + 1) (cond b t (entered t v))
     either true = within_more k (k + 1) t (omega arith) w

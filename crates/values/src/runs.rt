@@ -10,10 +10,12 @@ use members::Member;
 use rules::{Reason, Value};
 
 // What is kept of the results so far: how many were other than 0, the stretch of these at the end, the longest stretch, and the exact
-// total. Once stopped, the reason for it alone counts.
+// total. Once stopped, the reason alone counts.
 #[derive(Clone, Copy)]
 pub struct Tally {
-    pub stopped: Option<u8>,
+    // Two fields, no Option: what a tally that has not stopped has as its reason counts for nothing, and step and finish answer for each.
+    pub stopped: bool,
+    pub reason: u8,
     pub count: u16,
     pub stretch: u16,
     pub longest: u16,
@@ -25,7 +27,8 @@ pub fn start() -> Tally
     ensures { result ≡ begun }
 {
     Tally {
-        stopped: None,
+        stopped: false,
+        reason: 0,
         count: 0,
         stretch: 0,
         longest: 0,
@@ -38,7 +41,8 @@ fn halt(reason: u8) -> Tally
     ensures { result ≡ halted reason }
 {
     Tally {
-        stopped: Some(reason),
+        stopped: true,
+        reason,
         count: 0,
         stretch: 0,
         longest: 0,
@@ -69,7 +73,8 @@ fn note(t: Tally, z: i32) -> Tally
 {
     let stretch = stretched(t.stretch, z);
     Tally {
-        stopped: None,
+        stopped: false,
+        reason: 0,
         count: counted(t.count, z),
         stretch,
         longest: t.longest.max(stretch),
@@ -82,7 +87,7 @@ pub fn step(t: Tally, v: Value) -> Tally
     requires { Within 65534 t }
     ensures { Steps t v result }
 {
-    if t.stopped.is_some() {
+    if t.stopped {
         return t;
     }
     match v {
@@ -96,8 +101,8 @@ pub fn step(t: Tally, v: Value) -> Tally
 pub fn finish(m: Member, t: Tally) -> Value
     ensures { result ≡ finished m t }
 {
-    if let Some(reason) = t.stopped {
-        return Value::Missing(reason);
+    if t.stopped {
+        return Value::Missing(t.reason);
     }
     match m {
         Member::CountWhere => Value::Number(t.count as i32),

@@ -10,11 +10,11 @@ column_at-to-requires c = place-asks c.requires.columns.0 c.requires.width
 pub loop-k-init : goal.loop-k-init
 loop-k-init c = turns-begin c.requires.columns.0 c.requires.columns.1 c.count_in-count.ensures c.requires.width c.column_at-to.ensures c.start-t.ensures
 
-pub returns-then-is_some : goal.returns-then-is_some
-returns-then-is_some c = turns-stop c.loop-k.invariant (omega (arith, c.min-c.ensures)) c.chunk.ensures.read c.chunk.ensures.worked c.take_rows-t.ensures (omega (arith, c.min-c.ensures, c.loop-k.invariant.room, c.loop-k.invariant.asks.room, c.chunk.ensures.worked.size, c.chunk.ensures.read.size)) (rw c.is_some.ensures at c.if-is_some.true)
+pub returns-then-t : goal.returns-then-t
+returns-then-t c = turns-stop c.loop-k.invariant (omega (arith, c.min-c.ensures)) c.chunk.ensures.read c.chunk.ensures.worked c.take_rows-t.ensures (omega (arith, c.min-c.ensures, c.loop-k.invariant.room, c.loop-k.invariant.asks.room, c.chunk.ensures.worked.size, c.chunk.ensures.read.size)) c.if-t.true
 
 pub loop-k-preserved : goal.loop-k-preserved
-loop-k-preserved c = turns-again c.loop-k.invariant (omega (arith, c.min-c.ensures)) c.chunk.ensures.read c.chunk.ensures.worked c.take_rows-t.ensures (omega (arith, c.min-c.ensures, c.loop-k.invariant.room, c.loop-k.invariant.asks.room, c.chunk.ensures.worked.size, c.chunk.ensures.read.size)) (rw c.is_some.ensures at c.if-is_some.false)
+loop-k-preserved c = turns-again c.loop-k.invariant (omega (arith, c.min-c.ensures)) c.chunk.ensures.read c.chunk.ensures.worked c.take_rows-t.ensures (omega (arith, c.min-c.ensures, c.loop-k.invariant.room, c.loop-k.invariant.asks.room, c.chunk.ensures.worked.size, c.chunk.ensures.read.size)) c.if-t.false
 
 pub returns : goal.returns
 returns c = turns-end c.loop-k.invariant c.loop-k-test.false

@@ -41,19 +41,19 @@ apply-loop-k-init t c = search (rules, runs-begin)
 pub apply-tally-t-requires : goal.apply-tally-t-requires
 apply-tally-t-requires t c = runs-within c.loop-k.invariant (omega (arith, c.count_in.ensures.few, c.loop-k-test.true))
 
-pub apply-returns-then-is_some : goal.apply-returns-then-is_some
-apply-returns-then-is_some t c =
+pub apply-returns-then-t : goal.apply-returns-then-t
+apply-returns-then-t t c =
     run-applies (graph c.args.links.now c.args.waits.now c.args.readings.now) c.args.frame.now c.args.i c.plan.ensures.same c.in-Body.is c.plan.ensures.right (listed _ _ _ _ _ _ c.gather-at.ensures) c.in-Over.is
     (runs-stop c.loop-k.invariant refl (omega (arith, c.count_in.ensures.same, c.loop-k-test.true, c.loop-k.auto.k)) _
     (reading-at c.args.readings.now _ _ c.loop-k.k c.loop-k.auto.k (omega (arith, c.count_in.ensures.same, c.loop-k-test.true, c.loop-k.auto.k)))
-    c.reading.ensures c.rerun-r.ensures c.tally-t.ensures (rw c.is_some.ensures at c.if-is_some.true)) c.conclude-then-is_some.ensures.same
+    c.reading.ensures c.rerun-r.ensures c.tally-t.ensures c.if-t.true) c.conclude-then-t.ensures.same
 
 pub apply-loop-k-preserved : goal.apply-loop-k-preserved
 apply-loop-k-preserved t c =
     let n : c.loop-k.k - c.in-Over.start + 1 ≡ c.loop-k.k + 1 - c.in-Over.start = omega (arith, c.loop-k.auto.k) in
     rw n at (runs-again c.loop-k.invariant refl (omega (arith, c.count_in.ensures.same, c.loop-k-test.true, c.loop-k.auto.k)) _
     (reading-at c.args.readings.now _ _ c.loop-k.k c.loop-k.auto.k (omega (arith, c.count_in.ensures.same, c.loop-k-test.true, c.loop-k.auto.k)))
-    c.reading.ensures c.rerun-r.ensures c.tally-t.ensures (rw c.is_some.ensures at c.if-is_some.false))
+    c.reading.ensures c.rerun-r.ensures c.tally-t.ensures c.if-t.false)
 
 pub apply-returns-in-Judge : goal.apply-returns-in-Judge
 apply-returns-in-Judge t c = judge-applies (graph c.args.links.now c.args.waits.now c.args.readings.now) c.args.frame.now c.args.i c.plan.ensures.same c.in-Body.is c.plan.ensures.right (listed _ _ _ _ _ _ c.gather-at.ensures) c.in-Judge.is c.rerun-base.ensures (function-waits _ _ _ _ _ c.is_open.ensures c.function.ensures.same)

@@ -22,12 +22,12 @@ over-step-t-requires t c =
     sums-within c.args.source.now.readings.now c.args.source.now.records.now c.args.source.now.orders.now c.args.s c.args.f c.part-z-items.result.now c.loop-z.t c.loop-z.z-index c.loop-z.invariant.1
     (window-short c.args.source.now.readings.now c.args.from c.args.count c.part-z-items.result.now c.part-z-items.ensures (omega (arith, c.ranges.count.fits))) c.loop-z-test.true
 
-pub over-returns-then-is_some : goal.over-returns-then-is_some
-over-returns-then-is_some t c =
+pub over-returns-then-t : goal.over-returns-then-t
+over-returns-then-t t c =
     over-stopped c.args.source.now.readings.now c.args.source.now.records.now c.args.source.now.orders.now c.args.s c.args.f c.args.from c.args.count c.part-z-items.result.now c.part-z-items.ensures c.step-t.result (c.loop-z.z-index + 1)
     (sums-more c.args.source.now.readings.now c.args.source.now.records.now c.args.source.now.orders.now c.args.s c.args.f c.part-z-items.result.now c.loop-z.t c.loop-z.z-index c.loop-z.invariant.1 c.loop-z-test.true _ c.ran-c.result _ c.ran-c.ensures (search rules) c.unpack.result c.unpack.ensures
     c.step-t.result c.step-t.ensures)
-    _ c.ran-c.ensures.keeps c.args.kind c.conclude.result (of-kind c.args.kind _ c.conclude.ensures.back) (rw c.is_some.ensures at c.if-is_some.true)
+    _ c.ran-c.ensures.keeps c.args.kind c.conclude.result (of-kind c.args.kind _ c.conclude.ensures.back) c.if-t.true
 
 pub over-loop-z-preserved : goal.over-loop-z-preserved
 over-loop-z-preserved t c = (
