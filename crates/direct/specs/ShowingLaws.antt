@@ -19,7 +19,6 @@ use Rattle.layout.specs.Held.{shaped, record_at}
 use Rattle.layout.specs.declared.nodes.Shape.{Shape}
 use Rattle.schedule.specs.declared.View.{View}
 use Rattle.interface.specs.Views.{view_of}
-use Rattle.interpreter.specs.declared.orders.Order.{Order}
 use Rattle.interpreter.specs.declared.bindings.Bindings.{Bindings}
 use Rattle.interpreter.specs.declared.memo.Known.{Known}
 use Rattle.levels.specs.Interpreting.{Scope, nothing, stands_for, interpret, levels, variable_at, shown_by}
@@ -38,7 +37,7 @@ all-none zero k = refl
 all-none (suc n) zero = refl
 all-none (suc n) (suc k) = all-none n k
 
-nothing_known : (xs : List ℤ) (ν : ℕ → Node) (orders : List Order) → Remembers xs ν orders (replicate text_parts none)
+nothing_known : (xs : List ℤ) (ν : ℕ → Node) (orders : List ℕ) → Remembers xs ν orders (replicate text_parts none)
 unfolding is_known
 nothing_known xs ν orders i F h s t k = absurd (false≢true (rw (all-none text_parts i) at k))
 
@@ -52,7 +51,7 @@ nothing_bound xs t e =
       inner = delayed-inside (length xs) _ (ap (λ (s : Scope). s.inner) e);
     }
 
-module _ (xs : List ℤ) (R : List ℕ) (i : ℕ) (show : Showable xs R i) (orders : List Order) (ordered : Ordered (record_at R) (i + 1) orders) where
+module _ (xs : List ℤ) (R : List ℕ) (i : ℕ) (show : Showable xs R i) (orders : List ℕ) (ordered : Ordered (record_at R) (i + 1) orders) where
   pub begins : (t : Bindings) → scope_of t ≡ nothing → (memo : List Known) → memo ≡ replicate text_parts none → Ready xs R orders t i memo
   begins t e memo z =
       record {
@@ -114,7 +113,7 @@ key-name xs R i x q _ (a_call _ m f a F A e g d s c t) k = ap (λ (m : Node). m.
 
 -- ---- what is shown, from the value
 
-module _ (xs : List ℤ) (R : List ℕ) (orders : List Order) (t : Bindings) (i : ℕ) (memo : List Known) (cell : ℕ) (comes : Comes xs R orders t i memo cell) (e : scope_of t ≡ nothing)
+module _ (xs : List ℤ) (R orders : List ℕ) (t : Bindings) (i : ℕ) (memo : List Known) (cell : ℕ) (comes : Comes xs R orders t i memo cell) (e : scope_of t ≡ nothing)
     (u : Value) (p : u ≡ unpack_of cell) (v : Shown) (q : v ≡ shown_numbers u) where
   is : (F : Form) → Stands (record_at R) i F → u ≡ interpret xs nothing F
   is F s = p ∙ comes.right F s ∙ ap (λ (x : Scope). interpret xs x F) e

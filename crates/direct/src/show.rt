@@ -31,7 +31,7 @@ pub fn show(recording: &[i32], records: &[u64; TEXT_WORDS], i: u16) -> View
     requires { Showable recording.now records.now i }
     ensures { ShownAs recording.now records.now i result }
 {
-    let mut orders = [Order::Empty; Text::PARTS];
+    let mut orders = [Order::Empty as u8; Text::PARTS];
     order_all(records, i + 1, &mut orders);
     let mut memo = [Known::NONE; Text::PARTS];
     let source = Source {

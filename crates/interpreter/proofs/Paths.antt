@@ -27,7 +27,7 @@ use Rattle.interpreter.specs.declared.bindings.Bindings.{Bindings}
 use Rattle.interpreter.specs.declared.memo.Known.{Known}
 use Rattle.levels.specs.Interpreting.{nothing, scope}
 use Rattle.interpreter.specs.Cells.{bindings, scope_of, cell_at, bound_at}
-use Rattle.interpreter.specs.Orders.{join_of, less_of, has_level, linked_of, order_at}
+use Rattle.interpreter.specs.Orders.{order_of, join_of, less_of, has_level, linked_of, order_at}
 use Rattle.interpreter.specs.Memo.{known, none, same, seen_by, is_known, kept}
 use Rattle.interpreter.specs.Walking.{leaf_of, waits_for}
 use Rattle.interpreter.specs.Naming.{next_of}
@@ -51,6 +51,27 @@ module _ (s : Bindings) (k c : ℕ) where
   bound-inner e = rw (ne_eqb k 0 e)
 
 -- ---- orders
+
+module _ (b : ℕ) where
+  pub order-none : b ≡ 0 → Empty ≡ order_of b
+  unfolding order_of
+  order-none e = rw e
+
+  pub order-outer : b ≡ 1 → Outer ≡ order_of b
+  unfolding order_of
+  order-outer e = rw e
+
+  pub order-inner : b ≡ 2 → Inner ≡ order_of b
+  unfolding order_of
+  order-inner e = rw e
+
+  pub order-both : b ≡ 3 → OuterInner ≡ order_of b
+  unfolding order_of
+  order-both e = rw e
+
+  pub order-turned : (b ≡ 0 → ⊥) → (b ≡ 1 → ⊥) → (b ≡ 2 → ⊥) → (b ≡ 3 → ⊥) → InnerOuter ≡ order_of b
+  unfolding order_of
+  order-turned e f g h = rw (ne_eqb b 0 e, ne_eqb b 1 f, ne_eqb b 2 g, ne_eqb b 3 h)
 
 module _ (k : ℕ) where
   pub has-none : (w : Order) → w ≡ Empty → false ≡ has_level w k
@@ -119,22 +140,22 @@ module _ (w : Order) (k : ℕ) where
   unfolding less_of
   less-inner-none e b q h = rw (ne_eqb k 0 e, ← q, h)
 
-module _ (orders : List Order) (link : ℕ) where
+module _ (orders : List ℕ) (link : ℕ) where
   pub linked-one : (leb 1 link && leb link text_parts) ≡ true → 1 ≤ link
   linked-one h = leb-true 1 link ((and-eq-true_iff (leb 1 link) _).0 h).0
 
   pub linked-most : (leb 1 link && leb link text_parts) ≡ true → link - 1 < text_parts
   linked-most h = let l = leb-true link text_parts ((and-eq-true_iff (leb 1 link) _).0 h).1 in let o = linked-one h in omega arith
 
-  pub linked-there : (leb 1 link && leb link text_parts) ≡ true → get_or orders (link - 1) Empty ≡ linked_of orders link
+  pub linked-there : (leb 1 link && leb link text_parts) ≡ true → (w : Order) → w ≡ order_of (get_or orders (link - 1) 0) → w ≡ linked_of orders link
   unfolding linked_of
-  linked-there h = rw h
+  linked-there h w e = rw h e
 
   pub linked-none : (leb 1 link && leb link text_parts) ≡ false → Empty ≡ linked_of orders link
   unfolding linked_of
   linked-none h = rw h
 
-module _ (x : Shape) (m : Node) (q : shaped x ≡ m) (orders : List Order) where
+module _ (x : Shape) (m : Node) (q : shaped x ≡ m) (orders : List ℕ) where
   pub at-outer : x.kind ≡ variable_kind → x.level ≡ 0 → Outer ≡ order_at m orders
   unfolding order_at
   at-outer e h = rw (← q, eq-eqb _ _ e, eq-eqb _ _ h)
@@ -193,7 +214,7 @@ waits-is s w a b c d u v p q r t x y = rw (p, r, q, t, y, x)
 
 -- ---- names
 
-module _ (orders : List Order) (k : ℕ) (n : Shape) where
+module _ (orders : List ℕ) (k : ℕ) (n : Shape) where
   pub next-first : (eqb n.kind function_kind || eqb n.second 0) ≡ true → n.first ≡ next_of orders k n
   unfolding next_of
   next-first h = rw h
@@ -214,6 +235,11 @@ pub ruleset paths = (
   cell-inner,
   bound-outer,
   bound-inner,
+  order-none,
+  order-outer,
+  order-inner,
+  order-both,
+  order-turned,
   has-none,
   has-outer,
   has-inner,

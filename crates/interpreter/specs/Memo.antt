@@ -6,13 +6,12 @@ use Rattle.values.specs.Packing.{unpack_of}
 use Rattle.meaning.specs.Forms.{Form}
 use Rattle.layout.specs.Memory.{Node}
 use Rattle.interpreter.specs.declared.orders.Order.{Order}
-use Rattle.interpreter.specs.declared.orders.Order.TheVariants.{Empty}
 use Rattle.interpreter.specs.declared.bindings.Bindings.{Bindings}
 use Rattle.interpreter.specs.declared.memo.Known.{Known}
 use Rattle.levels.specs.Interpreting.{interpret}
 use Rattle.interpreter.specs.Standing.{Stands}
 use Rattle.interpreter.specs.Cells.{bindings, scope_of}
-use Rattle.interpreter.specs.Orders.{has_level}
+use Rattle.interpreter.specs.Orders.{order_of, has_level}
 
 abbrev pub known : ℕ → Bindings → Known
 known c s = record { cell = c; seen = s }
@@ -34,7 +33,7 @@ unfoldable pub kept : List Known → ℕ → Bindings → ℕ → List Known
 kept memo i seen cell = set memo i (known cell seen)
 
 -- what is known is right: of each record and any bindings for which it is known
-abbrev pub Remembers : List ℤ → (ℕ → Node) → (orders : List Order) → List Known → Type 0
+abbrev pub Remembers : List ℤ → (ℕ → Node) → (orders : List ℕ) → List Known → Type 0
 Remembers xs ν orders memo =
-    (i : ℕ) (F : Form) → i < text_parts → Stands ν i F → (s : Bindings) → is_known memo i (seen_by s (get_or orders i Empty)) ≡ true
+    (i : ℕ) (F : Form) → i < text_parts → Stands ν i F → (s : Bindings) → is_known memo i (seen_by s (order_of (get_or orders i 0))) ≡ true
     → unpack_of (get_or memo i none).cell ≡ interpret xs (scope_of s) F

@@ -13,12 +13,12 @@ use Rattle.interpreter.specs.Standing.{Stands}
 use Rattle.interpreter.specs.Orders.{has_level, linked_of, Ordered}
 
 -- the link to follow to where the variable of the level first occurs
-unfoldable pub next_of : List Order → (level : ℕ) → Shape → ℕ
+unfoldable pub next_of : List ℕ → (level : ℕ) → Shape → ℕ
 next_of orders k n =
     cond ((eqb n.kind function_kind || eqb n.second 0) || has_level (linked_of orders n.first) k) n.first n.second
 
 -- record i stands for a form that awaits the level
-pub record Awaits (R : List ℕ) (orders : List Order) (i k : ℕ) : Type 0 where
+pub record Awaits (R orders : List ℕ) (i k : ℕ) : Type 0 where
   pub form : Form
   pub stands : Stands (record_at R) i form
   pub has : has_name k (levels form) ≡ true
@@ -41,7 +41,7 @@ first_level OuterInner = 0
 first_level InnerOuter = 1
 
 -- record i stands for a form, and it and the records before it have their orders
-pub record Nameable (R : List ℕ) (orders : List Order) (i : ℕ) : Type 0 where
+pub record Nameable (R orders : List ℕ) (i : ℕ) : Type 0 where
   pub form : Form
   pub stands : Stands (record_at R) i form
   pub small : i < text_parts

@@ -20,7 +20,7 @@ use Rattle.levels.specs.Interpreting.{levels, variable_at}
 use Rattle.interpreter.specs.declared.orders.Order.{Order}
 use Rattle.interpreter.specs.declared.orders.Order.TheVariants.{Empty, Outer, Inner, OuterInner, InnerOuter}
 use Rattle.interpreter.specs.Standing.{Stands, a_number, a_variable, an_unbound, the_readings, a_function, an_ask, a_call}
-use Rattle.interpreter.specs.Orders.{listed, has_level, linked_of}
+use Rattle.interpreter.specs.Orders.{order_of, listed, has_level, linked_of}
 use Rattle.interpreter.specs.OrdersLaws.{has_listed}
 use Rattle.interpreter.specs.Naming.{next_of, Awaits, NamedBy, first_level, Nameable, Named}
 
@@ -32,14 +32,14 @@ pub record Leads (R : List ℕ) (at k : ℕ) (F : Form) : Type 0 where
   pub same : variable_at k F ≡ variable_at k form
 
 -- record `at`, on the way from record i
-pub record Way (R : List ℕ) (orders : List Order) (i k at : ℕ) : Type 0 where
+pub record Way (R orders : List ℕ) (i k at : ℕ) : Type 0 where
   pub here : Awaits R orders at k
   pub leads : (F : Form) → Stands (record_at R) i F → has_name k (levels F) ≡ true → Leads R at k F
 
-pub way-begin : (R : List ℕ) (orders : List Order) (i k : ℕ) → Awaits R orders i k → Way R orders i k i
+pub way-begin : (R orders : List ℕ) (i k : ℕ) → Awaits R orders i k → Way R orders i k i
 way-begin R orders i k a = record { here = a; leads = λ F s h. record { form = F; stands = s; has = h; same = refl } }
 
-module _ (R : List ℕ) (orders : List Order) (i k at : ℕ) (way : Way R orders i k at) (x : Shape) (q : shaped x ≡ record_at R at) where
+module _ (R orders : List ℕ) (i k at : ℕ) (way : Way R orders i k at) (x : Shape) (q : shaped x ≡ record_at R at) where
   abbrev ν : ℕ → Node
   ν = record_at R
 
@@ -70,7 +70,7 @@ module _ (R : List ℕ) (orders : List Order) (i k at : ℕ) (way : Way R orders
       let b : d < way.here.count = omega (arith, way.here.below) in
       let z : suc d - 1 ≡ d = omega arith in
       rw (le-leb 1 (suc d) (omega arith), le-leb (suc d) text_parts (omega (arith, way.here.small)), z)
-      (has_listed (get_or orders d Empty) k way.here.low ∙ ap (has_name k) (o.right d F b s))
+      (has_listed (order_of (get_or orders d 0)) k way.here.low ∙ ap (has_name k) (o.right d F b s))
 
   next-function : x.kind ≡ function_kind → next_of orders k x ≡ x.first
   unfolding next_of
@@ -177,9 +177,9 @@ unfolding first_level listed has_name
 second-has w (inl e) = rw e refl
 second-has w (inr e) = rw e refl
 
-module _ (R : List ℕ) (orders : List Order) (i : ℕ) (nameable : Nameable R orders i) where
+module _ (R orders : List ℕ) (i : ℕ) (nameable : Nameable R orders i) where
   abbrev w : Order
-  w = get_or orders i Empty
+  w = order_of (get_or orders i 0)
 
   are : (F : Form) → Stands (record_at R) i F → listed w ≡ levels F
   are F s = nameable.ordered.right i F nameable.below s

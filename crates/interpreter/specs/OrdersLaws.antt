@@ -17,7 +17,7 @@ use Rattle.levels.specs.Interpreting.{levels}
 use Rattle.interpreter.specs.declared.orders.Order.{Order}
 use Rattle.interpreter.specs.declared.orders.Order.TheVariants.{Empty, Outer, Inner, OuterInner, InnerOuter}
 use Rattle.interpreter.specs.Standing.{Stands, a_number, a_variable, an_unbound, the_readings, a_function, an_ask, a_call}
-use Rattle.interpreter.specs.Orders.{listed, join_of, less_of, has_level, linked_of, order_at, Ordered}
+use Rattle.interpreter.specs.Orders.{order_of, order_number, listed, join_of, less_of, has_level, linked_of, order_at, Ordered}
 
 -- ---- by five numbers, by the orders, and by the two levels
 
@@ -33,6 +33,22 @@ two : (P : ℕ → Type 0) → P 0 → P 1 → (k : ℕ) → k < 2 → P k
 two P a b zero h = a
 two P a b (suc zero) h = b
 two P a b (suc (suc k)) h = absurd (omega arith)
+
+-- the byte of an order is one of the five, and is read as the order
+pub number-low : (w : Order) → order_number w ≤ 4
+number-low Empty = omega arith
+number-low Outer = omega arith
+number-low Inner = omega arith
+number-low OuterInner = omega arith
+number-low InnerOuter = omega arith
+
+pub number-back : (w : Order) → order_of (order_number w) ≡ w
+unfolding order_of
+number-back Empty = refl
+number-back Outer = refl
+number-back Inner = refl
+number-back OuterInner = refl
+number-back InnerOuter = refl
 
 pub joined-listed : (w u : Order) → listed (join_of w u) ≡ joined (listed w) (listed u)
 unfolding listed join_of has_level joined has_name
@@ -83,8 +99,8 @@ has_listed InnerOuter k l = two (λ k. has_level InnerOuter k ≡ has_name k (li
 pub level-of : (x k : ℕ) → k < 2 → level_in (with_level x k) ≡ k
 level-of x k h = omega arith
 
-module _ (ν : ℕ → Node) (i : ℕ) (orders : List Order) (before : Ordered ν i orders) (few : i < text_parts) where
-  linked-is : (d : ℕ) → d < i → linked_of orders (suc d) ≡ get_or orders d Empty
+module _ (ν : ℕ → Node) (i : ℕ) (orders : List ℕ) (before : Ordered ν i orders) (few : i < text_parts) where
+  linked-is : (d : ℕ) → d < i → linked_of orders (suc d) ≡ order_of (get_or orders d 0)
   unfolding linked_of
   linked-is d h =
       let z : suc d - 1 ≡ d = omega arith in
@@ -120,22 +136,26 @@ module _ (ν : ℕ → Node) (i : ℕ) (orders : List Order) (before : Ordered �
       ∙ (λ j. joined (link-right f F l s j) (link-right a A k t j))
 
   -- one record more
-  pub ordered-more : (w : Order) → w ≡ order_at (ν i) orders → Ordered ν (i + 1) (set orders i w)
-  ordered-more w q =
+  pub ordered-more : (w : Order) → w ≡ order_at (ν i) orders → (b : ℕ) → b ≡ order_number w → Ordered ν (i + 1) (set orders i b)
+  ordered-more w q b e =
       record {
-        size = length-set orders i w ∙ before.size;
+        size = length-set orders i b ∙ before.size;
+        low = λ j F h s. elim (dec_lt j i) [
+          | yes less ↦ rw (get_or-set_other orders i j b 0 (λ e. omega arith)) (before.low j F less s)
+          | no most ↦ let z : j ≡ i = omega arith in rw (here j z) (number-low w)
+        ];
         right = λ j F h s. elim (dec_lt j i) [
-          | yes less ↦ rw (get_or-set_other orders i j w Empty (λ e. omega arith)) (before.right j F less s)
-          | no most ↦ let z : j ≡ i = omega arith in rw (here j z) (order-right F (subst (λ (d : ℕ). Stands ν d F) z s))
+          | yes less ↦ rw (get_or-set_other orders i j b 0 (λ e. omega arith)) (before.right j F less s)
+          | no most ↦ let z : j ≡ i = omega arith in rw (here j z, number-back w, q) (order-right F (subst (λ (d : ℕ). Stands ν d F) z s))
         ];
       }
     where
-      here : (j : ℕ) → j ≡ i → get_or (set orders i w) j Empty ≡ order_at (ν i) orders
-      here j z = let l = before.size in ap (λ (d : ℕ). get_or (set orders i w) d Empty) z ∙ get_or-set_same orders i w Empty (omega arith) ∙ q
+      here : (j : ℕ) → j ≡ i → get_or (set orders i b) j 0 ≡ order_number w
+      here j z = let l = before.size in ap (λ (d : ℕ). get_or (set orders i b) d 0) z ∙ get_or-set_same orders i b 0 (omega arith) ∙ e
 
-pub ordered-none : (ν : ℕ → Node) (orders : List Order) → length orders ≡ text_parts → Ordered ν 0 orders
-ordered-none ν orders e = record { size = e; right = λ i F h s. absurd (omega arith) }
+pub ordered-none : (ν : ℕ → Node) (orders : List ℕ) → length orders ≡ text_parts → Ordered ν 0 orders
+ordered-none ν orders e = record { size = e; low = λ i F h s. absurd (omega arith); right = λ i F h s. absurd (omega arith) }
 
 -- all of them
-pub ordered-all : (ν : ℕ → Node) (i n : ℕ) (orders : List Order) → Ordered ν i orders → i ≤ n → n ≤ i → Ordered ν n orders
+pub ordered-all : (ν : ℕ → Node) (i n : ℕ) (orders : List ℕ) → Ordered ν i orders → i ≤ n → n ≤ i → Ordered ν n orders
 ordered-all ν i n orders o h k = let z : i ≡ n = omega arith in subst (λ (d : ℕ). Ordered ν d orders) z o

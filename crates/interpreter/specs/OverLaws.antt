@@ -16,7 +16,6 @@ use Rattle.values.specs.Packing.{unpack_of}
 use Rattle.meaning.specs.Forms.{Form}
 use Rattle.layout.specs.Nodes.{member_kind}
 use Rattle.layout.specs.Held.{record_at}
-use Rattle.interpreter.specs.declared.orders.Order.{Order}
 use Rattle.interpreter.specs.declared.bindings.Bindings.{Bindings}
 use Rattle.interpreter.specs.declared.memo.Known.{Known}
 use Rattle.levels.specs.Interpreting.{ran}
@@ -24,7 +23,7 @@ use Rattle.interpreter.specs.Standing.{Stands}
 use Rattle.interpreter.specs.Cells.{scope_of}
 use Rattle.interpreter.specs.Walking.{Keeps, Ran, Over}
 
-module _ (xs : List ℤ) (R : List ℕ) (orders : List Order) (s : Bindings) (f : ℕ) where
+module _ (xs : List ℤ) (R orders : List ℕ) (s : Bindings) (f : ℕ) where
   abbrev results : Form → List ℤ → List Value
   results F zs = map (ran xs (scope_of s) F) zs
 

@@ -42,12 +42,12 @@ pub record Bound (xs : List ℤ) (s : Bindings) : Type 0 where
   pub inner : Inside (length xs) (unpack_of s.inner)
 
 -- what is remembered is right, and has its cells
-pub record Keeps (xs : List ℤ) (R : List ℕ) (orders : List Order) (memo : List Known) : Type 0 where
+pub record Keeps (xs : List ℤ) (R orders : List ℕ) (memo : List Known) : Type 0 where
   pub size : length memo ≡ text_parts
   pub remembers : Remembers xs (record_at R) orders memo
 
 -- what the walk asks at record i: it stands for a form, and it and the records before it have their orders
-pub record Ready (xs : List ℤ) (R : List ℕ) (orders : List Order) (s : Bindings) (i : ℕ) (memo : List Known) : Type 0 where
+pub record Ready (xs : List ℤ) (R orders : List ℕ) (s : Bindings) (i : ℕ) (memo : List Known) : Type 0 where
   pub few : length xs ≤ table_readings
   pub low : i < text_parts
   pub form : Form
@@ -59,15 +59,15 @@ pub record Ready (xs : List ℤ) (R : List ℕ) (orders : List Order) (s : Bindi
   pub keeps : Keeps xs R orders memo
 
 -- what it gives: the value of the record's form; what a run of it on the reading z gives; and what a member comes to from its runs over a window
-pub record Comes (xs : List ℤ) (R : List ℕ) (orders : List Order) (s : Bindings) (i : ℕ) (memo : List Known) (r : ℕ) : Type 0 where
+pub record Comes (xs : List ℤ) (R orders : List ℕ) (s : Bindings) (i : ℕ) (memo : List Known) (r : ℕ) : Type 0 where
   pub right : (F : Form) → Stands (record_at R) i F → unpack_of r ≡ interpret xs (scope_of s) F
   pub keeps : Keeps xs R orders memo
 
-pub record Ran (xs : List ℤ) (R : List ℕ) (orders : List Order) (s : Bindings) (i : ℕ) (z : ℤ) (memo : List Known) (r : ℕ) : Type 0 where
+pub record Ran (xs : List ℤ) (R orders : List ℕ) (s : Bindings) (i : ℕ) (z : ℤ) (memo : List Known) (r : ℕ) : Type 0 where
   pub right : (F : Form) → Stands (record_at R) i F → unpack_of r ≡ ran xs (scope_of s) F z
   pub keeps : Keeps xs R orders memo
 
-pub record Over (xs : List ℤ) (R : List ℕ) (orders : List Order) (s : Bindings) (i kind from count : ℕ) (memo : List Known) (r : ℕ) : Type 0 where
+pub record Over (xs : List ℤ) (R orders : List ℕ) (s : Bindings) (i kind from count : ℕ) (memo : List Known) (r : ℕ) : Type 0 where
   pub right : (m : Member) → kind ≡ member_kind m → (F : Form) → Stands (record_at R) i F
       → unpack_of r ≡ of_runs m (map (ran xs (scope_of s) F) (readings_in xs from count))
   pub keeps : Keeps xs R orders memo

@@ -38,7 +38,7 @@ use Rattle.interpreter.specs.InterpretingLaws.{Alike, interpret-alike, inside}
 use Rattle.interpreter.specs.Standing.{Stands, a_number, a_variable, an_unbound, the_readings, a_function, an_ask, a_call}
 use Rattle.interpreter.specs.StandingLaws.{IsFunction, IsMember, a-function, a-member}
 use Rattle.interpreter.specs.Cells.{bindings, scope_of, bound_at}
-use Rattle.interpreter.specs.Orders.{listed, has_level}
+use Rattle.interpreter.specs.Orders.{order_of, listed, has_level}
 use Rattle.interpreter.specs.OrdersLaws.{level-of, has_listed}
 use Rattle.interpreter.specs.Memo.{known, none, same, seen_by, is_known, kept, Remembers}
 use Rattle.interpreter.specs.Walking.{leaf_of, waits_for, Bound, Keeps, Ready, Comes, Ran, Over}
@@ -113,7 +113,7 @@ known-seen memo i seen h = same-is _ _ ((and-eq-true_iff (not (eqb (get_or memo 
 
 -- ---- the walk at record i
 
-module _ (xs : List ℤ) (R : List ℕ) (orders : List Order) (s : Bindings) (i : ℕ) (memo : List Known) (ready : Ready xs R orders s i memo) where
+module _ (xs : List ℤ) (R orders : List ℕ) (s : Bindings) (i : ℕ) (memo : List Known) (ready : Ready xs R orders s i memo) where
   -- what is remembered may have become more
   pub ready-later : (after : List Known) → Keeps xs R orders after → Ready xs R orders s i after
   ready-later after k =
@@ -133,7 +133,7 @@ module _ (xs : List ℤ) (R : List ℕ) (orders : List Order) (s : Bindings) (i 
   ν = record_at R
 
   abbrev w : Order
-  w = get_or orders i Empty
+  w = order_of (get_or orders i 0)
 
   pub known-comes : (seen : Bindings) → seen ≡ seen_by s w → (b : Bool) → b ≡ is_known memo i seen → b ≡ true → Comes xs R orders s i memo (get_or memo i none).cell
   known-comes seen e b q h =
@@ -180,17 +180,17 @@ module _ (xs : List ℤ) (R : List ℕ) (orders : List Order) (s : Bindings) (i 
           | yes r ↦ there j F l z t h (λ x. omega arith)
           | no r ↦
               let y : j ≡ i = omega arith in
-              let h' = subst (λ (d : ℕ). is_known (kept after i seen c) d (seen_by t (get_or orders d Empty)) ≡ true) y h in
+              let h' = subst (λ (d : ℕ). is_known (kept after i seen c) d (seen_by t (order_of (get_or orders d 0))) ≡ true) y h in
               ap (λ (d : ℕ). unpack_of (get_or (kept after i seen c) d none).cell) y
               ∙ ap (λ (o : Known). unpack_of o.cell) (kept-here after done.keeps.size seen c) ∙ here F (subst (λ (d : ℕ). Stands ν d F) y z) t h'
         ]
       ]
         where
-          there : (j : ℕ) (F : Form) → j < text_parts → Stands ν j F → (t : Bindings) → is_known (kept after i seen c) j (seen_by t (get_or orders j Empty)) ≡ true → (j ≡ i → ⊥)
+          there : (j : ℕ) (F : Form) → j < text_parts → Stands ν j F → (t : Bindings) → is_known (kept after i seen c) j (seen_by t (order_of (get_or orders j 0))) ≡ true → (j ≡ i → ⊥)
               → unpack_of (get_or (kept after i seen c) j none).cell ≡ interpret xs (scope_of t) F
           there j F l z t h u =
               ap (λ (o : Known). unpack_of o.cell) (kept-other after done.keeps.size seen c j u)
-              ∙ done.keeps.remembers j F l z t (sym (kept-elsewhere after done.keeps.size seen c j (seen_by t (get_or orders j Empty)) u) ∙ h)
+              ∙ done.keeps.remembers j F l z t (sym (kept-elsewhere after done.keeps.size seen c j (seen_by t (order_of (get_or orders j 0))) u) ∙ h)
 
   -- ---- by the record's kind
 

@@ -17,7 +17,7 @@ pub struct Names {
 
 // The link to follow from a record to where the variable of the level first occurs: a member's receiver, or its argument where the receiver does not
 // await the level; a function's body.
-fn next(n: Shape, orders: &[Order; Text::PARTS], level: u16) -> u16
+fn next(n: Shape, orders: &[u8; Text::PARTS], level: u16) -> u16
     ensures { result ≡ next_of orders.now level n }
 {
     if (n.kind == Shape::FUNCTION) | (n.second == 0) {
@@ -30,7 +30,7 @@ fn next(n: Shape, orders: &[Order; Text::PARTS], level: u16) -> u16
 }
 
 // The name of the variable of a level that record i awaits.
-fn name_at(records: &[u64; TEXT_WORDS], orders: &[Order; Text::PARTS], i: u16, level: u16) -> u64
+fn name_at(records: &[u64; TEXT_WORDS], orders: &[u8; Text::PARTS], i: u16, level: u16) -> u64
     requires { Awaits records.now orders.now i level }
     ensures { NamedBy records.now i level result }
 {
@@ -45,11 +45,11 @@ fn name_at(records: &[u64; TEXT_WORDS], orders: &[Order; Text::PARTS], i: u16, l
 }
 
 // The names of the variables that record i awaits.
-pub fn names_of(records: &[u64; TEXT_WORDS], orders: &[Order; Text::PARTS], i: u16) -> Names
+pub fn names_of(records: &[u64; TEXT_WORDS], orders: &[u8; Text::PARTS], i: u16) -> Names
     requires { Nameable records.now orders.now i }
     ensures { Named records.now i result.name result.other }
 {
-    match orders[i as usize] {
+    match Order::from(orders[i as usize]) {
         Order::Empty => Names { name: 0, other: 0 },
         Order::Outer => Names {
             name: name_at(records, orders, i, 0),

@@ -29,7 +29,7 @@ use values::windows::part;
 pub struct Source<'a> {
     pub readings: &'a [i32],
     pub records: &'a [u64; TEXT_WORDS],
-    pub orders: &'a [Order; Text::PARTS],
+    pub orders: &'a [u8; Text::PARTS],
 }
 
 // Whether one of the awaited variables stands for nothing.
@@ -110,7 +110,7 @@ fn work(source: &Source, s: Bindings, i: u16, memo: &mut [Known; Text::PARTS]) -
     if n.kind == Shape::FUNCTION {
         let inside = bind(s, n.level, Packed::DELAYED);
         let base = value(source, inside, n.first - 1, memo);
-        return function(waits_for(s, source.orders[i as usize]), base);
+        return function(waits_for(s, Order::from(source.orders[i as usize])), base);
     }
     let a = value(source, s, n.first - 1, memo);
     if n.second == 0 {
@@ -137,7 +137,7 @@ pub fn value(source: &Source, s: Bindings, i: u16, memo: &mut [Known; Text::PART
     requires { Ready source.now.readings.now source.now.records.now source.now.orders.now s i memo.old }
     ensures { Comes source.now.readings.now source.now.records.now source.now.orders.now s i memo.new result }
 {
-    let seen = seen_by(s, source.orders[i as usize]);
+    let seen = seen_by(s, Order::from(source.orders[i as usize]));
     if is_known(memo, i, seen) {
         return memo[i as usize].cell;
     }

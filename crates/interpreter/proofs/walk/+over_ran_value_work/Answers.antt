@@ -92,7 +92,7 @@ value-returns-then-is_known t c =
     let R = c.args.source.now.records.now in
     let W = c.args.source.now.orders.now in
     let s = c.args.s in
-    known-comes xs R W s c.args.i c.args.memo.now c.requires c.seen_by-seen.result c.seen_by-seen.ensures c.is_known.result c.is_known.ensures c.if-is_known.true
+    known-comes xs R W s c.args.i c.args.memo.now c.requires c.seen_by-seen.result (rw c.from.ensures at c.seen_by-seen.ensures) c.is_known.result c.is_known.ensures c.if-is_known.true
 
 pub value-work-r-requires : goal.value-work-r-requires
 value-work-r-requires t c =
@@ -116,7 +116,7 @@ value-returns t c =
     let R = c.args.source.now.records.now in
     let W = c.args.source.now.orders.now in
     let s = c.args.s in
-    kept-comes xs R W s c.args.i c.args.memo.now c.requires _ c.seen_by-seen.result c.work-r.result c.work-r.ensures c.seen_by-seen.ensures _ c.keep.ensures
+    kept-comes xs R W s c.args.i c.args.memo.now c.requires _ c.seen_by-seen.result c.work-r.result c.work-r.ensures (rw c.from.ensures at c.seen_by-seen.ensures) _ c.keep.ensures
 
 pub work-overflow_cast-source : goal.work-overflow_cast-source
 work-overflow_cast-source t c = record { fits = omega (arith, c.requires.few) }
@@ -158,7 +158,7 @@ work-returns-then-n-eq-FUNCTION t c =
     let W = c.args.source.now.orders.now in
     let s = c.args.s in
     function-comes xs R W s c.args.i c.args.memo.now c.requires c.record_at-n.result c.record_at-n.ensures c.if-n-eq-FUNCTION.true
-    delayed_cell c.bind-inside.result c.bind-inside.ensures _ c.value-base.result c.value-base.ensures (round Delayed tt) c.function.result (rw c.waits_for.ensures at c.function.ensures.back)
+    delayed_cell c.bind-inside.result c.bind-inside.ensures _ c.value-base.result c.value-base.ensures (round Delayed tt) c.function.result (rw (c.waits_for.ensures, c.from.ensures) at c.function.ensures.back)
 
 pub work-overflow_sub-n-2 : goal.work-overflow_sub-n-2
 work-overflow_sub-n-2 t c =
