@@ -1,6 +1,6 @@
 -- What it means that bytes are written directly before what is written, from right to left, as long as there is room. Assumes nothing: these
 -- are definitions.
-use Rattle.std.specs.Prelude.{◌≡◌, Option, Some, None, Bool, ◌&&◌, cond, List, [], ◌++◌, ℕ, suc, ◌+◌, ◌^◌, ◌≤◌, ◌<◌, eqb, leb, length, drop}
+use Rattle.std.specs.Prelude.{◌≡◌, Option, Some, None, Bool, ◌&&◌, cond, ◌⊎◌, List, [], ◌++◌, ℕ, suc, ◌+◌, ◌^◌, ◌≤◌, ◌<◌, eqb, leb, length, drop}
 use Rattle.language.specs.Limits.{text_bytes, name_bytes}
 use Rattle.language.specs.Names.{bytes, data_word}
 use Rattle.members.specs.Members.{if_member, spelled}
@@ -10,17 +10,24 @@ use Rattle.layout.specs.Nodes.{number_kind, readings_kind, number_of_key}
 use Rattle.printing.specs.Printed.{digits_onto, digits, decimals, unpack_onto, unpacked}
 use Rattle.writer.specs.declared.page.Page.{Page}
 
+-- the place of a page whose room is used up
+abbrev pub stopped_at : ℕ
+stopped_at = suc text_bytes
+
 -- the bytes w stand directly before what was written
 pub record Stands (w : List ℕ) (p q : Page) : Type 0 where
+  pub top : p.at ≤ text_bytes
   pub room : p.low ≤ p.at → p.low ≤ q.at
   pub size : q.at + length w ≡ p.at
   pub bytes : drop q.at q.bytes ≡ w ++ drop p.at p.bytes
 
--- they do, or there was no room for them
+-- they do, or there was no room for them; a page whose room is used up stays as it was
 pub record Puts (w : List ℕ) (p : Page) (r : Option (Unit {0})) (q : Page) : Type 0 where
   pub same : q.low ≡ p.low
+  pub down : q.at ≤ p.at
   pub written : r ≡ Some tt → Stands w p q
-  pub full : r ≡ None → p.at < p.low + length w
+  pub full : r ≡ None → (p.at ≡ stopped_at) ⊎ (p.at < p.low + length w)
+  pub stopped : p.at ≡ stopped_at → (r ≡ None) × (q ≡ p)
 
 -- the bytes of a whole word have room before a place
 abbrev pub has_room : ℕ → ℕ → Bool
@@ -49,10 +56,11 @@ pub record Unpacks (word : ℕ) (p : Page) (rest : ℕ) (q : Page) : Type 0 wher
   pub same : unpack_onto left rest done ≡ unpacked word
   pub puts : Puts done p (Some tt) q
 
--- of a number's digits likewise
+-- of a number's digits likewise, or the room was used up before the first one
 pub record Counts (n : ℕ) (p : Page) (rest : ℕ) (q : Page) : Type 0 where
   pub left : ℕ
   pub done : List ℕ
   pub small : rest < 10 ^ suc left
   pub same : digits_onto (suc left) rest done ≡ digits n
-  pub puts : Puts done p (Some tt) q
+  pub puts : p.at ≤ text_bytes → Puts done p (Some tt) q
+  pub stopped : p.at ≡ stopped_at → q ≡ p

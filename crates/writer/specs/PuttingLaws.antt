@@ -1,11 +1,11 @@
 -- Bytes written one after the other, from right to left, are written as one piece; and the loops that write the bytes of a packed word, one by
 -- one or all eight, and the digits of a number. Assumes nothing.
 use Rattle.std.specs.Prelude.{◌≡◌, refl, Option, Some, None, Bool, true, false, ◌&&◌, cond, List, [], ◌∷◌, ◌++◌, leb, ltb, length, drop, set}
-use Rattle.std.proofs.Common.{sym, ap, ◌∙◌, append_assoc, arith, length-append, drop-drop}
+use Rattle.std.proofs.Common.{sym, ap, ◌∙◌, inl, inr, ⊎_elim, subst, append_assoc, arith, length-append, drop-drop}
 use Rattle.std.proofs.Math.Bool.{and-eq-true_iff}
 use Prim.Native.Nat.{ℕ, zero, suc, ◌+◌, ◌-◌, ◌/◌, ◌%◌, ◌^◌, ◌≤◌, ◌<◌}
 use Rattle.std.proofs.Math.Nat.{pow-suc}
-use borrow.Author.Tests.{ne_eqb, lt-ltb, le-ltb, ltb-true, lt-leb, le-leb, leb-true, leb-false}
+use borrow.Author.Tests.{ne_eqb, lt-ltb, le-ltb, ltb-true, ltb-false, lt-leb, le-leb, leb-true, leb-false}
 use Rattle.language.specs.Limits.{text_bytes, name_bytes}
 use Rattle.language.specs.Cases.{split}
 use Rattle.language.specs.Names.{bytes, pack_onto, data_word}
@@ -21,30 +21,43 @@ use Rattle.printing.proofs.Unpacking.{none-packed}
 use Rattle.writer.specs.Whole.{whole_onto}
 use Rattle.writer.specs.WholeLaws.{drop-set, append-unpacked, past-zeros}
 use Rattle.writer.specs.declared.page.Page.{Page}
-use Rattle.writer.specs.Putting.{Puts, has_room, leaf_bytes, member_bytes, head_bytes, Unpacks, Counts}
+use Rattle.writer.specs.Putting.{stopped_at, Puts, has_room, leaf_bytes, member_bytes, head_bytes, Unpacks, Counts}
 
 -- nothing is written
-pub puts_none : (p : Page) → Puts [] p (Some tt) p
-puts_none p = record { same = refl; written = λ _. record { room = λ r. r; size = omega arith; bytes = refl }; full = λ e. absurd (cc) }
+pub puts_none : (p : Page) → p.at ≤ text_bytes → Puts [] p (Some tt) p
+puts_none p t =
+    record {
+      same = refl;
+      down = omega arith;
+      written = λ _. record { top = t; room = λ r. r; size = omega arith; bytes = refl };
+      full = λ e. absurd (cc);
+      stopped = λ z. absurd (omega arith);
+    }
 
--- no room for a piece, and a byte that was put
+-- nothing where the room is used up, no room for a piece, and a byte that was put
+pub puts-stopped : (w : List ℕ) (p : Page) → p.at ≡ stopped_at → Puts w p None p
+puts-stopped w p e = record { same = refl; down = omega arith; written = λ z. absurd (cc); full = λ z. inl e; stopped = λ z. (refl, refl) }
+
 pub puts-full : (w : List ℕ) (p : Page) → p.at < p.low + length w → Puts w p None p
-puts-full w p h = record { same = refl; written = λ e. absurd (cc); full = λ e. h }
+puts-full w p h = record { same = refl; down = omega arith; written = λ e. absurd (cc); full = λ e. inr h; stopped = λ z. (refl, refl) }
 
-pub puts-byte : (b : ℕ) (p q : Page) → p.low < p.at → q.low ≡ p.low → q.at ≡ p.at - 1 → q.bytes ≡ set p.bytes (p.at - 1) b → Puts (b ∷ []) p (Some tt) q
-puts-byte b p q l same a e =
+pub puts-byte : (b : ℕ) (p q : Page) → p.low < p.at → p.at ≤ text_bytes → q.low ≡ p.low → q.at ≡ p.at - 1 → q.bytes ≡ set p.bytes (p.at - 1) b
+    → Puts (b ∷ []) p (Some tt) q
+puts-byte b p q l t same a e =
     let whole = p.whole in
-    let inside = p.inside in
     let z : suc (p.at - 1) ≡ p.at = omega arith in
     record {
       same = same;
+      down = omega arith;
       written = λ _.
           record {
+            top = t;
             room = λ r. omega arith;
             size = omega arith;
             bytes = rw (a, e) (drop-set p.bytes (p.at - 1) b (omega arith) ∙ ap (λ k. b ∷ drop k p.bytes) z);
           };
       full = λ e. absurd (cc);
+      stopped = λ z. absurd (omega arith);
     }
 
 -- a byte that is wanted, or not
@@ -52,29 +65,43 @@ module _ (b : ℕ) (wanted : Bool) (p : Page) where
   pub puts-wanted : {r : Option (Unit {0})} {q : Page} → wanted ≡ true → Puts (b ∷ []) p r q → Puts (cond wanted (b ∷ []) []) p r q
   puts-wanted e h = rw e h
 
-  pub puts-unwanted : wanted ≡ false → Puts (cond wanted (b ∷ []) []) p (Some tt) p
-  puts-unwanted e = rw e (puts_none p)
+  pub puts-unwanted : wanted ≡ false → p.at ≤ text_bytes → Puts (cond wanted (b ∷ []) []) p (Some tt) p
+  puts-unwanted e t = rw e (puts_none p t)
 
 -- one piece directly before another
 module _ {u : List ℕ} {p q : Page} where
   pub puts_both : {v : List ℕ} {r : Option (Unit {0})} {s : Page} → Puts u p (Some tt) q → Puts v q r s → Puts (v ++ u) p r s
   puts_both {v} {r} {s} h k =
       let a = h.written refl in
+      let top = a.top in
+      let d = h.down in
       record {
         same = k.same ∙ h.same;
+        down = let c = k.down in omega arith;
         written = λ e.
             let b = k.written e in
             record {
+              top = top;
               room = λ l. let m = h.same in let n = b.room (let o = a.room l in omega arith) in omega arith;
               size = rw (length-append v u) (omega (arith, a.size, b.size));
               bytes = b.bytes ∙ ap (λ (t : List ℕ). v ++ t) a.bytes ∙ sym (append_assoc v u (drop p.at p.bytes));
             };
-        full = λ e. let f = k.full e in let m = h.same in rw (length-append v u) (omega (arith, a.size));
+        full = λ e.
+            ⊎_elim (λ (z : q.at ≡ stopped_at). absurd (omega arith))
+            (λ (f : q.at < q.low + length v). inr (let m = h.same in rw (length-append v u) (omega (arith, a.size)))) (k.full e);
+        stopped = λ z. absurd (omega arith);
       }
 
   -- where there was no room for a piece, there is none for a longer one
   pub puts_longer : {w : List ℕ} → length u ≤ length w → Puts u p None q → Puts w p None q
-  puts_longer l h = record { same = h.same; written = λ e. absurd (cc); full = λ e. let f = h.full e in omega arith }
+  puts_longer l h =
+      record {
+        same = h.same;
+        down = h.down;
+        written = λ e. absurd (cc);
+        full = λ e. ⊎_elim (λ z. inl z) (λ f. inr (omega arith)) (h.full e);
+        stopped = h.stopped;
+      }
 
   pub puts_more : (v : List ℕ) → Puts u p None q → Puts (v ++ u) p None q
   puts_more v h = puts_longer (rw (length-append v u) (omega arith)) h
@@ -83,8 +110,8 @@ module _ {u : List ℕ} {p q : Page} where
 longer-unpacked : (n k : ℕ) (u : List ℕ) → length u ≤ length (unpack_onto n k u)
 longer-unpacked n k u = rw (append-unpacked n k [] u, length-append (unpack_onto n k []) u) (omega arith)
 
-pub unpacks_start : (word : ℕ) (p : Page) → word < 2 ^ 64 → Unpacks word p word p
-unpacks_start word p l = record { left = name_bytes; done = []; small = l; same = refl; puts = puts_none p }
+pub unpacks_start : (word : ℕ) (p : Page) → p.at ≤ text_bytes → word < 2 ^ 64 → Unpacks word p word p
+unpacks_start word p t l = record { left = name_bytes; done = []; small = l; same = refl; puts = puts_none p t }
 
 module _ {word rest : ℕ} {p q : Page} (h : Unpacks word p rest q) where
   -- what is written with the next byte is the end of the word's bytes
@@ -134,15 +161,18 @@ room-is low at r e t =
     (leb-true (low + name_bytes) at p.0, leb-true at text_bytes p.1)
 
 -- all eight of them at once
-pub puts_whole : (word r : ℕ) (p q : Page) → q.low ≡ p.low → p.low + name_bytes ≤ p.at → q.at ≡ p.at - r → r ≡ length (unpacked word) → r ≤ name_bytes
+pub puts_whole : (word r : ℕ) (p q : Page) → q.low ≡ p.low → p.low + name_bytes ≤ p.at → p.at ≤ text_bytes → q.at ≡ p.at - r
+    → r ≡ length (unpacked word) → r ≤ name_bytes
     → drop (p.at - name_bytes) q.bytes ≡ whole_onto name_bytes word (drop (p.at - name_bytes + name_bytes) p.bytes) → Puts (unpacked word) p (Some tt) q
-puts_whole word r p q same h a e s k =
+puts_whole word r p q same h t a e s k =
     let u : List ℕ = drop (p.at - name_bytes + name_bytes) p.bytes in
     let z : q.at ≡ p.at - name_bytes + (name_bytes - r) = omega arith in
     let z' : p.at - name_bytes + name_bytes ≡ p.at = omega arith in
     record {
       same = same;
+      down = omega arith;
       written = λ _. record {
+        top = t;
         room = λ _. omega arith;
         size = omega arith;
         bytes =
@@ -151,6 +181,7 @@ puts_whole word r p q same h a e s k =
             ∙ append-unpacked name_bytes word [] u ∙ ap (λ k. unpacked word ++ drop k p.bytes) z';
       };
       full = λ e. absurd (cc);
+      stopped = λ y. absurd (omega arith);
     }
 
 -- the digits of a number
@@ -162,9 +193,19 @@ longer-digits (suc n) k u =
     split (ltb k 10) (λ e. rw e (omega arith)) (λ e. rw e (omega arith))
 
 pub counts_start : (n : ℕ) (p : Page) → n < 2 ^ 32 → Counts n p n p
-counts_start n p l = record { left = 9; done = []; small = omega arith; same = refl; puts = puts_none p }
+counts_start n p l = record { left = 9; done = []; small = omega arith; same = refl; puts = λ t. puts_none p t; stopped = λ _. refl }
 
 module _ {n rest : ℕ} {p q : Page} (h : Counts n p rest q) where
+  -- a digit more; where the room was used up before the first one, none
+  digit_more : {b : ℕ} {r : Option (Unit {0})} {s : Page} → Puts (b ∷ []) q r s → Puts (b ∷ h.done) p r s
+  digit_more {b} {r} {s} k =
+      split (ltb p.at stopped_at)
+      (λ l. puts_both (h.puts (let z = ltb-true p.at stopped_at l in omega arith)) k)
+      (λ l.
+      let e : p.at ≡ stopped_at = let z = ltb-false p.at stopped_at l in let i = p.inside in omega arith in
+      let u : Puts (b ∷ []) p r s = subst (λ x. Puts (b ∷ []) x r s) (h.stopped e) k in
+      rw ((u.stopped e).0, (u.stopped e).1) (puts-stopped (b ∷ h.done) p e))
+
   next_digit : (b : ℕ) → 10 ≤ rest → b ≡ 48 + rest % 10 → {r : Option (Unit {0})} {s : Page} → Puts (b ∷ []) q r s
       → (r ≡ Some tt → Counts n p (rest / 10) s) × (r ≡ None → Puts (digits n) p r s)
   unfolding digits_onto
@@ -174,8 +215,18 @@ module _ {n rest : ℕ} {p q : Page} (h : Counts n p rest q) where
       by zero m x = absurd (omega arith)
       by (suc left) m x =
           let y : digits_onto (suc left) (rest / 10) (b ∷ h.done) ≡ digits n = rw e (rw (le-ltb rest 10 l) at x) in (
-            λ z. record { left = left; done = b ∷ h.done; small = omega (arith, pow-suc 10 (suc left)); same = y; puts = rw z at (puts_both h.puts k) },
-            λ z. let f : Puts (b ∷ h.done) p None s = rw z at (puts_both h.puts k) in
+            λ z.
+                let f : Puts (b ∷ h.done) p (Some tt) s = rw z at (digit_more k) in
+                let t = (f.written refl).top in
+                record {
+                  left = left;
+                  done = b ∷ h.done;
+                  small = omega (arith, pow-suc 10 (suc left));
+                  same = y;
+                  puts = λ _. f;
+                  stopped = λ e. absurd (omega arith);
+                },
+            λ z. let f : Puts (b ∷ h.done) p None s = rw z at (digit_more k) in
                 rw (z, ← y) (puts_longer (longer-digits (suc left) (rest / 10) (b ∷ h.done)) f),
           )
 
@@ -189,7 +240,7 @@ module _ {n rest : ℕ} {p q : Page} (h : Counts n p rest q) where
   unfolding digits_onto
   counts_end b l e k =
       let x : (48 + rest) ∷ h.done ≡ digits n = rw (lt-ltb rest 10 l) at h.same in
-      rw (← x, ← e) (puts_both h.puts k)
+      rw (← x, ← e) (digit_more k)
 
 -- a number by its key
 pub negative-bytes : (key : ℕ) → key < 2147483648 → decimals (number_of_key key) ≡ (45 ∷ []) ++ digits (2147483648 - key)

@@ -80,6 +80,7 @@ pub record Ready (links cells : List ℕ) (count : ℕ) (s : Spot) (pending : Li
   pub table : Tabled links cells count
   pub list : length pending ≡ table_entries
   pub room : p.low ≤ p.at
+  pub top : p.at ≤ text_bytes
   pub entry : s.entry < count
   pub depth : s.entry + s.depth < table_entries
   pub waits : Waits links cells count (stack pending s.depth)
@@ -108,6 +109,7 @@ pub record Onward (links cells : List ℕ) (count : ℕ) (s : Spot) (pending : L
 -- a step is made, or there is no room for the text
 pub record Moves (links cells : List ℕ) (count : ℕ) (s : Spot) (pending : List ℕ) (p : Page) (r : Option Spot) (pending' : List ℕ) (p' : Page) : Type 0 where
   pub same : p'.low ≡ p.low
+  pub top : p'.at ≤ text_bytes
   pub on : (s' : Spot) → r ≡ Some s' → Onward links cells count s pending p s' pending' p'
   pub full : r ≡ None → (t : List ℕ) → Spelled links cells count s pending p t → text_bytes < p.low + length t
 
@@ -125,5 +127,7 @@ pub record Written (low : ℕ) (t : List ℕ) (p : Page) : Type 0 where
 
 -- it does, or there is no room for it
 pub record Writes (low : ℕ) (t : List ℕ) (r : Option (Unit {0})) (p : Page) : Type 0 where
+  pub same : p.low ≡ low
+  pub top : p.at ≤ text_bytes
   pub written : r ≡ Some tt → Written low t p
   pub full : r ≡ None → text_bytes < low + length t

@@ -134,13 +134,14 @@ module _ {links cells : List ℕ} {count : ℕ} {s : Spot} {pending : List ℕ} 
         let d = length-append w (drop p.at p.bytes) in
         let f = length-drop p.at p.bytes in
         let g = p.whole in
-        let i = p.inside in
+        let i = r.top in
         omega arith
 
     module _ {p' : Page} (h : Puts w p (Some tt) p') where
       less : left s' p' < left s p
       less =
           let z = (h.written refl).size in
+          let i = r.top in
           let a = rank-few (turn_number s'.turn) s'.entry in
           let b = r.table.few in
           rw (ne_eqb (turn_number s.turn) 3 (λ e. omega arith), ne_eqb (turn_number s'.turn) 3 (λ e. omega arith))
@@ -155,6 +156,7 @@ module _ {links cells : List ℕ} {count : ℕ} {s : Spot} {pending : List ℕ} 
                   table = r.table;
                   list = list;
                   room = rw h.same (z.room r.room);
+                  top = let i = r.top in let d = h.down in omega arith;
                   entry = entry;
                   depth = depth;
                   waits = waits;
@@ -168,6 +170,7 @@ module _ {links cells : List ℕ} {count : ℕ} {s : Spot} {pending : List ℕ} 
       moves =
           record {
             same = h.same;
+            top = let i = r.top in let d = h.down in omega arith;
             on = λ x e. let q : s' ≡ x = cc in subst (λ (y : Spot). Onward links cells count s pending p y pending' p') q onward;
             full = λ e. cc;
           }
@@ -176,8 +179,9 @@ module _ {links cells : List ℕ} {count : ℕ} {s : Spot} {pending : List ℕ} 
     stops h =
         record {
           same = h.same;
+          top = let i = r.top in let d = h.down in omega arith;
           on = λ x e. cc;
-          full = λ e t k. let a = long t k in let b = h.full refl in let c = p.inside in omega arith;
+          full = λ e t k. let a = long t k in let c = r.top in ⊎_elim (λ z. absurd (omega arith)) (λ b. omega arith) (h.full refl);
         }
 
     -- with room for the bytes w, and without it
@@ -383,6 +387,7 @@ module _ {links cells : List ℕ} {count : ℕ} {s : Spot} {pending : List ℕ} 
     leave-last z =
         record {
           same = refl;
+          top = r.top;
           on = λ x e.
               let q : record { depth = s.depth; entry = s.entry; turn = Done } ≡ x = cc in
               subst (λ (y : Spot). Onward links cells count s pending p y pending p) q last;
@@ -391,7 +396,7 @@ module _ {links cells : List ℕ} {count : ℕ} {s : Spot} {pending : List ℕ} 
       where
         last : Onward links cells count s pending p (record { depth = s.depth; entry = s.entry; turn = Done }) pending p
         last = record {
-          ready = record { table = r.table; list = r.list; room = r.room; entry = r.entry; depth = r.depth; waits = r.waits };
+          ready = record { table = r.table; list = r.list; room = r.room; top = r.top; entry = r.entry; depth = r.depth; waits = r.waits };
           less = rw leaving (omega arith);
           spells = λ t h. rw leaving at h;
           closed = λ e. z;
@@ -481,29 +486,35 @@ module _ {links cells : List ℕ} {count low : ℕ} {t : List ℕ} {s : Spot} {p
     goes_on s' e = let x = m.on s' e in record { same = m.same ∙ g.same; ready = x.ready; spells = x.spells t g.spells; closed = x.closed }
 
     pub goes_none : r ≡ None → Writes low t None p'
-    goes_none e = record { written = λ q. cc; full = λ q. rw g.same at (m.full e t g.spells) }
+    goes_none e = record { same = m.same ∙ g.same; top = m.top; written = λ q. cc; full = λ q. rw g.same at (m.full e t g.spells) }
 
   pub goes_end : turn_number s.turn ≡ 3 → Writes low t (Some tt) p
   unfolding stack around
   goes_end e =
       record {
+        same = g.same;
+        top = g.ready.top;
         written = λ q. record { room = rw g.same at g.ready.room; text = rw (e, g.closed e) at g.spells };
         full = λ q. cc;
       }
 
-pub goes_start : {links cells : List ℕ} {count entry : ℕ} {pending : List ℕ} {p : Page} → Tabled links cells count → entry < count → p.at ≡ text_bytes → length pending ≡ table_entries
+pub goes_start : {links cells : List ℕ} {count entry : ℕ} {pending : List ℕ} {p : Page} → Tabled links cells count → entry < count → p.at ≡ text_bytes → p.low ≤ p.at
+    → length pending ≡ table_entries
     → Goes links cells count p.low (text_of (form_in links cells count entry)) (record { depth = 0; entry = entry; turn = Enter }) pending p
 unfolding stack around
-goes_start {links} {cells} {count} {entry} {pending} {p} t e a l =
+goes_start {links} {cells} {count} {entry} {pending} {p} t e a h l =
     let few = t.few in
     let whole = p.whole in
-    let low = p.low_inside in
     record {
       same = refl;
-      ready = record { table = t; list = l; room = omega arith; entry = e; depth = omega arith; waits = tt };
+      ready = record { table = t; list = l; room = h; top = omega arith; entry = e; depth = omega arith; waits = tt };
       spells = ap (λ (u : List ℕ). text_of (form_in links cells count entry) ++ u) (drop_of_length-le p.bytes {i = p.at} (omega arith)) ∙ append-nil (text_of (form_in links cells count entry));
       closed = λ z. absurd (omega arith);
     }
+
+-- a page of which no byte may be written has no room for any text
+pub goes_nowhere : {t : List ℕ} {p : Page} → p.at ≡ text_bytes → p.at < p.low → Writes p.low t None p
+goes_nowhere a h = record { same = refl; top = omega arith; written = λ e. cc; full = λ e. omega arith }
 
 -- ---- what was written, as callers test it
 

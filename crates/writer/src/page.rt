@@ -1,26 +1,26 @@
 // A frame of as many bytes as a text may have, written from its end to its front.
-ghost use Rattle.std.specs.Prelude.{◌≡◌, ◌≤◌, length};
+ghost use Rattle.std.specs.Prelude.{◌≡◌, ◌≤◌, suc, length};
 ghost use Rattle.language.specs.Limits.{text_bytes};
 
 use crate::whole::{put_whole, width};
 use language::limits::Text;
 use language::names::BYTE_BASE;
 
-// The bytes from `at` on are written, and none is to be written before `low`.
+// The bytes from `at` on are written, and none is to be written before `low`. A place one behind the end is that of a page whose room is used
+// up: no byte is to be written any more.
 #[derive(Drop)]
 pub struct Page {
     pub bytes: [u8; Text::BYTES],
     pub low: usize,
     pub at: usize,
     ghost whole: { length bytes ≡ text_bytes },
-    ghost inside: { at ≤ text_bytes },
-    ghost low_inside: { low ≤ text_bytes },
+    ghost inside: { at ≤ suc text_bytes },
 }
 
 impl Page {
-    ghost use Rattle.std.specs.Prelude.{cond, [], ◌∷◌, ◌-◌, drop};
+    ghost use Rattle.std.specs.Prelude.{cond, [], ◌∷◌, ◌-◌, eqb, drop};
     ghost use Rattle.printing.specs.Printed.{unpacked};
-    ghost use Rattle.writer.specs.Putting.{Puts};
+    ghost use Rattle.writer.specs.Putting.{stopped_at, Puts, has_room};
 
     // An empty one, of whose bytes at most so many are to be written.
     pub fn new(most: usize) -> Page
@@ -38,16 +38,32 @@ impl Page {
     pub fn text(&self) -> &[u8]
         ensures { result.now ≡ drop self.now.at self.now.bytes }
     {
-        &self.bytes[self.at..]
+        &self.bytes[self.at.min(Text::BYTES)..]
     }
 
-    // Each of the following writes its bytes directly before what is written, or gives none where they would stand before `low`.
+    // Whether its room is used up.
+    fn is_used_up(&self) -> bool
+        ensures { result ≡ eqb self.now.at stopped_at }
+    {
+        self.at == Text::BYTES + 1
+    }
+
+    // Whether eight bytes have room before what is written.
+    fn has_room(&self) -> bool
+        ensures { result ≡ has_room self.now.low self.now.at }
+    {
+        (Text::NAME_BYTES..=Text::BYTES).contains(&self.at)
+            && self.low <= self.at - Text::NAME_BYTES
+    }
+
+    // Each of the following writes its bytes directly before what is written, or gives none where they would stand before `low`, and where
+    // the room is used up already.
 
     // One byte.
     pub fn put_byte(&mut self, b: u8) -> Option<()>
         ensures { Puts (b ∷ []) self.old result self.new }
     {
-        if self.at <= self.low {
+        if self.at <= self.low || self.is_used_up() {
             return None;
         }
         self.at -= 1;
@@ -62,6 +78,9 @@ impl Page {
         if wanted {
             return self.put_byte(b);
         }
+        if self.is_used_up() {
+            return None;
+        }
         Some(())
     }
 
@@ -69,6 +88,9 @@ impl Page {
     fn put_each(&mut self, word: u64) -> Option<()>
         ensures { Puts (unpacked word) self.old result self.new }
     {
+        if self.is_used_up() {
+            return None;
+        }
         let mut rest = word;
         while rest != 0 {
             self.put_byte((rest % BYTE_BASE) as u8)?;
@@ -81,7 +103,7 @@ impl Page {
     pub fn put(&mut self, word: u64) -> Option<()>
         ensures { Puts (unpacked word) self.old result self.new }
     {
-        if self.low + Text::NAME_BYTES <= self.at {
+        if self.has_room() {
             put_whole(&mut self.bytes, self.at - Text::NAME_BYTES, word);
             self.at -= width(word);
             return Some(());

@@ -142,6 +142,10 @@ pub fn write(links: &[u16], cells: &[u64], count: u16, entry: u16, page: &mut Pa
     requires { Tabled links.now cells.now count × (entry < count) × (page.old.at ≡ text_bytes) }
     ensures { Writes page.old.low (text_of (form_in links.now cells.now count entry)) result page.new }
 {
+    // No byte may be written, however short the text is.
+    if page.at < page.low {
+        return None;
+    }
     // An entry that waits and its turn are one number: a pair would double the list in the call's frame.
     let mut pending = [0u16; Table::ENTRIES];
     let mut s = Spot {
