@@ -127,6 +127,11 @@ module _ (m : Memory) (n : ℕ) (bytes : List ℕ) where
         (λ r. record { answer = (t, rw (short, brief, p, r), q); filled = rw (short, brief, p, r) b })
         (λ r. absurd (let z : ◌≡◌ {A = ℕ} 0 16 = rw (p, r) at e in omega arith)))
 
+-- the text has room in the lent bytes, of which there are b
+pub copies : (b room low : ℕ) (page : Page) (t : List ℕ) → room ≡ min b text_bytes → low ≡ text_bytes - room → Written low t page
+    → length (drop page.at page.bytes) ≤ b
+copies b room low page t q l w = let r = w.room in let y = page.whole in rw length-drop (omega arith)
+
 -- as the code has them: the text stands at the end of a page that has room for as many bytes as are lent
 module _ (heads links cells bytes : List ℕ) (entry count low : ℕ) (is : count ≡ get_or heads 0 0) (lower : low ≡ text_bytes - length bytes) (rs : List ℤ) where
   abbrev mem : Memory
@@ -150,8 +155,8 @@ module _ (heads links cells bytes : List ℕ) (entry count low : ℕ) (is : coun
         let i = page.inside in
         omega arith
 
-    pub copies : length (drop page.at page.bytes) ≤ length bytes
-    copies = let f = fits-room in rw text-is (omega arith)
+    pub held-copies : length (drop page.at page.bytes) ≤ length bytes
+    held-copies = let f = fits-room in rw text-is (omega arith)
 
     module _ (well : well_formed mem ≡ true) (held : entry < get_or heads 0 0) (k : Result (Unit {0}) Refusal)
         (e : verdict_number k ≡ verdict (form_in links cells count entry)) where
