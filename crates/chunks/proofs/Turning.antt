@@ -2,7 +2,7 @@
 -- runs reading by reading, since each row gives what its run does, from any frame that has the same constants. Assumes nothing.
 use mathlib.Core.Path.{◌≡◌, refl, sym, ap, ◌∙◌}
 use mathlib.Core.Bool.{Bool, true, false, cond, and-false}
-use mathlib.Core.List.{List, ◌∷◌}
+use mathlib.Core.List.{List, [], ◌∷◌}
 use Prim.Native.Nat.{ℕ, zero, suc, ◌+◌, ◌-◌, ◌*◌, ◌/◌, ◌≤◌, ◌<◌}
 use native.Mathlib.Nat.{mul-div-le, div-le_self, le-div_iff_mul-le, mul-le-mul_right, add-mul}
 use native.Mathlib.Numerals.{add-one}
@@ -12,7 +12,7 @@ use borrow.Author.Rules.{rules}
 use borrow.Author.Tests.{leb-true, leb-false, le-leb, lt-leb}
 use lib.Dec.{leb}
 use lib.IntN.{ℤ, pos}
-use lib.ListN.{length, get_or, set, drop, length-set, length-take, take, drop_of_length-le}
+use lib.ListN.{length, get_or, set, drop, length-set, length-drop, length-take, take, drop_of_length-le}
 use lib.Seq.{drop-cons, get_or-take, get_or-drop, get_or-set_same, get_or-set_other}
 use Rattle.language.specs.Limits.{table_entries}
 use Rattle.language.specs.Cases.{split}
@@ -134,40 +134,32 @@ record Over (go : Go) (body : ℕ) (list : List ℕ) (v : ℕ) (map frame : List
   pub agrees : Agrees map frame next
   pub same : over_of go body list v other t (drop i zs) ≡ cond u.stopped u (over_of go body list v next u (drop j zs))
 
-module _ (go : Go) (body : ℕ) (list : List ℕ) (v : ℕ) (map frame : List ℕ) (xs : List ℤ) (s l k c : ℕ) (earlier before after : List ℕ) (off : ℕ)
-    (read : Read xs (s + k) c earlier before) (few : k + c ≤ length (readings_in xs s l))
-    (row : (r : ℕ) → r < c → (other : List ℕ) → Agrees map frame other → Row go body list v (get_or before (2 + r) 0) map frame other (get_or after (off + r) 0))
-    (room : off + c ≤ length after) where
+module _ (go : Go) (body : ℕ) (list : List ℕ) (v : ℕ) (map frame : List ℕ) (xs : List ℤ) (s l k c : ℕ) (earlier before cells : List ℕ)
+    (read : Read xs (s + k) c earlier before) (few : k + c ≤ length (readings_in xs s l)) (size : length cells ≡ c)
+    (row : (r : ℕ) → r < c → (other : List ℕ) → Agrees map frame other → Row go body list v (get_or before (2 + r) 0) map frame other (get_or cells r 0)) where
   abbrev zs : List ℤ
   zs = readings_in xs s l
 
-  -- the results of n rows from row i on
-  abbrev from-row : ℕ → ℕ → List ℕ
-  from-row n i = take n (drop (off + i) after)
-
-  one-row : (n i : ℕ) → i < c → from-row (suc n) i ≡ get_or after (off + i) 0 ∷ from-row n (i + 1)
-  one-row n i h =
-      let o : suc (off + i) ≡ off + (i + 1) = omega arith in
-      ap (take (suc n)) (drop-cons after (off + i) 0 (omega (arith, room))) ∙ ap (λ (m : ℕ). get_or after (off + i) 0 ∷ take n (drop m after)) o
-
   over : (n i : ℕ) → i + n ≡ c → (other : List ℕ) → Agrees map frame other → (t : Tally) → t.stopped ≡ false
-      → Over go body list v map frame zs other t (tallied_of (from-row n i) t) (k + i) (k + c)
+      → Over go body list v map frame zs other t (tallied_of (drop i cells) t) (k + i) (k + c)
   unfolding tallied_of over_of
   over zero i e other a t d =
       let j : k + i ≡ k + c = omega arith in
-      record { next = other; agrees = a; same = ap (λ (m : ℕ). over_of go body list v other t (drop m zs)) j ∙ sym (cond-false t.stopped _ _ d) }
+      let none : drop i cells ≡ [] = drop_of_length-le cells {i = i} (omega (arith, size)) in
+      rw none (record { next = other; agrees = a; same = ap (λ (m : ℕ). over_of go body list v other t (drop m zs)) j ∙ sym (cond-false t.stopped _ _ d) })
   over (suc n) i e other a t d =
-      let here : Row go body list v (get_or before (2 + i) 0) map frame other (get_or after (off + i) 0) = row i (omega arith) other a in
-      let u : Tally = stepped t (unpack_of (get_or after (off + i) 0)) in
+      let here : Row go body list v (get_or before (2 + i) 0) map frame other (get_or cells i 0) = row i (omega arith) other a in
+      let u : Tally = stepped t (unpack_of (get_or cells i 0)) in
       let w : List ℕ = set_of go (body + 1) list v (get_or before (2 + i) 0) other in
       let j : s + k + i ≡ s + (k + i) = omega arith in
       let z : get_or before (2 + i) 0 ≡ pack_of (Number (get_or xs (s + (k + i)) (pos 0))) = read.cell i (omega arith) ∙ ap (λ (m : ℕ). pack_of (Number (get_or xs m (pos 0)))) j in
       let one : over_of go body list v other t (drop (k + i) zs) ≡ cond u.stopped u (over_of go body list v w u (drop (k + i + 1) zs)) =
       ap (over_of go body list v other t) (drop-reading xs s l (k + i) (omega arith)) ∙ rw (← z, here.value) in
-      let cut : tallied_of (from-row (suc n) i) t ≡ cond u.stopped u (tallied_of (from-row n (i + 1)) u) = ap (λ (cs : List ℕ). tallied_of cs t) (one-row n i (omega arith)) in
+      let this : drop i cells ≡ get_or cells i 0 ∷ drop (i + 1) cells = rw add-one (drop-cons cells i 0 (omega (arith, size))) in
+      let cut : tallied_of (drop i cells) t ≡ cond u.stopped u (tallied_of (drop (i + 1) cells) u) = ap (λ (cs : List ℕ). tallied_of cs t) this in
       split u.stopped
       (λ q.
-      let whole : tallied_of (from-row (suc n) i) t ≡ u = cut ∙ cond-true u.stopped _ _ q in
+      let whole : tallied_of (drop i cells) t ≡ u = cut ∙ cond-true u.stopped _ _ q in
       record {
         next = other;
         agrees = a;
@@ -175,9 +167,9 @@ module _ (go : Go) (body : ℕ) (list : List ℕ) (v : ℕ) (map frame : List �
       })
       (λ q.
       let j' : k + i + 1 ≡ k + (i + 1) = omega arith in
-      let rest : Over go body list v map frame zs w u (tallied_of (from-row n (i + 1)) u) (k + (i + 1)) (k + c) =
+      let rest : Over go body list v map frame zs w u (tallied_of (drop (i + 1) cells) u) (k + (i + 1)) (k + c) =
       over n (i + 1) (omega arith) w here.agrees u q in
-      let whole : tallied_of (from-row (suc n) i) t ≡ tallied_of (from-row n (i + 1)) u = cut ∙ cond-false u.stopped _ _ q in
+      let whole : tallied_of (drop i cells) t ≡ tallied_of (drop (i + 1) cells) u = cut ∙ cond-false u.stopped _ _ q in
       record {
         next = rest.next;
         agrees = rest.agrees;
@@ -239,17 +231,17 @@ module _ {links list : List ℕ} {v body : ℕ} {map frame : List ℕ} {xs : Lis
   pub tally-asks : {c : ℕ} → c ≤ count - k → Within (65535 - c) t
   tally-asks {c} h = within_more k (65535 - c) t (omega (arith, turns.counts.few, turns.most)) turns.within
 
+  -- a chunk's tally, over any cells that have the values of its rows
   module _ {c : ℕ} (few : c ≤ count - k) {before after : List ℕ} (read : Read xs (s + k) c buf before)
-      (q : Chunked links xs list v body map frame width c before after) {u : Tally} (y : Takes (take (to + c - to) (drop to after)) t u) (room : to + c ≤ length after) where
+      (q : Chunked links xs list v body map frame width c before after) {cells : List ℕ} (size : length cells ≡ c)
+      (each : (i : ℕ) → i < c → get_or cells i 0 ≡ get_or after (to + i) 0) {u : Tally} (y : Takes cells t u) where
     turn : Over (plain_of links xs) body list v map frame (readings_in xs s l) turns.left.other t u k (k + c)
     turn =
-        let n : to + c - to ≡ c = omega arith in
-        let o : to + 0 ≡ to = omega arith in
         let z : k + 0 ≡ k = omega arith in
-        let rows : (r : ℕ) → r < c → (other : List ℕ) → Agrees map frame other → Row (plain_of links xs) body list v (get_or before (2 + r) 0) map frame other (get_or after (to + r) 0) = rw turns.place q.row in
-        let said : u ≡ tallied_of (take c (drop to after)) t = rw n at y.same in
-        rw (o, z, ← said) at
-        (over (plain_of links xs) body list v map frame xs s l k c buf before after to read (omega (arith, turns.counts.same, turns.most)) rows room c 0
+        let rows : (r : ℕ) → r < c → (other : List ℕ) → Agrees map frame other → Row (plain_of links xs) body list v (get_or before (2 + r) 0) map frame other (get_or cells r 0) =
+        λ r h. rw (each r h, turns.place) (q.row r h) in
+        rw (z, ← y.same) at
+        (over (plain_of links xs) body list v map frame xs s l k c buf before cells read (omega (arith, turns.counts.same, turns.most)) size rows c 0
         (omega arith) turns.left.other turns.left.agrees t turns.going)
 
     pub turns-stop : u.stopped ≡ true → u ≡ over_of (plain_of links xs) body list v frame begun (readings_in xs s l)
@@ -263,12 +255,25 @@ module _ {links list : List ℕ} {v body : ℕ} {map frame : List ℕ} {xs : Lis
       place = turns.place;
       room = turns.room;
       going = d;
-      within =
-          let n : length (take (to + c - to) (drop to after)) ≤ c = simp length-take (omega arith) in
-          within_more (k + length (take (to + c - to) (drop to after))) (k + c) u (omega (arith, n)) (y.bound k turns.within);
+      within = rw size at (y.bound k turns.within);
       most = omega (arith, turns.most);
       left = record { other = turn.next; agrees = turn.agrees; same = turns.left.same ∙ turn.same ∙ cond-false u.stopped _ _ d };
     }
+
+  -- the same over a slice of the buffer, where it has the room
+  module _ {c : ℕ} (few : c ≤ count - k) {before after : List ℕ} (read : Read xs (s + k) c buf before)
+      (q : Chunked links xs list v body map frame width c before after) {u : Tally} (y : Takes (take (to + c - to) (drop to after)) t u) (room : to + c ≤ length after) where
+    slice-size : length (take (to + c - to) (drop to after)) ≡ c
+    slice-size = simp length-take (omega (arith, length-drop to after, room))
+
+    slice-each : (i : ℕ) → i < c → get_or (take (to + c - to) (drop to after)) i 0 ≡ get_or after (to + i) 0
+    slice-each i h = get_or-take (to + c - to) (drop to after) i 0 (omega arith) ∙ get_or-drop to after i 0
+
+    pub turns-stop-slice : u.stopped ≡ true → u ≡ over_of (plain_of links xs) body list v frame begun (readings_in xs s l)
+    turns-stop-slice = turns-stop few read q slice-size slice-each y
+
+    pub turns-again-slice : u.stopped ≡ false → Turns links list v body map frame xs s l count width to after u (k + c)
+    turns-again-slice = turns-again few read q slice-size slice-each y
 
 -- ---- which runs go by columns
 module _ (links list : List ℕ) (v body : ℕ) (marks : List ℕ) where
@@ -319,8 +324,8 @@ pub ruleset turning = (
   turns-end,
   chunk-asks,
   tally-asks,
-  turns-stop,
-  turns-again,
+  turns-stop-slice,
+  turns-again-slice,
   columns-none,
   columns-many,
   columns-is,
