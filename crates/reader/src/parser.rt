@@ -315,6 +315,8 @@ pub fn read(
         count: 0,
         root: 0,
         takes: 0,
+        number: 0,
+        place: 0,
     };
     let a = expression(text, false, 0, 0, start, records, places, &mut scope)?;
     let x = tokens::token(text, a.at);

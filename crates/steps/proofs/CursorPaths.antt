@@ -1,14 +1,14 @@
 -- What each path through a function of cursor.rt gives, from its tests and calls, over plain variables. Assumes nothing.
 use Rattle.std.specs.Prelude.{Option, Some, None, Result, Ok, Err}
 use mathlib.Core.Path.{◌≡◌, refl, ap, sym, ◌∙◌}
-use mathlib.Core.Bool.{Bool, true, false, cond}
+use mathlib.Core.Bool.{Bool, true, false, cond, not}
 use mathlib.Core.List.{List}
 use Prim.Native.Nat.{ℕ, zero, suc, ◌+◌, ◌*◌, ◌-◌, ◌≤◌, ◌<◌}
 use native.Mathlib.Numerals.{add-one}
 use native.Mathlib.Omega.{arith}
 use lib.Dec.{leb, eqb}
 use lib.ListN.{length, get_or}
-use borrow.Author.Tests.{eq-eqb, ne_eqb}
+use borrow.Author.Tests.{eq-eqb, ne_eqb, eqb-true}
 use Rattle.language.specs.Limits.{open_marks}
 use Rattle.language.specs.Names.{is_long, is_data, packed, data_word}
 use Rattle.members.specs.Members.{member_of, member_number, is_unknown, takes, arguments}
@@ -27,7 +27,7 @@ use Rattle.lexer.specs.declared.tokens.TokenKind.{TokenKind}
 use Rattle.lexer.specs.declared.tokens.TokenKind.TheVariants as K
 use Rattle.lexer.specs.Lexing.{kind_number, lex_at, tokens_from, bytes_at, name_at}
 use Rattle.lexer.specs.LexingLaws.{name-whole}
-use Rattle.steps.specs.Cursors.{cursor_of, passed_to, named_to, refused_at, fault_of, passed_or_refused, part_or_refused, Comes, passing_part, binder_named, member_named, call_opened}
+use Rattle.steps.specs.Cursors.{cursor_of, passed_to, named_to, refused_at, fault_of, passed_or_refused, part_or_refused, Comes, KeepsRefusal, passing_part, binder_named, member_named, call_opened}
 use Rattle.steps.specs.CursorsLaws.{behind-head, head-word, at-token, not-token, refused-number, refused-here, goes-here, passed_here, judged-here, judged-part-here}
 
 -- ---- the scope
@@ -77,11 +77,30 @@ member_is : (w : List ℕ) (f : Option Member) (m : Member) → f ≡ member_of 
 unfolding member
 member_is w f m g i = rw (sym g ∙ i)
 
+-- ---- the test of what was refused before
+pub refused-before : (n : ℕ) (t : Bool) → t ≡ not (eqb n 0) → t ≡ true → eqb n 0 ≡ false
+refused-before n t h e = go (eqb n 0) (sym h ∙ e)
+  where
+    go : (b : Bool) → not b ≡ true → b ≡ false
+    go true q = cc
+    go false q = refl
+
+pub none-before : (n : ℕ) (t : Bool) → t ≡ not (eqb n 0) → t ≡ false → n ≡ 0
+none-before n t h e = eqb-true n 0 (go (eqb n 0) (sym h ∙ e))
+  where
+    go : (b : Bool) → not b ≡ false → b ≡ true
+    go true q = refl
+    go false q = cc
+
 -- ---- next
-next-go : (text : List ℕ) {x : D.Cursor} (a : Cursor) (k : D.Cursor → D.Cursor) → Comes text (Ok a) x → (r : Result Cursor Refused) → Comes text r (k (cursor_of text a))
-    → Comes text r (D.next (length text) x k)
+next-go : (text : List ℕ) {x : D.Cursor} (a : Cursor) (k : D.Cursor → D.Cursor) → Comes text (Ok a) x → a.number ≡ 0 → (r : Result Cursor Refused)
+    → Comes text r (k (cursor_of text a)) → Comes text r (D.next (length text) x k)
 unfolding D.next when
-next-go text a k e r h = rw (← e) h
+next-go text a k e z r h = rw (← e, eq-eqb a.number 0 z) h
+
+next-held : (text : List ℕ) {x : D.Cursor} (a : Cursor) (k : D.Cursor → D.Cursor) → Comes text (Ok a) x → eqb a.number 0 ≡ false → Comes text (Ok a) (D.next (length text) x k)
+unfolding D.next when
+next-held text a k e z = rw (← e, z) refl
 
 next-stop : (text : List ℕ) (x : D.Cursor) (e : Refused) (k : D.Cursor → D.Cursor) → Comes text (Err e) x → Comes text (Err e) (D.next (length text) x k)
 unfolding D.next when
@@ -100,9 +119,9 @@ module _ (text : List ℕ) (c : Cursor) (x : Lexed) (e : x ≡ lex_at text c.at)
   stops g n p f q d = rw q (refused-here text c x e g n p d)
 
   named_here : (n n' t t' : ℕ) → n ≡ n' → t ≡ t' → cursor_of text (named_to c x.end n t)
-      ≡ record { rest = D.behind_head left; parts = c.parts; count = c.count; root = c.root; name = n'; takes = t'; number = 0; place = 0 }
+      ≡ record { rest = D.behind_head left; parts = c.parts; count = c.count; root = c.root; name = n'; takes = t'; number = c.number; place = c.place }
   named_here n n' t t' p q =
-      λ i. record { rest = sym (behind-head text c.at x e) i; parts = c.parts; count = c.count; root = c.root; name = p i; takes = q i; number = 0; place = 0 }
+      λ i. record { rest = sym (behind-head text c.at x e) i; parts = c.parts; count = c.count; root = c.root; name = p i; takes = q i; number = c.number; place = c.place }
 
   -- a token of one kind
   pub need-passed : (k : TokenKind) → x.kind ≡ k → (r : Cursor) → r ≡ passed_to c x.end → Comes text (Ok r) (D.need (length text) (kind_number k) (cursor_of text c))
@@ -184,15 +203,22 @@ module _ (text : List ℕ) (x : Lexed) (c : Cursor) (e : x ≡ lex_at text c.at)
     unfolding D.let_head
     let-stops f q = next-stop text _ f _ (judged-part-here text c x e _ v p (Err f) q)
 
-    module _ (a : Cursor) (q : Ok a ≡ part_or_refused x v c) where
-      pub let-name-stops : (f : Refused) → Comes text (Err f) (binder_named text a) → Comes text (Err f) (D.let_head (length text) w marks (cursor_of text c))
+    module _ (a : Cursor) (q : Ok a ≡ part_or_refused x v c) (t : Bool) (o : t ≡ not (eqb a.number 0)) where
+      pub let-held : t ≡ true → Comes text (Ok a) (D.let_head (length text) w marks (cursor_of text c))
       unfolding D.let_head
-      let-name-stops f h = next-go text a _ (judged-part-here text c x e _ v p (Ok a) q) (Err f) (next-stop text _ f _ h)
+      let-held u = next-held text a _ (judged-part-here text c x e _ v p (Ok a) q) (refused-before a.number t o u)
 
-      pub let-goes : (b : Cursor) → Comes text (Ok b) (binder_named text a) → (r : Result Cursor Refused) → Comes text r (D.need (length text) D.equals_kind (cursor_of text b))
-          → Comes text r (D.let_head (length text) w marks (cursor_of text c))
-      unfolding D.let_head
-      let-goes b h r k = next-go text a _ (judged-part-here text c x e _ v p (Ok a) q) r (next-go text b _ h r k)
+      module _ (u : t ≡ false) where
+        pub let-name-stops : (f : Refused) → Comes text (Err f) (binder_named text a) → Comes text (Err f) (D.let_head (length text) w marks (cursor_of text c))
+        unfolding D.let_head
+        let-name-stops f h = next-go text a _ (judged-part-here text c x e _ v p (Ok a) q) (none-before a.number t o u) (Err f) (next-stop text _ f _ h)
+
+        pub let-goes : (b : Cursor) → Comes text (Ok b) (binder_named text a) → KeepsRefusal a (Ok b) → (r : Result Cursor Refused)
+            → Comes text r (D.need (length text) D.equals_kind (cursor_of text b)) → Comes text r (D.let_head (length text) w marks (cursor_of text c))
+        unfolding D.let_head
+        let-goes b h g r k =
+            let z = none-before a.number t o u in
+            next-go text a _ (judged-part-here text c x e _ v p (Ok a) q) z r (next-go text b _ h (g.0 ∙ z) r k)
 
   module _ (w : Bool) (marks depth lambdas : ℕ) (scope : List ℕ) (l : lambdas ≡ D.lambdas_in scope depth) (p : fault_of v ≡ D.at_lambda w lambdas marks c.parts) where
     abbrev whole : D.Cursor
@@ -205,27 +231,41 @@ module _ (text : List ℕ) (x : Lexed) (c : Cursor) (e : x ≡ lex_at text c.at)
     unfolding D.lambda_head
     lambda-stops f q = next-stop text _ f _ (lambda-first (Err f) q)
 
-    module _ (a : Cursor) (q : Ok a ≡ part_or_refused x v c) where
-      pub lambda-name-stops : (f : Refused) → Comes text (Err f) (binder_named text a) → Comes text (Err f) whole
+    module _ (a : Cursor) (q : Ok a ≡ part_or_refused x v c) (t : Bool) (o : t ≡ not (eqb a.number 0)) where
+      pub lambda-held : t ≡ true → Comes text (Ok a) whole
       unfolding D.lambda_head
-      lambda-name-stops f h = next-go text a _ (lambda-first (Ok a) q) (Err f) (next-stop text _ f _ h)
+      lambda-held u = next-held text a _ (lambda-first (Ok a) q) (refused-before a.number t o u)
 
-      pub lambda-goes : (b : Cursor) → Comes text (Ok b) (binder_named text a) → (r : Result Cursor Refused) → Comes text r (D.need (length text) D.arrow_kind (cursor_of text b))
-          → Comes text r whole
-      unfolding D.lambda_head
-      lambda-goes b h r k = next-go text a _ (lambda-first (Ok a) q) r (next-go text b _ h r k)
+      module _ (u : t ≡ false) where
+        pub lambda-name-stops : (f : Refused) → Comes text (Err f) (binder_named text a) → Comes text (Err f) whole
+        unfolding D.lambda_head
+        lambda-name-stops f h = next-go text a _ (lambda-first (Ok a) q) (none-before a.number t o u) (Err f) (next-stop text _ f _ h)
+
+        pub lambda-goes : (b : Cursor) → Comes text (Ok b) (binder_named text a) → KeepsRefusal a (Ok b) → (r : Result Cursor Refused)
+            → Comes text r (D.need (length text) D.arrow_kind (cursor_of text b)) → Comes text r whole
+        unfolding D.lambda_head
+        lambda-goes b h g r k =
+            let z = none-before a.number t o u in
+            next-go text a _ (lambda-first (Ok a) q) z r (next-go text b _ h (g.0 ∙ z) r k)
 
   module _ (marks : ℕ) (p : fault_of v ≡ D.at_part c.parts) where
     pub call-stops : (f : Refused) → Err f ≡ part_or_refused x v c → Comes text (Err f) (D.call_head (length text) marks (cursor_of text c))
     unfolding D.call_head
     call-stops f q = next-stop text _ f _ (judged-part-here text c x e _ v p (Err f) q)
 
-    module _ (a : Cursor) (q : Ok a ≡ part_or_refused x v c) where
-      pub call-name-stops : (f : Refused) → Comes text (Err f) (member_named text a) → Comes text (Err f) (D.call_head (length text) marks (cursor_of text c))
+    module _ (a : Cursor) (q : Ok a ≡ part_or_refused x v c) (t : Bool) (o : t ≡ not (eqb a.number 0)) where
+      pub call-held : t ≡ true → Comes text (Ok a) (D.call_head (length text) marks (cursor_of text c))
       unfolding D.call_head
-      call-name-stops f h = next-go text a _ (judged-part-here text c x e _ v p (Ok a) q) (Err f) (next-stop text _ f _ h)
+      call-held u = next-held text a _ (judged-part-here text c x e _ v p (Ok a) q) (refused-before a.number t o u)
 
-      pub call-goes : (b : Cursor) → Comes text (Ok b) (member_named text a) → (r : Result Cursor Refused) → Comes text r (call_opened text marks b)
-          → Comes text r (D.call_head (length text) marks (cursor_of text c))
-      unfolding D.call_head
-      call-goes b h r k = next-go text a _ (judged-part-here text c x e _ v p (Ok a) q) r (next-go text b _ h r k)
+      module _ (u : t ≡ false) where
+        pub call-name-stops : (f : Refused) → Comes text (Err f) (member_named text a) → Comes text (Err f) (D.call_head (length text) marks (cursor_of text c))
+        unfolding D.call_head
+        call-name-stops f h = next-go text a _ (judged-part-here text c x e _ v p (Ok a) q) (none-before a.number t o u) (Err f) (next-stop text _ f _ h)
+
+        pub call-goes : (b : Cursor) → Comes text (Ok b) (member_named text a) → KeepsRefusal a (Ok b) → (r : Result Cursor Refused) → Comes text r (call_opened text marks b)
+            → Comes text r (D.call_head (length text) marks (cursor_of text c))
+        unfolding D.call_head
+        call-goes b h g r k =
+            let z = none-before a.number t o u in
+            next-go text a _ (judged-part-here text c x e _ v p (Ok a) q) z r (next-go text b _ h (g.0 ∙ z) r k)

@@ -1,8 +1,8 @@
 -- What each path through a function of scratch.rt gives, from its tests and calls, over plain variables. Assumes nothing.
 use Rattle.std.specs.Prelude.{Option, Some, None, Result, Ok, Err}
 use mathlib.Core.Path.{◌≡◌, refl, ap, sym, ◌∙◌}
-use mathlib.Core.Bool.{Bool, true, false, cond}
-use mathlib.Core.List.{List}
+use mathlib.Core.Bool.{Bool, true, false, cond, not}
+use mathlib.Core.List.{List, []}
 use Prim.Native.Nat.{ℕ, zero, suc, ◌+◌, ◌*◌, ◌-◌, ◌≤◌, ◌<◌}
 use native.Mathlib.Numerals.{add-one}
 use native.Mathlib.Omega.{arith}
@@ -16,7 +16,7 @@ use Rattle.grammar.specs.Tokens.{when}
 use Rattle.grammar.proofs.TokensLaws.{by-test}
 use Rattle.records.specs.Records.{number_key}
 use Rattle.layout.specs.Held.{shaped, record_base, word_in}
-use Rattle.layout.specs.Memory.{node_with, node}
+use Rattle.layout.specs.Memory.{Node, node_with, node}
 use Rattle.layout.specs.Nodes.{number_kind, variable_kind, unbound_kind, readings_kind}
 use Rattle.layout.specs.declared.nodes.Shape.{Shape}
 use Rattle.descent.specs.Cursor as C
@@ -32,8 +32,9 @@ use Rattle.language.specs.declared.refusals.Refused.{Refused}
 use Rattle.lexer.specs.declared.tokens.Lexed.{Lexed}
 use Rattle.lexer.specs.Lexing.{tokens_from, bytes_at, value_of, judged, name_at}
 use Rattle.lexer.specs.LexingLaws.{judged-in, judged-beyond, name-whole}
-use Rattle.steps.specs.Cursors.{state_of, refused_at, fault_of, part_to, passed_or_refused, part_or_refused, Comes, Leaves}
+use Rattle.steps.specs.Cursors.{state_of, refused_at, fault_of, part_to, passed_or_refused, part_or_refused, Comes, KeepsRefusal, Leaves}
 use Rattle.steps.specs.CursorsLaws.{head-word, head-value, refused-number, refused-here, judged-here, judged-part-here}
+use Rattle.steps.proofs.CursorPaths.{refused-before, none-before}
 use Rattle.steps.specs.Scratch.{Wrote, WroteIn, WroteFor, WroteCall, Linked, Recorded, ScopedRoom, NameRoom, NameAhead, NumberAhead}
 
 -- ---- put
@@ -44,13 +45,13 @@ link-word x = omega arith
 
 pub put-path : (c : Cursor) (p : ℕ) (x : Shape) (word : ℕ) → word ≡ word_in record_base (shaped x) → (records places : List ℕ)
     → Wrote (D.put p (shaped x)) c records places
-    (record { at = c.at; parts = c.parts; count = c.count + 1; root = c.count; name = c.name; takes = c.takes })
+    (record { at = c.at; parts = c.parts; count = c.count + 1; root = c.count; name = c.name; takes = c.takes; number = c.number; place = c.place })
     (set (set records (2 * c.count) word) (2 * c.count + 1) x.key) (set places p c.count)
 unfolding D.put D.counted D.link_word
 put-path c p x word e records places =
     record {
       same = λ text scope i. record {
-        cursor = record { rest = tokens_from text c.at; parts = c.parts; count = add-one c.count i; root = c.count; name = c.name; takes = c.takes; number = 0; place = 0 };
+        cursor = record { rest = tokens_from text c.at; parts = c.parts; count = add-one c.count i; root = c.count; name = c.name; takes = c.takes; number = c.number; place = c.place };
         records = set (set records (2 * c.count) ((e ∙ link-word x) i)) (2 * c.count + 1) x.key;
         places = set places p c.count;
         scope = scope;
@@ -121,13 +122,45 @@ module _ (text : List ℕ) (R P S : List ℕ) where
   refused-leaves c f d k h =
       rw (then-stop k (refl {a = moved (state_of text c R P S) d}) (refused-number text f d h)) (record { cursor = h; records = refl; places = refl; scope = refl })
 
-  pub passed-on : (c a : Cursor) (d : C.Cursor) (k : State → State) → Comes text (Ok a) d → (s : State) → s ≡ k (state_of text a R P S)
+  pub passed-on : (c a : Cursor) (d : C.Cursor) (k : State → State) → Comes text (Ok a) d → a.number ≡ 0 → (s : State) → s ≡ k (state_of text a R P S)
       → s ≡ then (moved (state_of text c R P S) d) k
-  passed-on c a d k h s e = sym (then-go k (ap (moved (state_of text c R P S)) (sym h)) refl (sym e))
+  passed-on c a d k h z s e = sym (then-go k (ap (moved (state_of text c R P S)) (sym h)) (eq-eqb a.number 0 z) (sym e))
 
   pub leaves_ok : (r : Cursor) (s : State) → state_of text r R P S ≡ s → Leaves text (Ok r) R P S s
   leaves_ok r s e =
       record { cursor = ap (λ (v : State). v.cursor) e; records = ap (λ (v : State). v.records) e; places = ap (λ (v : State). v.places) e; scope = ap (λ (v : State). v.scope) e }
+
+  -- behind the token nothing more is done where something was refused before
+  pub held-leaves : (c a : Cursor) (d : C.Cursor) (k : State → State) → Comes text (Ok a) d → eqb a.number 0 ≡ false
+      → Leaves text (Ok a) R P S (then (moved (state_of text c R P S) d) k)
+  held-leaves c a d k h z = leaves_ok a _ (sym (then-stop k (ap (moved (state_of text c R P S)) (sym h)) z))
+
+-- ---- what is written leaves what was refused before as it is
+abbrev AsBefore : State → State → Type 0
+AsBefore s a = (a.cursor.number ≡ s.cursor.number) × (a.cursor.place ≡ s.cursor.place)
+
+put-before : (p : ℕ) (n : Node) (s : State) → AsBefore s (D.put p n s)
+unfolding D.put D.counted
+put-before p n s = (refl, refl)
+
+name-before : (p x depth : ℕ) (s : State) → AsBefore s (D.put_name p x depth s)
+unfolding D.put_name D.put_scoped D.put_bound D.link D.rooted
+name-before p x depth s =
+    by-test (AsBefore s) _ _ _ (λ _. put-before p _ s)
+    (λ _. by-test (AsBefore s) _ _ _ (λ _. put-before p _ s) (λ _. by-test (AsBefore s) _ _ _ (λ _. put-before p _ s) (λ _. (refl, refl))))
+
+module _ (p : ℕ) (c a : Cursor) (k : KeepsRefusal c (Ok a)) (records places : List ℕ) (r : Cursor) (records' places' : List ℕ) where
+  pub put-kept : (n : Node) → Wrote (D.put p n) a records places r records' places' → KeepsRefusal c (Ok r)
+  put-kept n h =
+      let e = h.same [] [] in
+      let b = put-before p n (state_of [] a records places []) in
+      (ap (λ (s : State). s.cursor.number) e ∙ b.0 ∙ k.0, ap (λ (s : State). s.cursor.place) e ∙ b.1 ∙ k.1)
+
+  pub name-kept : (x depth : ℕ) (scope : List ℕ) → WroteIn scope (D.put_name p x depth) a records places r records' places' → KeepsRefusal c (Ok r)
+  name-kept x depth scope h =
+      let e = h.same [] in
+      let b = name-before p x depth (state_of [] a records places scope) in
+      (ap (λ (s : State). s.cursor.number) e ∙ b.0 ∙ k.0, ap (λ (s : State). s.cursor.place) e ∙ b.1 ∙ k.1)
 
 -- ---- a token that is passed
 module _ (x : Lexed) (c a : Cursor) (v : Result (Unit {0}) Refusal) where
@@ -184,14 +217,19 @@ module _ (text : List ℕ) (w : Bool) (c : Cursor) (x : Lexed) (records places :
       unfolding D.read_name
       name-stopped f q = refused-leaves text records places scope c f _ _ (judged-part-here text c x h.next _ v verdict (Err f) q)
 
-      pub name-read : (a : Cursor) → Ok a ≡ part_or_refused x v c → (m : ℕ) → m ≡ name_at bytes-there → (r : Cursor) (records' places' : List ℕ)
-          → WroteIn scope (D.put_name c.parts m depth) a records places r records' places' → Leaves text (Ok r) records' places' scope read_name
-      unfolding D.read_name
-      name-read a q m e r records' places' k =
-          let y : m ≡ packed (C.head_word (tokens_from text c.at)) = e ∙ name-whole bytes-there (sym l ∙ t) ∙ ap packed (sym the_word) in
-          leaves_ok text records' places' scope r _
-          (passed-on text records places scope c a _ _ (judged-part-here text c x h.next _ v verdict (Ok a) q) _
-          (k.same text ∙ ap (λ (n : ℕ). D.put_name c.parts n depth (state_of text a records places scope)) y))
+      module _ (a : Cursor) (q : Ok a ≡ part_or_refused x v c) (b : Bool) (o : b ≡ not (eqb a.number 0)) where
+        pub name-held : b ≡ true → Leaves text (Ok a) records places scope read_name
+        unfolding D.read_name
+        name-held u = held-leaves text records places scope c a _ _ (judged-part-here text c x h.next _ v verdict (Ok a) q) (refused-before a.number b o u)
+
+        pub name-read : b ≡ false → (m : ℕ) → m ≡ name_at bytes-there → (r : Cursor) (records' places' : List ℕ)
+            → WroteIn scope (D.put_name c.parts m depth) a records places r records' places' → Leaves text (Ok r) records' places' scope read_name
+        unfolding D.read_name
+        name-read u m e r records' places' k =
+            let y : m ≡ packed (C.head_word (tokens_from text c.at)) = e ∙ name-whole bytes-there (sym l ∙ t) ∙ ap packed (sym the_word) in
+            leaves_ok text records' places' scope r _
+            (passed-on text records places scope c a _ _ (judged-part-here text c x h.next _ v verdict (Ok a) q) (none-before a.number b o u) _
+            (k.same text ∙ ap (λ (n : ℕ). D.put_name c.parts n depth (state_of text a records places scope)) y))
 
   module _ (value : Option ℤ) (v : value ≡ judged (value_of bytes-there)) (h : NumberAhead text x c) where
     the_value : C.head_value (tokens_from text c.at) ≡ value_of bytes-there
@@ -222,18 +260,27 @@ module _ (text : List ℕ) (w : Bool) (c : Cursor) (x : Lexed) (records places :
       number-stopped f q =
           record { leaves = λ scope. refused-leaves text records places scope c f _ _ (judged-part-here text c x h.next _ u number-verdict (Err f) q) }
 
-      pub number_read : (a : Cursor) → Ok a ≡ part_or_refused x u c → (m : ℕ) → m ≡ number_key z → (r : Cursor) (records' places' : List ℕ)
-          → Wrote (D.put c.parts (node number_kind m 0 0)) a records places r records' places'
-          → WroteFor text (D.read_number (length text) w) c records places (Ok r) records' places'
-      unfolding D.read_number
-      number_read a q m e r records' places' k =
-          let y : m ≡ number_key (C.head_value (tokens_from text c.at)) = e ∙ ap number_key (inside.0 ∙ sym the_value) in
-          record {
-            leaves = λ scope.
-                leaves_ok text records' places' scope r _
-                (passed-on text records places scope c a _ _ (judged-part-here text c x h.next _ u number-verdict (Ok a) q) _
-                (k.same text scope ∙ ap (λ (n : ℕ). D.put c.parts (node number_kind n 0 0) (state_of text a records places scope)) y));
-          }
+      module _ (a : Cursor) (q : Ok a ≡ part_or_refused x u c) (b : Bool) (o : b ≡ not (eqb a.number 0)) where
+        pub number-held : b ≡ true → WroteFor text (D.read_number (length text) w) c records places (Ok a) records places
+        unfolding D.read_number
+        number-held t =
+            record {
+              leaves = λ scope.
+                  held-leaves text records places scope c a _ _ (judged-part-here text c x h.next _ u number-verdict (Ok a) q) (refused-before a.number b o t);
+            }
+
+        pub number_read : b ≡ false → (m : ℕ) → m ≡ number_key z → (r : Cursor) (records' places' : List ℕ)
+            → Wrote (D.put c.parts (node number_kind m 0 0)) a records places r records' places'
+            → WroteFor text (D.read_number (length text) w) c records places (Ok r) records' places'
+        unfolding D.read_number
+        number_read t m e r records' places' k =
+            let y : m ≡ number_key (C.head_value (tokens_from text c.at)) = e ∙ ap number_key (inside.0 ∙ sym the_value) in
+            record {
+              leaves = λ scope.
+                  leaves_ok text records' places' scope r _
+                  (passed-on text records places scope c a _ _ (judged-part-here text c x h.next _ u number-verdict (Ok a) q) (none-before a.number b o t) _
+                  (k.same text scope ∙ ap (λ (n : ℕ). D.put c.parts (node number_kind n 0 0) (state_of text a records places scope)) y));
+            }
 
 -- ---- read_shut
 module _ (x : Lexed) (k : Call) (c : Cursor) (v : Result (Unit {0}) Refusal) (p : fault_of v ≡ C.at_shut k.takes) (records places : List ℕ) where
@@ -241,14 +288,20 @@ module _ (x : Lexed) (k : Call) (c : Cursor) (v : Result (Unit {0}) Refusal) (p 
   unfolding D.read_shut
   shut-stopped f q = record { leaves = λ text scope e. refused-leaves text records places scope c f _ _ (judged-here text c x e _ v p (Err f) q) }
 
-  pub shut-read : (a : Cursor) → Ok a ≡ passed_or_refused x v c → (r : Cursor) (records' places' : List ℕ)
-      → Wrote (D.put k.place (node k.kind 0 (k.receiver + 1) k.argument)) a records places r records' places'
-      → WroteCall x k c records places (Ok r) records' places'
-  unfolding D.read_shut
-  shut-read a q r records' places' h =
-      record {
-        leaves = λ text scope e.
-            leaves_ok text records' places' scope r _
-            (passed-on text records places scope c a _ _ (judged-here text c x e _ v p (Ok a) q) _
-            (h.same text scope ∙ ap (λ (n : ℕ). D.put k.place (node k.kind 0 n k.argument) (state_of text a records places scope)) (add-one k.receiver)));
-      }
+  module _ (a : Cursor) (q : Ok a ≡ passed_or_refused x v c) (b : Bool) (o : b ≡ not (eqb a.number 0)) where
+    pub shut-held : b ≡ true → WroteCall x k c records places (Ok a) records places
+    unfolding D.read_shut
+    shut-held t =
+        record { leaves = λ text scope e. held-leaves text records places scope c a _ _ (judged-here text c x e _ v p (Ok a) q) (refused-before a.number b o t) }
+
+    pub shut-read : b ≡ false → (r : Cursor) (records' places' : List ℕ)
+        → Wrote (D.put k.place (node k.kind 0 (k.receiver + 1) k.argument)) a records places r records' places'
+        → WroteCall x k c records places (Ok r) records' places'
+    unfolding D.read_shut
+    shut-read t r records' places' h =
+        record {
+          leaves = λ text scope e.
+              leaves_ok text records' places' scope r _
+              (passed-on text records places scope c a _ _ (judged-here text c x e _ v p (Ok a) q) (none-before a.number b o t) _
+              (h.same text scope ∙ ap (λ (n : ℕ). D.put k.place (node k.kind 0 n k.argument) (state_of text a records places scope)) (add-one k.receiver)));
+        }

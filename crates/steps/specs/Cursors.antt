@@ -1,5 +1,5 @@
 -- The code's cursor stands for descent's: the tokens that are left are those from its place on. Assumes nothing: these are definitions.
-use Rattle.std.specs.Prelude.{◌≡◌, List, ℕ, ◌+◌, ◌≤◌, length, Result, Ok, Err}
+use Rattle.std.specs.Prelude.{◌≡◌, List, ℕ, ◌+◌, ◌≤◌, length, Result, Ok, Err, IfOk}
 use Rattle.language.specs.declared.refusals.Refusal.{Refusal}
 use Rattle.language.specs.declared.refusals.Refused.{Refused}
 use Rattle.language.specs.Limits.{text_parts}
@@ -12,7 +12,7 @@ use Rattle.lexer.specs.Lexing.{lex_at, tokens_from}
 
 abbrev pub cursor_of : List ℕ → Cursor → D.Cursor
 cursor_of text c =
-    record { rest = tokens_from text c.at; parts = c.parts; count = c.count; root = c.root; name = c.name; takes = c.takes; number = 0; place = 0 }
+    record { rest = tokens_from text c.at; parts = c.parts; count = c.count; root = c.root; name = c.name; takes = c.takes; number = c.number; place = c.place }
 
 -- with the three arrays
 abbrev pub state_of : List ℕ → Cursor → (records places scope : List ℕ) → State
@@ -20,13 +20,13 @@ state_of text c records places scope = record { cursor = cursor_of text c; recor
 
 -- the code's cursor at another place, behind the token of a part, and behind a name
 abbrev pub passed_to : Cursor → ℕ → Cursor
-passed_to c at = record { at = at; parts = c.parts; count = c.count; root = c.root; name = c.name; takes = c.takes }
+passed_to c at = record { at = at; parts = c.parts; count = c.count; root = c.root; name = c.name; takes = c.takes; number = c.number; place = c.place }
 
 abbrev pub part_to : Cursor → ℕ → Cursor
-part_to c at = record { at = at; parts = c.parts + 1; count = c.count; root = c.root; name = c.name; takes = c.takes }
+part_to c at = record { at = at; parts = c.parts + 1; count = c.count; root = c.root; name = c.name; takes = c.takes; number = c.number; place = c.place }
 
 abbrev pub named_to : Cursor → ℕ → ℕ → ℕ → Cursor
-named_to c at name takes = record { at = at; parts = c.parts; count = c.count; root = c.root; name = name; takes = takes }
+named_to c at name takes = record { at = at; parts = c.parts; count = c.count; root = c.root; name = name; takes = takes; number = c.number; place = c.place }
 
 -- the refusal of the token x
 abbrev pub refused_at : Lexed → Refusal → Refused
@@ -59,6 +59,10 @@ came_to text c (Err e) = stopped_of text c (refusal_number e.refusal) e.place
 abbrev pub Comes : List ℕ → Result Cursor Refused → D.Cursor → Type 0
 Comes text (Ok c) d = cursor_of text c ≡ d
 Comes text (Err e) d = (refusal_number e.refusal ≡ d.number) × (e.place ≡ d.place)
+
+-- what a cursor that is given back takes along: of what was refused before, the number and the place
+abbrev pub KeepsRefusal : Cursor → Result Cursor Refused → Type 0
+KeepsRefusal c r = IfOk r (λ a. (a.number ≡ c.number) × (a.place ≡ c.place))
 
 -- and where it comes to the state s, with the arrays
 pub record Leaves (text : List ℕ) (r : Result Cursor Refused) (R P S : List ℕ) (s : State) : Type 0 where

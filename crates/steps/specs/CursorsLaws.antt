@@ -21,7 +21,7 @@ use Rattle.language.specs.RefusalsLaws.{refusal-some}
 use Rattle.lexer.specs.Lexing.{token_kind, kind_number, ended, lex_at, tokens_from, bytes_at, value_of, token_for}
 use Rattle.lexer.specs.LexingLaws.{Stands, same-kind, lex-none, lex-end, lex-some, lex-word, lex-number}
 use Rattle.steps.specs.declared.cursor.Cursor.{Cursor}
-use Rattle.steps.specs.Cursors.{cursor_of, passed_to, part_to, refused_at, fault_of, passed_or_refused, part_or_refused, stopped_of, came_to, Comes, Leaves, state_of, passing, passing_part}
+use Rattle.steps.specs.Cursors.{cursor_of, passed_to, part_to, refused_at, fault_of, passed_or_refused, part_or_refused, stopped_of, came_to, Comes, KeepsRefusal, Leaves, state_of, passing, passing_part}
 
 same_kind : (t : Token) → kind_of t ≡ kind_number (token_kind t)
 unfolding kind_of
@@ -110,6 +110,19 @@ pub left-refused : (text : List ℕ) (e : Refused) (r : Result Cursor Refused) (
     → eqb s.cursor.number 0 ≡ false
 left-refused text e r R P S s h q = refused-number text e s.cursor (rw q at h).cursor
 
+-- a token that is passed, also as a part, leaves what was refused before as it is; and so do two steps of which each does
+pub passed-kept : (x : Lexed) (c : Cursor) (v : Result (Unit {0}) Refusal) (r : Result Cursor Refused) → r ≡ passed_or_refused x v c → KeepsRefusal c r
+passed-kept x c (Ok u) r q = rw q (refl, refl)
+passed-kept x c (Err f) r q = rw q tt
+
+pub part-kept : (x : Lexed) (c : Cursor) (v : Result (Unit {0}) Refusal) (r : Result Cursor Refused) → r ≡ part_or_refused x v c → KeepsRefusal c r
+part-kept x c (Ok u) r q = rw q (refl, refl)
+part-kept x c (Err f) r q = rw q tt
+
+pub kept-on : (c a : Cursor) (r : Result Cursor Refused) → KeepsRefusal c (Ok a) → KeepsRefusal a r → KeepsRefusal c r
+kept-on c a (Ok b) h k = (k.0 ∙ h.0, k.1 ∙ h.1)
+kept-on c a (Err e) h k = tt
+
 -- what the code makes of the token, descent makes of the one at the front
 module _ (text : List ℕ) (c : Cursor) (x : Lexed) (e : x ≡ lex_at text c.at) where
   pub refused-whole : (n : ℕ) → stopped_of text c n x.start ≡ D.refuse (length text) n (cursor_of text c)
@@ -143,8 +156,8 @@ module _ (text : List ℕ) (c : Cursor) (x : Lexed) (e : x ≡ lex_at text c.at)
     root = c.root;
     name = c.name;
     takes = c.takes;
-    number = 0;
-    place = 0;
+    number = c.number;
+    place = c.place;
   }
 
   part-here : cursor_of text (part_to c x.end) ≡ D.pass_part (cursor_of text c)
@@ -156,8 +169,8 @@ module _ (text : List ℕ) (c : Cursor) (x : Lexed) (e : x ≡ lex_at text c.at)
     root = c.root;
     name = c.name;
     takes = c.takes;
-    number = 0;
-    place = 0;
+    number = c.number;
+    place = c.place;
   }
 
   pub goes-here : (n : ℕ) → 0 ≡ n → (r : Cursor) (d : Unit {0} → D.Cursor) → cursor_of text r ≡ d tt

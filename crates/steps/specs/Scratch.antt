@@ -26,7 +26,7 @@ pub record WroteFor (text : List ℕ) (does : State → State) (c : Cursor) (rec
 
 -- the code's cursor with another record last read
 abbrev pub rooted_at : Cursor → ℕ → Cursor
-rooted_at c j = record { at = c.at; parts = c.parts; count = c.count; root = j; name = c.name; takes = c.takes }
+rooted_at c j = record { at = c.at; parts = c.parts; count = c.count; root = j; name = c.name; takes = c.takes; number = c.number; place = c.place }
 
 pub record Linked (p j : ℕ) (c : Cursor) (places : List ℕ) (r : Cursor) (places' : List ℕ) : Type 0 where
   pub cursor : r ≡ rooted_at c j

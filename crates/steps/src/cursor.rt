@@ -1,12 +1,12 @@
 // The cursor over a text, and what is refused at a token. Each function that descent's Cursor has by name is that function; the tokens that are
 // left are those from the cursor's place on. A token x that is given is the one at the cursor, which the caller has lexed. A refusal has the
 // lowest number that applies.
-ghost use Rattle.std.specs.Prelude.{◌≡◌, cond, List, ℕ, suc, ◌≤◌, ◌<◌, eqb, leb, length};
+ghost use Rattle.std.specs.Prelude.{◌≡◌, cond, not, List, ℕ, suc, ◌≤◌, ◌<◌, eqb, leb, length};
 ghost use Rattle.language.specs.Limits.{text_parts, open_marks, open_lambdas};
 ghost use Rattle.lexer.specs.Lexing.{kind_number};
 ghost use Rattle.descent.specs.Cursor.{binder_link, binder_of, lambdas_in};
 ghost use Rattle.descent.specs.Cursor.{at_part, at_let, at_lambda, at_bracket, at_shut, at_comma, need, let_head, lambda_head, call_head};
-ghost use Rattle.steps.specs.Cursors.{cursor_of, passed_to, part_to, named_to, refused_at, passed_or_refused, part_or_refused, fault_of, Comes, PartAhead, binder_named, member_named, call_opened};
+ghost use Rattle.steps.specs.Cursors.{cursor_of, passed_to, part_to, named_to, refused_at, passed_or_refused, part_or_refused, fault_of, Comes, KeepsRefusal, PartAhead, binder_named, member_named, call_opened};
 
 use language::limits::Text;
 use language::names;
@@ -21,15 +21,27 @@ pub const SCOPE_CELLS: usize = 2 * Text::MARKS;
 
 // Where the text is read from, how many parts and records there are, the record of the expression last read, and the packed name read last or
 // the kind of the member read last and how many arguments that takes. The two share a field, as in descent: each is what the next record's cell
-// is made of.
+// is made of. The number and the place are of a refusal that was given before, 0 for none, and are taken along; a token that is refused here gives
+// an `Err`.
 #[derive(Clone, Copy)]
 pub struct Cursor {
     pub at: usize,
     pub name: u64,
+    pub place: usize,
     pub parts: u16,
     pub count: u16,
     pub root: u16,
     pub takes: u8,
+    pub number: u8,
+}
+
+impl Cursor {
+    // Whether something was refused before: then nothing more is read.
+    pub fn is_refused(&self) -> bool
+        ensures { result ≡ not (eqb self.now.number 0) }
+    {
+        self.number != 0
+    }
 }
 
 // The cursor at another place of the text.
@@ -96,7 +108,8 @@ pub fn judged_part(x: Lexed, verdict: Result<(), Refusal>, c: Cursor) -> Result<
 
 // A token of one kind is due.
 pub fn need(text: &[u8], kind: TokenKind, c: Cursor) -> Result<Cursor, Refused>
-    ensures { Comes text.now result (need (length text.now) (kind_number kind) (cursor_of text.now c)) }
+    ensures comes { Comes text.now result (need (length text.now) (kind_number kind) (cursor_of text.now c)) }
+    ensures kept { KeepsRefusal c result }
 {
     let x = tokens::token(text, c.at);
     if x.kind == kind {
@@ -246,7 +259,8 @@ pub fn lambdas_in(scope: &[u64; SCOPE_CELLS], depth: usize) -> u16
 
 // The name that a let or a lambda binds.
 fn binder_name(text: &[u8], c: Cursor) -> Result<Cursor, Refused>
-    ensures { Comes text.now result (binder_named text.now c) }
+    ensures comes { Comes text.now result (binder_named text.now c) }
+    ensures kept { KeepsRefusal c result }
 {
     let x = tokens::token(text, c.at);
     match x.kind {
@@ -266,7 +280,8 @@ fn binder_name(text: &[u8], c: Cursor) -> Result<Cursor, Refused>
 
 // The name of a member.
 fn member_name(text: &[u8], c: Cursor) -> Result<Cursor, Refused>
-    ensures { Comes text.now result (member_named text.now c) }
+    ensures comes { Comes text.now result (member_named text.now c) }
+    ensures kept { KeepsRefusal c result }
 {
     let x = tokens::token(text, c.at);
     match x.kind {
@@ -285,7 +300,8 @@ fn member_name(text: &[u8], c: Cursor) -> Result<Cursor, Refused>
 
 // The bracket of a call.
 fn call_open(text: &[u8], marks: usize, c: Cursor) -> Result<Cursor, Refused>
-    ensures { Comes text.now result (call_opened text.now marks c) }
+    ensures comes { Comes text.now result (call_opened text.now marks c) }
+    ensures kept { KeepsRefusal c result }
 {
     let x = tokens::token(text, c.at);
     match x.kind {
@@ -297,9 +313,13 @@ fn call_open(text: &[u8], marks: usize, c: Cursor) -> Result<Cursor, Refused>
 // let name =
 pub fn let_head(text: &[u8], x: Lexed, w: bool, marks: usize, c: Cursor) -> Result<Cursor, Refused>
     requires { PartAhead text.now x c }
-    ensures { Comes text.now result (let_head (length text.now) w marks (cursor_of text.now c)) }
+    ensures comes { Comes text.now result (let_head (length text.now) w marks (cursor_of text.now c)) }
+    ensures kept { KeepsRefusal c result }
 {
     let a = judged_part(x, at_let(w, marks, c.parts), c)?;
+    if a.is_refused() {
+        return Ok(a);
+    }
     let b = binder_name(text, a)?;
     need(text, TokenKind::Equals, b)
 }
@@ -314,10 +334,14 @@ pub fn lambda_head(
     c: Cursor,
 ) -> Result<Cursor, Refused>
     requires { PartAhead text.now x c }
-    ensures { (scope : List ℕ) (depth : ℕ) → level ≡ lambdas_in scope depth
+    ensures comes { (scope : List ℕ) (depth : ℕ) → level ≡ lambdas_in scope depth
         → Comes text.now result (lambda_head (length text.now) w marks depth scope (cursor_of text.now c)) }
+    ensures kept { KeepsRefusal c result }
 {
     let a = judged_part(x, at_lambda(w, level, marks, c.parts), c)?;
+    if a.is_refused() {
+        return Ok(a);
+    }
     let b = binder_name(text, a)?;
     need(text, TokenKind::Arrow, b)
 }
@@ -325,9 +349,13 @@ pub fn lambda_head(
 // . member (
 pub fn call_head(text: &[u8], x: Lexed, marks: usize, c: Cursor) -> Result<Cursor, Refused>
     requires { PartAhead text.now x c }
-    ensures { Comes text.now result (call_head (length text.now) marks (cursor_of text.now c)) }
+    ensures comes { Comes text.now result (call_head (length text.now) marks (cursor_of text.now c)) }
+    ensures kept { KeepsRefusal c result }
 {
     let a = judged_part(x, at_part(c.parts), c)?;
+    if a.is_refused() {
+        return Ok(a);
+    }
     let b = member_name(text, a)?;
     call_open(text, marks, b)
 }

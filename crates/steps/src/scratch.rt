@@ -5,7 +5,7 @@ ghost use Rattle.language.specs.Limits.{text_parts, open_marks};
 ghost use Rattle.layout.specs.Held.{shaped};
 ghost use Rattle.descent.specs.Descent.{put, put_bound, put_scoped, put_name, read_name, read_number};
 ghost use Rattle.records.specs.Records.{number_key};
-ghost use Rattle.steps.specs.Cursors.{state_of, Leaves};
+ghost use Rattle.steps.specs.Cursors.{state_of, Leaves, KeepsRefusal};
 ghost use Rattle.steps.specs.Scratch.{Wrote, WroteIn, WroteFor, WroteCall, Linked, Recorded, BoundRoom, ScopedRoom, NameRoom, NameAhead, NumberAhead, ShutAhead};
 
 use crate::cursor;
@@ -189,14 +189,18 @@ pub fn read_name(
     places: &mut [u16; Text::PARTS],
 ) -> Result<Cursor, Refused>
     requires { NameAhead text.now x depth c scope.now }
-    ensures { Leaves text.now result records.new places.new scope.now
+    ensures leaves { Leaves text.now result records.new places.new scope.now
         (read_name (length text.now) w depth
         (state_of text.now c records.old places.old scope.now)) }
+    ensures kept { KeepsRefusal c result }
 {
     if x.is_long(text) {
         return Err(cursor::refused(x, Refusal::NameTooLong));
     }
     let a = cursor::judged_part(x, cursor::at_atom(w, c.parts), c)?;
+    if a.is_refused() {
+        return Ok(a);
+    }
     let name = x.name(text);
     Ok(put_name(a, c.parts, name, depth, scope, records, places))
 }
@@ -211,12 +215,16 @@ pub fn read_number(
     places: &mut [u16; Text::PARTS],
 ) -> Result<Cursor, Refused>
     requires { NumberAhead text.now x c }
-    ensures { WroteFor text.now (read_number (length text.now) w) c records.old places.old result records.new places.new }
+    ensures wrote { WroteFor text.now (read_number (length text.now) w) c records.old places.old result records.new places.new }
+    ensures kept { KeepsRefusal c result }
 {
     let Some(value) = x.number(text) else {
         return Err(cursor::refused(x, Refusal::NumberOutside));
     };
     let a = cursor::judged_part(x, cursor::at_atom(w, c.parts), c)?;
+    if a.is_refused() {
+        return Ok(a);
+    }
     let record = Shape {
         kind: Shape::NUMBER,
         key: key_of(value),
@@ -236,9 +244,13 @@ pub fn read_shut(
     places: &mut [u16; Text::PARTS],
 ) -> Result<Cursor, Refused>
     requires { ShutAhead k c }
-    ensures { WroteCall x k c records.old places.old result records.new places.new }
+    ensures wrote { WroteCall x k c records.old places.old result records.new places.new }
+    ensures kept { KeepsRefusal c result }
 {
     let a = cursor::judged(x, cursor::at_shut(k.takes), c)?;
+    if a.is_refused() {
+        return Ok(a);
+    }
     let record = Shape {
         kind: k.kind as u16,
         key: 0,

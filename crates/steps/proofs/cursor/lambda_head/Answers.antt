@@ -1,13 +1,25 @@
 -- Token by token, up to the first that is refused. Assumes nothing.
-use Rattle.steps.specs.CursorsLaws.{raised}
-use Rattle.steps.proofs.CursorPaths.{lambda-goes, lambda-name-stops, lambda-stops}
+use Rattle.steps.specs.CursorsLaws.{raised, part-kept, kept-on}
+use Rattle.steps.proofs.CursorPaths.{lambda-goes, lambda-name-stops, lambda-held, lambda-stops}
 use Rattle.steps.proofs.cursor.lambda_head.Goals as goal
 
-pub returns-in_err-a : goal.returns-in_err-a
-returns-in_err-a c = λ scope depth l. rw (raised _ c.from_residual.ensures.1) (lambda-stops _ _ _ c.requires.next _ _ _ _ _ _ l c.at_lambda.ensures _ c.in_err-a.ensures)
+pub returns-in_err-a-clause-comes : goal.returns-in_err-a-clause-comes
+returns-in_err-a-clause-comes c = λ scope depth l. rw (raised _ c.from_residual.ensures.1) (lambda-stops _ _ _ c.requires.next _ _ _ _ _ _ l c.at_lambda.ensures _ c.in_err-a.ensures)
 
-pub returns-in_err-b : goal.returns-in_err-b
-returns-in_err-b c = λ scope depth l. rw (raised _ c.from_residual-in_err-b.ensures.1) (lambda-name-stops _ _ _ c.requires.next _ _ _ _ _ _ l c.at_lambda.ensures _ c.in_ok-a.ensures _ c.in_err-b.ensures)
+pub returns-in_err-b-clause-comes : goal.returns-in_err-b-clause-comes
+returns-in_err-b-clause-comes c = λ scope depth l.
+    rw (raised _ c.from_residual-in_err-b.ensures.1)
+    (lambda-name-stops _ _ _ c.requires.next _ _ _ _ _ _ l c.at_lambda.ensures _ c.in_ok-a.ensures _ c.is_refused.ensures c.if-is_refused.false _ c.in_err-b.ensures.comes)
+
+pub returns-then-is_refused : goal.returns-then-is_refused
+returns-then-is_refused c = record {
+  comes = λ scope depth l. lambda-held _ _ _ c.requires.next _ _ _ _ _ _ l c.at_lambda.ensures _ c.in_ok-a.ensures _ c.is_refused.ensures c.if-is_refused.true;
+  kept = part-kept c.args.x c.args.c _ _ c.in_ok-a.ensures;
+}
 
 pub returns : goal.returns
-returns c = λ scope depth l. lambda-goes _ _ _ c.requires.next _ _ _ _ _ _ l c.at_lambda.ensures _ c.in_ok-a.ensures _ c.in_ok-b.ensures _ c.need.ensures
+returns c = record {
+  comes = λ scope depth l. lambda-goes _ _ _ c.requires.next _ _ _ _ _ _ l c.at_lambda.ensures _ c.in_ok-a.ensures _ c.is_refused.ensures c.if-is_refused.false _
+      c.in_ok-b.ensures.comes c.in_ok-b.ensures.kept _ c.need.ensures.comes;
+  kept = kept-on c.args.c c.in_ok-a.a _ (part-kept c.args.x c.args.c _ _ c.in_ok-a.ensures) (kept-on c.in_ok-a.a c.in_ok-b.b _ c.in_ok-b.ensures.kept c.need.ensures.kept);
+}
