@@ -11,7 +11,7 @@ use Rattle.interpreter.specs.declared.orders.Order.{Order}
 use Rattle.interpreter.specs.declared.orders.Order.TheVariants.{Empty, Outer, Inner, OuterInner, InnerOuter}
 
 -- the order of a byte, whatever stands there, and the byte of an order: 0 none, 1 level 0, 2 level 1, 3 level 0 and then 1, 4 level 1 and then 0. A byte
--- above 4 is no order's: it is read as 4 is, so that both levels are among its own.
+-- above 4 is no order's: it is read as 4 is, with both levels.
 unfoldable pub order_of : ℕ → Order
 order_of b =
     cond (eqb b 0) Empty
@@ -64,7 +64,7 @@ order_at n orders =
     (cond (eqb n.kind function_kind) (less_of (linked_of orders n.first) n.level)
     (join_of (linked_of orders n.first) (linked_of orders n.second))))
 
--- the first n records have the bytes of orders, and the levels of their forms
+-- of the first n records each that stands for a form has an order's byte, with the levels of the form
 pub record Ordered (ν : ℕ → Node) (n : ℕ) (orders : List ℕ) : Type 0 where
   pub size : length orders ≡ text_parts
   pub low : (i : ℕ) (F : Form) → i < n → Stands ν i F → get_or orders i 0 ≤ 4

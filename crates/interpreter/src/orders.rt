@@ -87,7 +87,8 @@ pub fn has_level(w: Order, level: u16) -> bool
     }
 }
 
-// What the record of a link awaits, none where it links to none.
+// What the record of a link awaits, none where it links to none. Here and below records have bytes, and not an `Order` each: what takes them answers
+// for any byte.
 pub fn linked(orders: &[u8; Text::PARTS], link: u16) -> Order
     ensures { result ≡ linked_of orders.now link }
 {

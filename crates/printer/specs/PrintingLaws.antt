@@ -156,7 +156,7 @@ module _ (heads links cells bytes : List ℕ) (entry count low : ℕ) (is : coun
         omega arith
 
     pub held-copies : length (drop page.at page.bytes) ≤ length bytes
-    held-copies = let f = fits-room in rw text-is (omega arith)
+    held-copies = copies (length bytes) (min (length bytes) text_bytes) low page _ refl (omega arith) w
 
     module _ (well : well_formed mem ≡ true) (held : entry < get_or heads 0 0) (k : Result (Unit {0}) Refusal)
         (e : verdict_number k ≡ verdict (form_in links cells count entry)) where

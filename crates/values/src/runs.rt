@@ -13,7 +13,7 @@ use rules::{Reason, Value};
 // total. Once stopped, the reason alone counts.
 #[derive(Clone, Copy)]
 pub struct Tally {
-    // Two fields, no Option: what a tally that has not stopped has as its reason counts for nothing, and step and finish answer for each.
+    // Two fields and no Option: the reason of a tally that has not stopped counts for nothing, and step and finish answer whatever it is.
     pub stopped: bool,
     pub reason: u8,
     pub count: u16,

@@ -6,8 +6,8 @@ use crate::whole::{put_whole, width};
 use language::limits::Text;
 use language::names::BYTE_BASE;
 
-// The bytes from `at` on are written, and none is to be written before `low`. A place one behind the end is that of a page whose room is used
-// up: no byte is to be written any more.
+// The bytes from `at` on are written, and none is to be written before `low`. At one behind the end the room is used up: no byte is to be written
+// any more. No function here makes such a page, and `low` is any number: each answers for what a caller has.
 #[derive(Drop)]
 pub struct Page {
     pub bytes: [u8; Text::BYTES],
@@ -34,7 +34,7 @@ impl Page {
         }
     }
 
-    // What is written.
+    // What is written: nothing where the room is used up.
     pub fn text(&self) -> &[u8]
         ensures { result.now ≡ drop self.now.at self.now.bytes }
     {
@@ -56,8 +56,8 @@ impl Page {
             && self.low <= self.at - Text::NAME_BYTES
     }
 
-    // Each of the following writes its bytes directly before what is written, or gives none where they would stand before `low`, and where
-    // the room is used up already.
+    // Each of the following writes its bytes directly before what is written, or gives none where they would stand before `low` or where the
+    // room is used up already.
 
     // One byte.
     pub fn put_byte(&mut self, b: u8) -> Option<()>

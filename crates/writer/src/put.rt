@@ -1,4 +1,5 @@
-// The pieces of an entry's text, each written directly before what is written, or none where it would stand before the page's `low`.
+// The pieces of an entry's text, each written directly before what is written, or none where it would stand before the page's `low` or its
+// room is used up.
 ghost use Rattle.std.specs.Prelude.{◌≡◌, true, ◌++◌, ◌<◌, ◌^◌};
 ghost use Rattle.layout.specs.Held.{shaped};
 ghost use Rattle.layout.specs.Nodes.{member_of_kind, number_of_key};

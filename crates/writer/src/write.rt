@@ -142,7 +142,7 @@ pub fn write(links: &[u16], cells: &[u64], count: u16, entry: u16, page: &mut Pa
     requires { Tabled links.now cells.now count × (entry < count) × (page.old.at ≡ text_bytes) }
     ensures { Writes page.old.low (text_of (form_in links.now cells.now count entry)) result page.new }
 {
-    // No byte may be written, however short the text is.
+    // `low` is behind the end: there is no room for any text.
     if page.at < page.low {
         return None;
     }
