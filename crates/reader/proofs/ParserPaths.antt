@@ -171,10 +171,10 @@ module _ (text : List ℕ) where
 
   -- ---- fewer tokens are left
   pub comma-less : (more : ℕ) (v : Result (Unit {0}) Refusal) (c h : Cursor) (x : Lexed) → x ≡ lex_at text c.at → x.kind ≡ K.Comma → fault_of v ≡ C.at_comma more
-      → Ok h ≡ passed_or_refused x v c → IsClear c → tokens-left h + 1 ≤ tokens-left c
+      → Ok h ≡ passed_or_refused x.start x.end v c → IsClear c → tokens-left h + 1 ≤ tokens-left c
   comma-less more v c h x e q o p z =
       PathsCalls.less-comma end 0 0 (state_of text c [] [] []) (record { kind = 0; takes = more; receiver = 0; place = 0; argument = 0 }) (cursor_of text h) (ahead c x e K.Comma q)
-      (judged-here text c x e _ v o (Ok h) p) (clear-test ((passed-kept x c v (Ok h) p).0 ∙ z))
+      (judged-here text c x e _ v o (Ok h) p) (clear-test ((passed-kept x.start x.end c v (Ok h) p).0 ∙ z))
 
   pub need-less : (k : TokenKind) (v a : Cursor) → 0 < kind_number k → Comes text (Ok a) (C.need end (kind_number k) (cursor_of text v)) → KeepsRefusal v (Ok a)
       → IsClear v → tokens-left a + 1 ≤ tokens-left v
@@ -207,17 +207,17 @@ module _ (text : List ℕ) where
         let q = o.place in
         record { count = omega arith; place = omega arith; kind = o.kind; receiver = omega arith; argument = omega arith }
 
-    module _ (x : Lexed) (r : Result Cursor Refused) (R' P' : List ℕ) (e : x ≡ lex_at text c.at) (q : x.kind ≡ K.Shut) (h : WroteCall x k c R P r R' P') (o : KeepsRefusal c r) where
+    module _ (x : Lexed) (r : Result Cursor Refused) (R' P' : List ℕ) (e : x ≡ lex_at text c.at) (q : x.kind ≡ K.Shut) (h : WroteCall x.start x.end k c R P r R' P') (o : KeepsRefusal c r) where
       pub arguments-none : Ready (in_arguments (call_of k) marks depth) text c R P S → Continues (in_arguments (call_of k) marks depth) marks depth text c R P S r R' P' S
       arguments-none f =
           let b = ahead c x e K.Shut q in
-          onward (h.leaves text S e) (still-clear c r o f.clear) (PathsCalls.none-refused end marks depth s (call_of k) b refl) (λ u z y. PathsCalls.none_read end marks depth s (call_of k) b refl z y)
+          onward (h.leaves text S x e refl refl) (still-clear c r o f.clear) (PathsCalls.none-refused end marks depth s (call_of k) b refl) (λ u z y. PathsCalls.none_read end marks depth s (call_of k) b refl z y)
           (G.fit-shut-arguments end marks depth s (call_of k) f.fit b) (PathsCalls.less-shut end marks depth s (call_of k) b refl)
 
       pub more-last : Ready (in_more (call_of k) marks depth) text c R P S → Continues (in_more (call_of k) marks depth) marks depth text c R P S r R' P' S
       more-last f =
           let b = ahead c x e K.Shut q in
-          onward (h.leaves text S e) (still-clear c r o f.clear) (PathsCalls.last-refused end marks depth s (call_of k) b refl) (λ u z y. PathsCalls.last-read end marks depth s (call_of k) b refl z y)
+          onward (h.leaves text S x e refl refl) (still-clear c r o f.clear) (PathsCalls.last-refused end marks depth s (call_of k) b refl) (λ u z y. PathsCalls.last-read end marks depth s (call_of k) b refl z y)
           (G.fit-shut-more end marks depth s (call_of k) f.fit b) (PathsCalls.less-shut end marks depth s (call_of k) b refl)
 
     pub argument-fit : Ready (in_arguments (call_of k) marks depth) text c R P S → Ready (in_expression (eqb k.takes 0) (marks + 1) depth) text c R P S
@@ -250,7 +250,7 @@ module _ (text : List ℕ) where
             (subst (λ (j : D.Call). Reads end (in_more j marks depth) (state_of text a R' P' S') v) u y))
 
     -- another argument
-    pub more-refused : (x : Lexed) (f : Refused) → x ≡ lex_at text c.at → (x.kind ≡ K.Shut → ⊥) → (x.kind ≡ K.Comma → ⊥) → f ≡ refused_at x Ungrammatical
+    pub more-refused : (x : Lexed) (f : Refused) → x ≡ lex_at text c.at → (x.kind ≡ K.Shut → ⊥) → (x.kind ≡ K.Comma → ⊥) → f ≡ refused_at x.start Ungrammatical
         → Continues (in_more (call_of k) marks depth) marks depth text c R P S (Err f) R P S
     more-refused x f e p q g =
         stopped
@@ -258,17 +258,17 @@ module _ (text : List ℕ) where
         (PathsCalls.more-refused end marks depth s (call_of k) (not-ahead c x e K.Shut p) (not-ahead c x e K.Comma q)))
 
     module _ (x : Lexed) (v : Result (Unit {0}) Refusal) (e : x ≡ lex_at text c.at) (q : x.kind ≡ K.Comma) (o : fault_of v ≡ C.at_comma k.takes) where
-      comma-is : (r : Result Cursor Refused) → r ≡ passed_or_refused x v c → Comes text r (passing text (C.at_comma k.takes) c)
+      comma-is : (r : Result Cursor Refused) → r ≡ passed_or_refused x.start x.end v c → Comes text r (passing text (C.at_comma k.takes) c)
       comma-is r p = judged-here text c x e _ v o r p
 
-      pub comma-refused : (f : Refused) → Err f ≡ passed_or_refused x v c → Continues (in_more (call_of k) marks depth) marks depth text c R P S (Err f) R P S
+      pub comma-refused : (f : Refused) → Err f ≡ passed_or_refused x.start x.end v c → Continues (in_more (call_of k) marks depth) marks depth text c R P S (Err f) R P S
       comma-refused f p =
           let d = comma-is (Err f) p in
           stopped (failed R P S f _ d (PathsCalls.comma-refused end marks depth s (call_of k) _ (ahead c x e K.Comma q) refl (refused-number text f (passing text (C.at_comma k.takes) c) d)))
 
-      module _ (h : Cursor) (p : Ok h ≡ passed_or_refused x v c) (f : Ready (in_more (call_of k) marks depth) text c R P S) where
+      module _ (h : Cursor) (p : Ok h ≡ passed_or_refused x.start x.end v c) (f : Ready (in_more (call_of k) marks depth) text c R P S) where
         comma-clear : IsClear h
-        comma-clear = (passed-kept x c v (Ok h) p).0 ∙ f.clear
+        comma-clear = (passed-kept x.start x.end c v (Ok h) p).0 ∙ f.clear
 
         pub comma-fit : Ready (in_expression false (marks + 1) depth) text h R P S
         comma-fit =
@@ -396,7 +396,7 @@ module _ (text : List ℕ) where
           (G.fit-number end marks depth at-it w f.fit b) (Paths.less-number end w marks depth at-it b refl)
 
       pub atom-refused : (f : Refused) → (x.kind ≡ K.Let → ⊥) → (x.kind ≡ K.Lambda → ⊥) → (x.kind ≡ K.Open → ⊥) → (x.kind ≡ K.Word → ⊥) → (x.kind ≡ K.Number → ⊥)
-          → f ≡ refused_at x Ungrammatical → Continues E marks depth text c R P S (Err f) R P S
+          → f ≡ refused_at x.start Ungrammatical → Continues E marks depth text c R P S (Err f) R P S
       atom-refused f n₁ n₂ n₃ n₄ n₅ g =
           stopped
           (failed R P S f _ (ungrammatical-here text c x e f g)
@@ -405,17 +405,17 @@ module _ (text : List ℕ) where
 
     -- ---- brackets
     module _ {x : Lexed} (verdict : Result (Unit {0}) Refusal) (f : ReadyAt K.Open x E text c R P S) (o : fault_of verdict ≡ C.at_bracket w marks) where
-      open_is : (r : Result Cursor Refused) → r ≡ passed_or_refused x verdict c → Comes text r (passing text (C.at_bracket w marks) c)
+      open_is : (r : Result Cursor Refused) → r ≡ passed_or_refused x.start x.end verdict c → Comes text r (passing text (C.at_bracket w marks) c)
       open_is r p = judged-here text c x f.next _ verdict o r p
 
-      pub bracket-refused : (g : Refused) → Err g ≡ passed_or_refused x verdict c → Continues E marks depth text c R P S (Err g) R P S
+      pub bracket-refused : (g : Refused) → Err g ≡ passed_or_refused x.start x.end verdict c → Continues E marks depth text c R P S (Err g) R P S
       bracket-refused g p =
           let d = open_is (Err g) p in
           stopped (failed R P S g _ d (Paths.bracket-refused end w marks depth at-it _ (ahead_of f) refl (refused-number text g (passing text (C.at_bracket w marks) c) d)))
 
-      module _ (h : Cursor) (p : Ok h ≡ passed_or_refused x verdict c) where
+      module _ (h : Cursor) (p : Ok h ≡ passed_or_refused x.start x.end verdict c) where
         bracket-clear : IsClear h
-        bracket-clear = (passed-kept x c verdict (Ok h) p).0 ∙ f.clear
+        bracket-clear = (passed-kept x.start x.end c verdict (Ok h) p).0 ∙ f.clear
 
         pub bracket-less : tokens-left h + 1 ≤ tokens-left c
         bracket-less = Paths.less-bracket end w marks depth at-it (cursor_of text h) (ahead_of f) (open_is (Ok h) p) (clear-test bracket-clear)
@@ -701,7 +701,7 @@ module _ (text R P : List ℕ) where
       unfolding D.ended C.judge C.at_mark answer_of when
       read_done q = reading whole whole-is (cursor_of text a) (Paths.then-go _ refl (clear-test h.clear) (rw (at-token text a.at x e K.End q))) _ (rw (clear-test h.clear) refl) R' P' refl refl
 
-      pub read_more : (x.kind ≡ K.End → ⊥) → (f : Refused) → f ≡ refused_at x Ungrammatical → ReadsInto text R P (Err f) R' P'
+      pub read_more : (x.kind ≡ K.End → ⊥) → (f : Refused) → f ≡ refused_at x.start Ungrammatical → ReadsInto text R P (Err f) R' P'
       unfolding D.ended C.judge C.at_mark when
       read_more q f g =
           let u = C.refuse (length text) 5 (cursor_of text a) in

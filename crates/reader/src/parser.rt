@@ -100,7 +100,7 @@ fn atom(
         TokenKind::Open => read_bracket(text, x, w, marks, depth, c, records, places, scope),
         TokenKind::Word => scratch::read_name(text, x, w, depth, c, scope, records, places),
         TokenKind::Number => scratch::read_number(text, x, w, c, records, places),
-        _ => Err(cursor::refused(x, Refusal::Ungrammatical)),
+        _ => Err(cursor::refused(x.start, Refusal::Ungrammatical)),
     }
 }
 
@@ -181,7 +181,7 @@ fn read_bracket(
         records.old places.old scope.old
         result records.new places.new scope.new }
 {
-    let h = cursor::judged(x, cursor::at_bracket(w, marks), c)?;
+    let h = cursor::judged(x.start, x.end, cursor::at_bracket(w, marks), c)?;
     let e = expression(text, false, marks + 1, depth, h, records, places, scope)?;
     cursor::need(text, TokenKind::Shut, e)
 }
@@ -259,7 +259,7 @@ fn arguments(
 {
     let x = tokens::token(text, c.at);
     match x.kind {
-        TokenKind::Shut => scratch::read_shut(x, k, c, records, places),
+        TokenKind::Shut => scratch::read_shut(x.start, x.end, k, c, records, places),
         _ => {
             let w = k.takes == 0;
             let a = expression(text, w, marks + 1, depth, c, records, places, scope)?;
@@ -288,13 +288,13 @@ fn more(
 {
     let x = tokens::token(text, c.at);
     match x.kind {
-        TokenKind::Shut => scratch::read_shut(x, k, c, records, places),
+        TokenKind::Shut => scratch::read_shut(x.start, x.end, k, c, records, places),
         TokenKind::Comma => {
-            let h = cursor::judged(x, cursor::at_comma(k.takes), c)?;
+            let h = cursor::judged(x.start, x.end, cursor::at_comma(k.takes), c)?;
             let a = expression(text, false, marks + 1, depth, h, records, places, scope)?;
             more(text, next_given(k), marks, depth, a, records, places, scope)
         }
-        _ => Err(cursor::refused(x, Refusal::Ungrammatical)),
+        _ => Err(cursor::refused(x.start, Refusal::Ungrammatical)),
     }
 }
 
@@ -326,6 +326,6 @@ pub fn read(
             records: a.count,
             root: a.root,
         }),
-        _ => Err(cursor::refused(x, Refusal::Ungrammatical)),
+        _ => Err(cursor::refused(x.start, Refusal::Ungrammatical)),
     }
 }

@@ -114,7 +114,7 @@ module _ (text : List ℕ) (c : Cursor) (x : Lexed) (e : x ≡ lex_at text c.at)
   abbrev bytes : List ℕ
   bytes = bytes_at text x.start x.end
 
-  stops : (g : Refusal) (n : ℕ) → refusal_number g ≡ n → (f : Refused) → f ≡ refused_at x g → (d : Unit {0} → D.Cursor)
+  stops : (g : Refusal) (n : ℕ) → refusal_number g ≡ n → (f : Refused) → f ≡ refused_at x.start g → (d : Unit {0} → D.Cursor)
       → Comes text (Err f) (D.judge (length text) n (cursor_of text c) d)
   stops g n p f q d = rw q (refused-here text c x e g n p d)
 
@@ -128,13 +128,13 @@ module _ (text : List ℕ) (c : Cursor) (x : Lexed) (e : x ≡ lex_at text c.at)
   unfolding D.need D.at_mark
   need-passed k z r q = goes-here text c x e _ (ap (λ (t : Bool). cond t 0 5) (sym (at-token text c.at x e k z))) r _ (ap (cursor_of text) q ∙ passed_here text c x e)
 
-  pub need-refused : (k : TokenKind) → (x.kind ≡ k → ⊥) → (f : Refused) → f ≡ refused_at x Ungrammatical
+  pub need-refused : (k : TokenKind) → (x.kind ≡ k → ⊥) → (f : Refused) → f ≡ refused_at x.start Ungrammatical
       → Comes text (Err f) (D.need (length text) (kind_number k) (cursor_of text c))
   unfolding D.need D.at_mark
   need-refused k z f q = stops Ungrammatical _ (ap (λ (t : Bool). cond t 0 5) (sym (not-token text c.at x e k z))) f q _
 
   -- the name that a let or a lambda binds
-  pub name-none : (x.kind ≡ K.Word → ⊥) → (f : Refused) → f ≡ refused_at x Ungrammatical → Comes text (Err f) (binder_named text c)
+  pub name-none : (x.kind ≡ K.Word → ⊥) → (f : Refused) → f ≡ refused_at x.start Ungrammatical → Comes text (Err f) (binder_named text c)
   unfolding D.at_binder
   name-none z f q = stops Ungrammatical _ (rw (not-token text c.at x e K.Word z)) f q _
 
@@ -143,7 +143,7 @@ module _ (text : List ℕ) (c : Cursor) (x : Lexed) (e : x ≡ lex_at text c.at)
     unfolding D.at_binder
     binder-number = rw (at-token text c.at x e K.Word z, head-word text c.at x e z, l)
 
-    pub binder-long : long ≡ true → (f : Refused) → f ≡ refused_at x NameTooLong → Comes text (Err f) (binder_named text c)
+    pub binder-long : long ≡ true → (f : Refused) → f ≡ refused_at x.start NameTooLong → Comes text (Err f) (binder_named text c)
     binder-long t f q = stops NameTooLong _ (sym (binder-number ∙ rw t)) f q _
 
     module _ (t : long ≡ false) (m : ℕ) (p : m ≡ name_at bytes) (reserved : Bool) (o : reserved ≡ eqb m (packed data_word)) where
@@ -154,7 +154,7 @@ module _ (text : List ℕ) (c : Cursor) (x : Lexed) (e : x ≡ lex_at text c.at)
       unfolding is_data
       reserved-number = binder-number ∙ rw (t, o, name-is)
 
-      pub binder-reserved : reserved ≡ true → (f : Refused) → f ≡ refused_at x DataBound → Comes text (Err f) (binder_named text c)
+      pub binder-reserved : reserved ≡ true → (f : Refused) → f ≡ refused_at x.start DataBound → Comes text (Err f) (binder_named text c)
       binder-reserved u f q = stops DataBound _ (sym (reserved-number ∙ rw u)) f q _
 
       pub binder-passed : reserved ≡ false → (r : Cursor) → r ≡ named_to c x.end m c.takes → Comes text (Ok r) (binder_named text c)
@@ -164,7 +164,7 @@ module _ (text : List ℕ) (c : Cursor) (x : Lexed) (e : x ≡ lex_at text c.at)
           (ap (cursor_of text) q ∙ named_here m _ _ _ (name-is ∙ ap packed (sym (head-word text c.at x e z))) refl)
 
   -- a member: none, one that is not known, and one that is
-  pub member-none : (x.kind ≡ K.Word → ⊥) → (f : Refused) → f ≡ refused_at x Ungrammatical → Comes text (Err f) (member_named text c)
+  pub member-none : (x.kind ≡ K.Word → ⊥) → (f : Refused) → f ≡ refused_at x.start Ungrammatical → Comes text (Err f) (member_named text c)
   unfolding D.at_member
   member-none z f q = stops Ungrammatical _ (rw (not-token text c.at x e K.Word z)) f q _
 
@@ -173,7 +173,7 @@ module _ (text : List ℕ) (c : Cursor) (x : Lexed) (e : x ≡ lex_at text c.at)
     unfolding D.at_member
     member-number = rw (at-token text c.at x e K.Word z, head-word text c.at x e z, g)
 
-    pub member-unknown : found ≡ None → (f : Refused) → f ≡ refused_at x WrongCall → Comes text (Err f) (member_named text c)
+    pub member-unknown : found ≡ None → (f : Refused) → f ≡ refused_at x.start WrongCall → Comes text (Err f) (member_named text c)
     member-unknown i f q = stops WrongCall _ (sym (member-number ∙ rw i)) f q _
 
     pub member-known : (m : Member) → found ≡ Some m → (n t : ℕ) → n ≡ member_number m → t ≡ arguments m → (r : Cursor) → r ≡ named_to c x.end (first_member + n) t
@@ -187,23 +187,23 @@ module _ (text : List ℕ) (c : Cursor) (x : Lexed) (e : x ≡ lex_at text c.at)
 
   -- the bracket of a call
   module _ (marks : ℕ) where
-    pub open-none : (x.kind ≡ K.Open → ⊥) → (f : Refused) → f ≡ refused_at x Ungrammatical → Comes text (Err f) (call_opened text marks c)
+    pub open-none : (x.kind ≡ K.Open → ⊥) → (f : Refused) → f ≡ refused_at x.start Ungrammatical → Comes text (Err f) (call_opened text marks c)
     unfolding D.at_call_open
     open-none z f q = stops Ungrammatical _ (rw (not-token text c.at x e K.Open z)) f q _
 
     pub open_judged : x.kind ≡ K.Open → (v : Result (Unit {0}) Refusal) → fault_of v ≡ cond (leb open_marks marks) 12 0 → (r : Result Cursor Refused)
-        → r ≡ passed_or_refused x v c → Comes text r (call_opened text marks c)
+        → r ≡ passed_or_refused x.start x.end v c → Comes text r (call_opened text marks c)
     unfolding D.at_call_open
     open_judged z v p r q = judged-here text c x e _ v (p ∙ rw (at-token text c.at x e K.Open z)) r q
 
 -- ---- the heads
 module _ (text : List ℕ) (x : Lexed) (c : Cursor) (e : x ≡ lex_at text c.at) (v : Result (Unit {0}) Refusal) where
   module _ (w : Bool) (marks : ℕ) (p : fault_of v ≡ D.at_let w marks c.parts) where
-    pub let-stops : (f : Refused) → Err f ≡ part_or_refused x v c → Comes text (Err f) (D.let_head (length text) w marks (cursor_of text c))
+    pub let-stops : (f : Refused) → Err f ≡ part_or_refused x.start x.end v c → Comes text (Err f) (D.let_head (length text) w marks (cursor_of text c))
     unfolding D.let_head
     let-stops f q = next-stop text _ f _ (judged-part-here text c x e _ v p (Err f) q)
 
-    module _ (a : Cursor) (q : Ok a ≡ part_or_refused x v c) (t : Bool) (o : t ≡ not (eqb a.number 0)) where
+    module _ (a : Cursor) (q : Ok a ≡ part_or_refused x.start x.end v c) (t : Bool) (o : t ≡ not (eqb a.number 0)) where
       pub let-held : t ≡ true → Comes text (Ok a) (D.let_head (length text) w marks (cursor_of text c))
       unfolding D.let_head
       let-held u = next-held text a _ (judged-part-here text c x e _ v p (Ok a) q) (refused-before a.number t o u)
@@ -224,14 +224,14 @@ module _ (text : List ℕ) (x : Lexed) (c : Cursor) (e : x ≡ lex_at text c.at)
     abbrev whole : D.Cursor
     whole = D.lambda_head (length text) w marks depth scope (cursor_of text c)
 
-    lambda-first : (r : Result Cursor Refused) → r ≡ part_or_refused x v c → Comes text r (passing_part text (D.at_lambda w (D.lambdas_in scope depth) marks c.parts) c)
+    lambda-first : (r : Result Cursor Refused) → r ≡ part_or_refused x.start x.end v c → Comes text r (passing_part text (D.at_lambda w (D.lambdas_in scope depth) marks c.parts) c)
     lambda-first r q = judged-part-here text c x e _ v (p ∙ ap (λ (k : ℕ). D.at_lambda w k marks c.parts) l) r q
 
-    pub lambda-stops : (f : Refused) → Err f ≡ part_or_refused x v c → Comes text (Err f) whole
+    pub lambda-stops : (f : Refused) → Err f ≡ part_or_refused x.start x.end v c → Comes text (Err f) whole
     unfolding D.lambda_head
     lambda-stops f q = next-stop text _ f _ (lambda-first (Err f) q)
 
-    module _ (a : Cursor) (q : Ok a ≡ part_or_refused x v c) (t : Bool) (o : t ≡ not (eqb a.number 0)) where
+    module _ (a : Cursor) (q : Ok a ≡ part_or_refused x.start x.end v c) (t : Bool) (o : t ≡ not (eqb a.number 0)) where
       pub lambda-held : t ≡ true → Comes text (Ok a) whole
       unfolding D.lambda_head
       lambda-held u = next-held text a _ (lambda-first (Ok a) q) (refused-before a.number t o u)
@@ -249,11 +249,11 @@ module _ (text : List ℕ) (x : Lexed) (c : Cursor) (e : x ≡ lex_at text c.at)
             next-go text a _ (lambda-first (Ok a) q) z r (next-go text b _ h (g.0 ∙ z) r k)
 
   module _ (marks : ℕ) (p : fault_of v ≡ D.at_part c.parts) where
-    pub call-stops : (f : Refused) → Err f ≡ part_or_refused x v c → Comes text (Err f) (D.call_head (length text) marks (cursor_of text c))
+    pub call-stops : (f : Refused) → Err f ≡ part_or_refused x.start x.end v c → Comes text (Err f) (D.call_head (length text) marks (cursor_of text c))
     unfolding D.call_head
     call-stops f q = next-stop text _ f _ (judged-part-here text c x e _ v p (Err f) q)
 
-    module _ (a : Cursor) (q : Ok a ≡ part_or_refused x v c) (t : Bool) (o : t ≡ not (eqb a.number 0)) where
+    module _ (a : Cursor) (q : Ok a ≡ part_or_refused x.start x.end v c) (t : Bool) (o : t ≡ not (eqb a.number 0)) where
       pub call-held : t ≡ true → Comes text (Ok a) (D.call_head (length text) marks (cursor_of text c))
       unfolding D.call_head
       call-held u = next-held text a _ (judged-part-here text c x e _ v p (Ok a) q) (refused-before a.number t o u)

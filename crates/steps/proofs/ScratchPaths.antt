@@ -30,9 +30,9 @@ use Rattle.language.specs.declared.refusals.Refusal.{Refusal}
 use Rattle.language.specs.declared.refusals.Refusal.TheVariants.{NumberOutside, NameTooLong}
 use Rattle.language.specs.declared.refusals.Refused.{Refused}
 use Rattle.lexer.specs.declared.tokens.Lexed.{Lexed}
-use Rattle.lexer.specs.Lexing.{tokens_from, bytes_at, value_of, judged, name_at}
+use Rattle.lexer.specs.Lexing.{lex_at, tokens_from, bytes_at, value_of, judged, name_at}
 use Rattle.lexer.specs.LexingLaws.{judged-in, judged-beyond, name-whole}
-use Rattle.steps.specs.Cursors.{state_of, refused_at, fault_of, part_to, passed_or_refused, part_or_refused, Comes, KeepsRefusal, Leaves}
+use Rattle.steps.specs.Cursors.{state_of, refused_at, fault_of, part_to, passed_or_refused, part_or_refused, Comes, KeepsRefusal, Leaves, passing}
 use Rattle.steps.specs.CursorsLaws.{head-word, head-value, refused-number, refused-here, judged-here, judged-part-here}
 use Rattle.steps.proofs.CursorPaths.{refused-before, none-before}
 use Rattle.steps.specs.Scratch.{Wrote, WroteIn, WroteFor, WroteCall, Linked, Recorded, ScopedRoom, NameRoom, NameAhead, NumberAhead}
@@ -164,14 +164,14 @@ module _ (p : ℕ) (c a : Cursor) (k : KeepsRefusal c (Ok a)) (records places : 
 
 -- ---- a token that is passed
 module _ (x : Lexed) (c a : Cursor) (v : Result (Unit {0}) Refusal) where
-  pub passed-part : Ok a ≡ part_or_refused x v c → (fault_of v ≡ 0) × (a.count ≡ c.count)
+  pub passed-part : Ok a ≡ part_or_refused x.start x.end v c → (fault_of v ≡ 0) × (a.count ≡ c.count)
   passed-part = go v
     where
-      go : (v : Result (Unit {0}) Refusal) → Ok a ≡ part_or_refused x v c → (fault_of v ≡ 0) × (a.count ≡ c.count)
+      go : (v : Result (Unit {0}) Refusal) → Ok a ≡ part_or_refused x.start x.end v c → (fault_of v ≡ 0) × (a.count ≡ c.count)
       go (Ok u) q = let e : a ≡ part_to c x.end = cc in (refl, ap (λ (b : Cursor). b.count) e)
       go (Err f) q = (cc, cc)
 
-  module _ (w : Bool) (f : fault_of v ≡ cond w 9 (C.at_part c.parts)) (q : Ok a ≡ part_or_refused x v c) where
+  module _ (w : Bool) (f : fault_of v ≡ cond w 9 (C.at_part c.parts)) (q : Ok a ≡ part_or_refused x.start x.end v c) where
     few-parts : c.parts < text_parts
     few-parts = part-fits c.parts (not-refused w 8 _ (sym f ∙ (passed-part q).0)).1
 
@@ -205,7 +205,7 @@ module _ (text : List ℕ) (w : Bool) (c : Cursor) (x : Lexed) (records places :
     unfolding C.at_name
     name-number = rw (l, the_word)
 
-    pub name-long : long ≡ true → (f : Refused) → f ≡ refused_at x NameTooLong → Leaves text (Err f) records places scope read_name
+    pub name-long : long ≡ true → (f : Refused) → f ≡ refused_at x.start NameTooLong → Leaves text (Err f) records places scope read_name
     unfolding D.read_name
     name-long t f q = rw q (refused-leaves text records places scope c _ _ _ (refused-here text c x h.next NameTooLong _ (sym (name-number ∙ rw t)) _))
 
@@ -213,11 +213,11 @@ module _ (text : List ℕ) (w : Bool) (c : Cursor) (x : Lexed) (records places :
       verdict : fault_of v ≡ C.at_name w (C.head_word (tokens_from text c.at)) c.parts
       verdict = p ∙ sym (name-number ∙ rw t)
 
-      pub name-stopped : (f : Refused) → Err f ≡ part_or_refused x v c → Leaves text (Err f) records places scope read_name
+      pub name-stopped : (f : Refused) → Err f ≡ part_or_refused x.start x.end v c → Leaves text (Err f) records places scope read_name
       unfolding D.read_name
       name-stopped f q = refused-leaves text records places scope c f _ _ (judged-part-here text c x h.next _ v verdict (Err f) q)
 
-      module _ (a : Cursor) (q : Ok a ≡ part_or_refused x v c) (b : Bool) (o : b ≡ not (eqb a.number 0)) where
+      module _ (a : Cursor) (q : Ok a ≡ part_or_refused x.start x.end v c) (b : Bool) (o : b ≡ not (eqb a.number 0)) where
         pub name-held : b ≡ true → Leaves text (Ok a) records places scope read_name
         unfolding D.read_name
         name-held u = held-leaves text records places scope c a _ _ (judged-part-here text c x h.next _ v verdict (Ok a) q) (refused-before a.number b o u)
@@ -239,7 +239,7 @@ module _ (text : List ℕ) (w : Bool) (c : Cursor) (x : Lexed) (records places :
     unfolding C.at_number
     number-number t e = rw (the_value, e)
 
-    pub number-outside : value ≡ None → (f : Refused) → f ≡ refused_at x NumberOutside → WroteFor text (D.read_number (length text) w) c records places (Err f) records places
+    pub number-outside : value ≡ None → (f : Refused) → f ≡ refused_at x.start NumberOutside → WroteFor text (D.read_number (length text) w) c records places (Err f) records places
     unfolding D.read_number
     number-outside n f q =
         record {
@@ -255,12 +255,12 @@ module _ (text : List ℕ) (w : Bool) (c : Cursor) (x : Lexed) (records places :
       number-verdict : fault_of u ≡ C.at_number w (C.head_value (tokens_from text c.at)) c.parts
       number-verdict = p ∙ sym (number-number false inside.1)
 
-      pub number-stopped : (f : Refused) → Err f ≡ part_or_refused x u c → WroteFor text (D.read_number (length text) w) c records places (Err f) records places
+      pub number-stopped : (f : Refused) → Err f ≡ part_or_refused x.start x.end u c → WroteFor text (D.read_number (length text) w) c records places (Err f) records places
       unfolding D.read_number
       number-stopped f q =
           record { leaves = λ scope. refused-leaves text records places scope c f _ _ (judged-part-here text c x h.next _ u number-verdict (Err f) q) }
 
-      module _ (a : Cursor) (q : Ok a ≡ part_or_refused x u c) (b : Bool) (o : b ≡ not (eqb a.number 0)) where
+      module _ (a : Cursor) (q : Ok a ≡ part_or_refused x.start x.end u c) (b : Bool) (o : b ≡ not (eqb a.number 0)) where
         pub number-held : b ≡ true → WroteFor text (D.read_number (length text) w) c records places (Ok a) records places
         unfolding D.read_number
         number-held t =
@@ -283,25 +283,29 @@ module _ (text : List ℕ) (w : Bool) (c : Cursor) (x : Lexed) (records places :
             }
 
 -- ---- read_shut
-module _ (x : Lexed) (k : Call) (c : Cursor) (v : Result (Unit {0}) Refusal) (p : fault_of v ≡ C.at_shut k.takes) (records places : List ℕ) where
-  pub shut-stopped : (f : Refused) → Err f ≡ passed_or_refused x v c → WroteCall x k c records places (Err f) records places
-  unfolding D.read_shut
-  shut-stopped f q = record { leaves = λ text scope e. refused-leaves text records places scope c f _ _ (judged-here text c x e _ v p (Err f) q) }
+module _ (start end : ℕ) (k : Call) (c : Cursor) (v : Result (Unit {0}) Refusal) (p : fault_of v ≡ C.at_shut k.takes) (records places : List ℕ) where
+  shut-judged : (r : Result Cursor Refused) → r ≡ passed_or_refused start end v c → (text : List ℕ) (x : Lexed) → x ≡ lex_at text c.at → x.start ≡ start → x.end ≡ end
+      → Comes text r (passing text (C.at_shut k.takes) c)
+  shut-judged r q text x e s t = judged-here text c x e _ v p r (rw (s, t) q)
 
-  module _ (a : Cursor) (q : Ok a ≡ passed_or_refused x v c) (b : Bool) (o : b ≡ not (eqb a.number 0)) where
-    pub shut-held : b ≡ true → WroteCall x k c records places (Ok a) records places
+  pub shut-stopped : (f : Refused) → Err f ≡ passed_or_refused start end v c → WroteCall start end k c records places (Err f) records places
+  unfolding D.read_shut
+  shut-stopped f q = record { leaves = λ text scope x e s t. refused-leaves text records places scope c f _ _ (shut-judged (Err f) q text x e s t) }
+
+  module _ (a : Cursor) (q : Ok a ≡ passed_or_refused start end v c) (b : Bool) (o : b ≡ not (eqb a.number 0)) where
+    pub shut-held : b ≡ true → WroteCall start end k c records places (Ok a) records places
     unfolding D.read_shut
-    shut-held t =
-        record { leaves = λ text scope e. held-leaves text records places scope c a _ _ (judged-here text c x e _ v p (Ok a) q) (refused-before a.number b o t) }
+    shut-held h =
+        record { leaves = λ text scope x e s t. held-leaves text records places scope c a _ _ (shut-judged (Ok a) q text x e s t) (refused-before a.number b o h) }
 
     pub shut-read : b ≡ false → (r : Cursor) (records' places' : List ℕ)
         → Wrote (D.put k.place (node k.kind 0 (k.receiver + 1) k.argument)) a records places r records' places'
-        → WroteCall x k c records places (Ok r) records' places'
+        → WroteCall start end k c records places (Ok r) records' places'
     unfolding D.read_shut
-    shut-read t r records' places' h =
+    shut-read g r records' places' h =
         record {
-          leaves = λ text scope e.
+          leaves = λ text scope x e s t.
               leaves_ok text records' places' scope r _
-              (passed-on text records places scope c a _ _ (judged-here text c x e _ v p (Ok a) q) (none-before a.number b o t) _
+              (passed-on text records places scope c a _ _ (shut-judged (Ok a) q text x e s t) (none-before a.number b o g) _
               (h.same text scope ∙ ap (λ (n : ℕ). D.put k.place (node k.kind 0 n k.argument) (state_of text a records places scope)) (add-one k.receiver)));
         }

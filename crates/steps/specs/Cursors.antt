@@ -28,23 +28,23 @@ part_to c at = record { at = at; parts = c.parts + 1; count = c.count; root = c.
 abbrev pub named_to : Cursor → ℕ → ℕ → ℕ → Cursor
 named_to c at name takes = record { at = at; parts = c.parts; count = c.count; root = c.root; name = name; takes = takes; number = c.number; place = c.place }
 
--- the refusal of the token x
-abbrev pub refused_at : Lexed → Refusal → Refused
-refused_at x e = record { refusal = e; place = x.start }
+-- the refusal of a token that begins at the place
+abbrev pub refused_at : ℕ → Refusal → Refused
+refused_at place e = record { refusal = e; place = place }
 
 -- the number of a verdict on a token: its refusal's, 0 for none
 abbrev pub fault_of : Result (Unit {0}) Refusal → ℕ
 fault_of (Ok u) = 0
 fault_of (Err e) = refusal_number e
 
--- the code's cursor where the token x is next, which is refused by the verdict or passed, or passed as a part
-abbrev pub passed_or_refused : Lexed → Result (Unit {0}) Refusal → Cursor → Result Cursor Refused
-passed_or_refused x (Ok u) c = Ok (passed_to c x.end)
-passed_or_refused x (Err e) c = Err (refused_at x e)
+-- the code's cursor where a token that begins at start and ends before end is next, refused by the verdict or passed, or passed as a part
+abbrev pub passed_or_refused : (start end : ℕ) → Result (Unit {0}) Refusal → Cursor → Result Cursor Refused
+passed_or_refused start end (Ok u) c = Ok (passed_to c end)
+passed_or_refused start end (Err e) c = Err (refused_at start e)
 
-abbrev pub part_or_refused : Lexed → Result (Unit {0}) Refusal → Cursor → Result Cursor Refused
-part_or_refused x (Ok u) c = Ok (part_to c x.end)
-part_or_refused x (Err e) c = Err (refused_at x e)
+abbrev pub part_or_refused : (start end : ℕ) → Result (Unit {0}) Refusal → Cursor → Result Cursor Refused
+part_or_refused start end (Ok u) c = Ok (part_to c end)
+part_or_refused start end (Err e) c = Err (refused_at start e)
 
 -- descent's cursor where the token at the code's cursor is refused, by a number at a place; and where the code comes to a cursor or a refusal
 abbrev pub stopped_of : List ℕ → Cursor → (number place : ℕ) → D.Cursor

@@ -111,13 +111,13 @@ pub left-refused : (text : List ℕ) (e : Refused) (r : Result Cursor Refused) (
 left-refused text e r R P S s h q = refused-number text e s.cursor (rw q at h).cursor
 
 -- a token that is passed, also as a part, leaves what was refused before as it is; and so do two steps of which each does
-pub passed-kept : (x : Lexed) (c : Cursor) (v : Result (Unit {0}) Refusal) (r : Result Cursor Refused) → r ≡ passed_or_refused x v c → KeepsRefusal c r
-passed-kept x c (Ok u) r q = rw q (refl, refl)
-passed-kept x c (Err f) r q = rw q tt
+pub passed-kept : (start end : ℕ) (c : Cursor) (v : Result (Unit {0}) Refusal) (r : Result Cursor Refused) → r ≡ passed_or_refused start end v c → KeepsRefusal c r
+passed-kept start end c (Ok u) r q = rw q (refl, refl)
+passed-kept start end c (Err f) r q = rw q tt
 
-pub part-kept : (x : Lexed) (c : Cursor) (v : Result (Unit {0}) Refusal) (r : Result Cursor Refused) → r ≡ part_or_refused x v c → KeepsRefusal c r
-part-kept x c (Ok u) r q = rw q (refl, refl)
-part-kept x c (Err f) r q = rw q tt
+pub part-kept : (start end : ℕ) (c : Cursor) (v : Result (Unit {0}) Refusal) (r : Result Cursor Refused) → r ≡ part_or_refused start end v c → KeepsRefusal c r
+part-kept start end c (Ok u) r q = rw q (refl, refl)
+part-kept start end c (Err f) r q = rw q tt
 
 pub kept-on : (c a : Cursor) (r : Result Cursor Refused) → KeepsRefusal c (Ok a) → KeepsRefusal a r → KeepsRefusal c r
 kept-on c a (Ok b) h k = (k.0 ∙ h.0, k.1 ∙ h.1)
@@ -139,11 +139,11 @@ module _ (text : List ℕ) (c : Cursor) (x : Lexed) (e : x ≡ lex_at text c.at)
   }
 
   pub refused-here : (f : Refusal) (n : ℕ) → refusal_number f ≡ n → (d : Unit {0} → D.Cursor)
-      → Comes text (Err (refused_at x f)) (D.judge (length text) n (cursor_of text c) d)
+      → Comes text (Err (refused_at x.start f)) (D.judge (length text) n (cursor_of text c) d)
   unfolding D.judge D.refuse when
   refused-here f n p d = rw (ne_eqb n 0 (λ z. refusal-some f (p ∙ z))) (p, sym (head-place text c.at x e))
 
-  pub ungrammatical-here : (f : Refused) → f ≡ refused_at x R.Ungrammatical → Comes text (Err f) (D.refuse (length text) 5 (cursor_of text c))
+  pub ungrammatical-here : (f : Refused) → f ≡ refused_at x.start R.Ungrammatical → Comes text (Err f) (D.refuse (length text) 5 (cursor_of text c))
   unfolding D.refuse
   ungrammatical-here f q = rw q (refl, sym (head-place text c.at x e))
 
@@ -180,21 +180,21 @@ module _ (text : List ℕ) (c : Cursor) (x : Lexed) (e : x ≡ lex_at text c.at)
 
   -- with all that descent's cursor holds, also where the token is refused
   module _ (n : ℕ) where
-    pub judged-whole : (v : Result (Unit {0}) Refusal) → fault_of v ≡ n → (r : Result Cursor Refused) → r ≡ passed_or_refused x v c → came_to text c r ≡ passing text n c
+    pub judged-whole : (v : Result (Unit {0}) Refusal) → fault_of v ≡ n → (r : Result Cursor Refused) → r ≡ passed_or_refused x.start x.end v c → came_to text c r ≡ passing text n c
     unfolding D.judge when
     judged-whole (Ok u) p r q = rw (q, ← p) passed_here
     judged-whole (Err f) p r q = rw (q, ne_eqb n 0 (λ z. refusal-some f (p ∙ z))) (ap (λ (k : ℕ). stopped_of text c k x.start) p ∙ refused-whole n)
 
-    pub judged-part-whole : (v : Result (Unit {0}) Refusal) → fault_of v ≡ n → (r : Result Cursor Refused) → r ≡ part_or_refused x v c → came_to text c r ≡ passing_part text n c
+    pub judged-part-whole : (v : Result (Unit {0}) Refusal) → fault_of v ≡ n → (r : Result Cursor Refused) → r ≡ part_or_refused x.start x.end v c → came_to text c r ≡ passing_part text n c
     unfolding D.judge when
     judged-part-whole (Ok u) p r q = rw (q, ← p) part-here
     judged-part-whole (Err f) p r q = rw (q, ne_eqb n 0 (λ z. refusal-some f (p ∙ z))) (ap (λ (k : ℕ). stopped_of text c k x.start) p ∙ refused-whole n)
 
   module _ (n : ℕ) where
-    pub judged-here : (v : Result (Unit {0}) Refusal) → fault_of v ≡ n → (r : Result Cursor Refused) → r ≡ passed_or_refused x v c → Comes text r (passing text n c)
+    pub judged-here : (v : Result (Unit {0}) Refusal) → fault_of v ≡ n → (r : Result Cursor Refused) → r ≡ passed_or_refused x.start x.end v c → Comes text r (passing text n c)
     judged-here (Ok u) p r q = rw q (goes-here n p (passed_to c x.end) (λ _. D.pass (cursor_of text c)) passed_here)
     judged-here (Err f) p r q = rw q (refused-here f n p (λ _. D.pass (cursor_of text c)))
 
-    pub judged-part-here : (v : Result (Unit {0}) Refusal) → fault_of v ≡ n → (r : Result Cursor Refused) → r ≡ part_or_refused x v c → Comes text r (passing_part text n c)
+    pub judged-part-here : (v : Result (Unit {0}) Refusal) → fault_of v ≡ n → (r : Result Cursor Refused) → r ≡ part_or_refused x.start x.end v c → Comes text r (passing_part text n c)
     judged-part-here (Ok u) p r q = rw q (goes-here n p (part_to c x.end) (λ _. D.pass_part (cursor_of text c)) part-here)
     judged-part-here (Err f) p r q = rw q (refused-here f n p (λ _. D.pass_part (cursor_of text c)))

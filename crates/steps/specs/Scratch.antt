@@ -84,7 +84,7 @@ pub record ShutAhead (k : Call) (c : Cursor) : Type 0 where
 abbrev pub call_of : Call → D.Call
 call_of k = record { kind = k.kind; takes = k.takes; receiver = k.receiver; place = k.place; argument = k.argument }
 
--- what reading the bracket that ends a call does, in each text that has it, the token x, at the cursor
-pub record WroteCall (x : Lexed) (k : Call) (c : Cursor) (records places : List ℕ) (r : Result Cursor Refused) (records' places' : List ℕ) : Type 0 where
-  pub leaves : (text scope : List ℕ) → x ≡ lex_at text c.at
+-- what reading the bracket that ends a call does, in each text that has at the cursor a token that begins at start and ends before end
+pub record WroteCall (start end : ℕ) (k : Call) (c : Cursor) (records places : List ℕ) (r : Result Cursor Refused) (records' places' : List ℕ) : Type 0 where
+  pub leaves : (text scope : List ℕ) (x : Lexed) → x ≡ lex_at text c.at → x.start ≡ start → x.end ≡ end
       → Leaves text r records' places' scope (D.read_shut (length text) (call_of k) (state_of text c records places scope))

@@ -1,6 +1,6 @@
 // The cursor over a text, and what is refused at a token. Each function that descent's Cursor has by name is that function; the tokens that are
-// left are those from the cursor's place on. A token x that is given is the one at the cursor, which the caller has lexed. A refusal has the
-// lowest number that applies.
+// left are those from the cursor's place on. A token that is given, as x or by its start and its end, is the one at the cursor, which the caller
+// has lexed. A refusal has the lowest number that applies.
 ghost use Rattle.std.specs.Prelude.{◌≡◌, cond, not, List, ℕ, suc, ◌≤◌, ◌<◌, eqb, leb, length};
 ghost use Rattle.language.specs.Limits.{text_parts, open_marks, open_lambdas};
 ghost use Rattle.lexer.specs.Lexing.{kind_number};
@@ -75,34 +75,41 @@ fn named(c: Cursor, at: usize, name: u64, takes: u8) -> Cursor
     }
 }
 
-// The token x is refused.
-pub fn refused(x: Lexed, refusal: Refusal) -> Refused
-    ensures { result ≡ refused_at x refusal }
+// A token that begins at the place is refused.
+pub fn refused(place: usize, refusal: Refusal) -> Refused
+    ensures { result ≡ refused_at place refusal }
 {
-    Refused {
-        refusal,
-        place: x.start,
-    }
+    Refused { refusal, place }
 }
 
-// The token at the cursor is refused by the verdict, or passed.
-pub fn judged(x: Lexed, verdict: Result<(), Refusal>, c: Cursor) -> Result<Cursor, Refused>
-    ensures { result ≡ passed_or_refused x verdict c }
+// A token that begins at start and ends before end is refused by the verdict, or passed.
+pub fn judged(
+    start: usize,
+    end: usize,
+    verdict: Result<(), Refusal>,
+    c: Cursor,
+) -> Result<Cursor, Refused>
+    ensures { result ≡ passed_or_refused start end verdict c }
 {
     match verdict {
-        Ok(()) => Ok(moved(c, x.end)),
-        Err(refusal) => Err(refused(x, refusal)),
+        Ok(()) => Ok(moved(c, end)),
+        Err(refusal) => Err(refused(start, refusal)),
     }
 }
 
 // The same, for a token that is a part. A function that takes `moved` or `counted` would be no shorter than the two arms.
-pub fn judged_part(x: Lexed, verdict: Result<(), Refusal>, c: Cursor) -> Result<Cursor, Refused>
+pub fn judged_part(
+    start: usize,
+    end: usize,
+    verdict: Result<(), Refusal>,
+    c: Cursor,
+) -> Result<Cursor, Refused>
     requires { c.parts ≤ text_parts }
-    ensures { result ≡ part_or_refused x verdict c }
+    ensures { result ≡ part_or_refused start end verdict c }
 {
     match verdict {
-        Ok(()) => Ok(counted(c, x.end)),
-        Err(refusal) => Err(refused(x, refusal)),
+        Ok(()) => Ok(counted(c, end)),
+        Err(refusal) => Err(refused(start, refusal)),
     }
 }
 
@@ -115,7 +122,7 @@ pub fn need(text: &[u8], kind: TokenKind, c: Cursor) -> Result<Cursor, Refused>
     if x.kind == kind {
         Ok(moved(c, x.end))
     } else {
-        Err(refused(x, Refusal::Ungrammatical))
+        Err(refused(x.start, Refusal::Ungrammatical))
     }
 }
 
@@ -266,15 +273,15 @@ fn binder_name(text: &[u8], c: Cursor) -> Result<Cursor, Refused>
     match x.kind {
         TokenKind::Word => {
             if x.is_long(text) {
-                return Err(refused(x, Refusal::NameTooLong));
+                return Err(refused(x.start, Refusal::NameTooLong));
             }
             let name = x.name(text);
             if names::is_data(name) {
-                return Err(refused(x, Refusal::DataBound));
+                return Err(refused(x.start, Refusal::DataBound));
             }
             Ok(named(c, x.end, name, c.takes))
         }
-        _ => Err(refused(x, Refusal::Ungrammatical)),
+        _ => Err(refused(x.start, Refusal::Ungrammatical)),
     }
 }
 
@@ -292,9 +299,9 @@ fn member_name(text: &[u8], c: Cursor) -> Result<Cursor, Refused>
                 Shape::MEMBERS as u64 + members::number_of(m) as u64,
                 members::arguments(m),
             )),
-            None => Err(refused(x, Refusal::WrongCall)),
+            None => Err(refused(x.start, Refusal::WrongCall)),
         },
-        _ => Err(refused(x, Refusal::Ungrammatical)),
+        _ => Err(refused(x.start, Refusal::Ungrammatical)),
     }
 }
 
@@ -305,8 +312,8 @@ fn call_open(text: &[u8], marks: usize, c: Cursor) -> Result<Cursor, Refused>
 {
     let x = tokens::token(text, c.at);
     match x.kind {
-        TokenKind::Open => judged(x, at_open_mark(marks), c),
-        _ => Err(refused(x, Refusal::Ungrammatical)),
+        TokenKind::Open => judged(x.start, x.end, at_open_mark(marks), c),
+        _ => Err(refused(x.start, Refusal::Ungrammatical)),
     }
 }
 
@@ -316,7 +323,7 @@ pub fn let_head(text: &[u8], x: Lexed, w: bool, marks: usize, c: Cursor) -> Resu
     ensures comes { Comes text.now result (let_head (length text.now) w marks (cursor_of text.now c)) }
     ensures kept { KeepsRefusal c result }
 {
-    let a = judged_part(x, at_let(w, marks, c.parts), c)?;
+    let a = judged_part(x.start, x.end, at_let(w, marks, c.parts), c)?;
     if a.is_refused() {
         return Ok(a);
     }
@@ -338,7 +345,7 @@ pub fn lambda_head(
         → Comes text.now result (lambda_head (length text.now) w marks depth scope (cursor_of text.now c)) }
     ensures kept { KeepsRefusal c result }
 {
-    let a = judged_part(x, at_lambda(w, level, marks, c.parts), c)?;
+    let a = judged_part(x.start, x.end, at_lambda(w, level, marks, c.parts), c)?;
     if a.is_refused() {
         return Ok(a);
     }
@@ -352,7 +359,7 @@ pub fn call_head(text: &[u8], x: Lexed, marks: usize, c: Cursor) -> Result<Curso
     ensures comes { Comes text.now result (call_head (length text.now) marks (cursor_of text.now c)) }
     ensures kept { KeepsRefusal c result }
 {
-    let a = judged_part(x, at_part(c.parts), c)?;
+    let a = judged_part(x.start, x.end, at_part(c.parts), c)?;
     if a.is_refused() {
         return Ok(a);
     }

@@ -195,9 +195,9 @@ pub fn read_name(
     ensures kept { KeepsRefusal c result }
 {
     if x.is_long(text) {
-        return Err(cursor::refused(x, Refusal::NameTooLong));
+        return Err(cursor::refused(x.start, Refusal::NameTooLong));
     }
-    let a = cursor::judged_part(x, cursor::at_atom(w, c.parts), c)?;
+    let a = cursor::judged_part(x.start, x.end, cursor::at_atom(w, c.parts), c)?;
     if a.is_refused() {
         return Ok(a);
     }
@@ -219,9 +219,9 @@ pub fn read_number(
     ensures kept { KeepsRefusal c result }
 {
     let Some(value) = x.number(text) else {
-        return Err(cursor::refused(x, Refusal::NumberOutside));
+        return Err(cursor::refused(x.start, Refusal::NumberOutside));
     };
-    let a = cursor::judged_part(x, cursor::at_atom(w, c.parts), c)?;
+    let a = cursor::judged_part(x.start, x.end, cursor::at_atom(w, c.parts), c)?;
     if a.is_refused() {
         return Ok(a);
     }
@@ -235,19 +235,20 @@ pub fn read_number(
     Ok(put(a, c.parts, record, records, places))
 }
 
-// The bracket that ends a call.
+// The bracket that ends a call. It begins at start and ends before end.
 pub fn read_shut(
-    x: Lexed,
+    start: usize,
+    end: usize,
     k: Call,
     c: Cursor,
     records: &mut [u64; TEXT_WORDS],
     places: &mut [u16; Text::PARTS],
 ) -> Result<Cursor, Refused>
     requires { ShutAhead k c }
-    ensures wrote { WroteCall x k c records.old places.old result records.new places.new }
+    ensures wrote { WroteCall start end k c records.old places.old result records.new places.new }
     ensures kept { KeepsRefusal c result }
 {
-    let a = cursor::judged(x, cursor::at_shut(k.takes), c)?;
+    let a = cursor::judged(start, end, cursor::at_shut(k.takes), c)?;
     if a.is_refused() {
         return Ok(a);
     }

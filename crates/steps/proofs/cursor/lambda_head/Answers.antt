@@ -14,12 +14,12 @@ returns-in_err-b-clause-comes c = λ scope depth l.
 pub returns-then-is_refused : goal.returns-then-is_refused
 returns-then-is_refused c = record {
   comes = λ scope depth l. lambda-held _ _ _ c.requires.next _ _ _ _ _ _ l c.at_lambda.ensures _ c.in_ok-a.ensures _ c.is_refused.ensures c.if-is_refused.true;
-  kept = part-kept c.args.x c.args.c _ _ c.in_ok-a.ensures;
+  kept = part-kept _ _ c.args.c _ _ c.in_ok-a.ensures;
 }
 
 pub returns : goal.returns
 returns c = record {
   comes = λ scope depth l. lambda-goes _ _ _ c.requires.next _ _ _ _ _ _ l c.at_lambda.ensures _ c.in_ok-a.ensures _ c.is_refused.ensures c.if-is_refused.false _
       c.in_ok-b.ensures.comes c.in_ok-b.ensures.kept _ c.need.ensures.comes;
-  kept = kept-on c.args.c c.in_ok-a.a _ (part-kept c.args.x c.args.c _ _ c.in_ok-a.ensures) (kept-on c.in_ok-a.a c.in_ok-b.b _ c.in_ok-b.ensures.kept c.need.ensures.kept);
+  kept = kept-on c.args.c c.in_ok-a.a _ (part-kept _ _ c.args.c _ _ c.in_ok-a.ensures) (kept-on c.in_ok-a.a c.in_ok-b.b _ c.in_ok-b.ensures.kept c.need.ensures.kept);
 }

@@ -16,12 +16,12 @@ returns-in_err-a-clause-leaves c =
 pub returns-then-is_refused : goal.returns-then-is_refused
 returns-then-is_refused c = record {
   leaves = name-held _ _ _ _ _ _ _ _ _ c.is_long.ensures c.requires c.if-is_long.false _ c.at_atom.ensures _ c.in_ok-a.ensures _ c.is_refused.ensures c.if-is_refused.true;
-  kept = part-kept c.args.x c.args.c _ _ c.in_ok-a.ensures;
+  kept = part-kept _ _ c.args.c _ _ c.in_ok-a.ensures;
 }
 
 pub returns : goal.returns
 returns c = record {
   leaves = name-read _ _ _ _ _ _ _ _ _ c.is_long.ensures c.requires c.if-is_long.false _ c.at_atom.ensures _ c.in_ok-a.ensures _ c.is_refused.ensures
       c.if-is_refused.false _ c.name-name.ensures _ _ _ c.put_name.ensures;
-  kept = name-kept _ c.args.c c.in_ok-a.a (part-kept c.args.x c.args.c _ _ c.in_ok-a.ensures) _ _ _ _ _ _ _ _ c.put_name.ensures;
+  kept = name-kept _ c.args.c c.in_ok-a.a (part-kept _ _ c.args.c _ _ c.in_ok-a.ensures) _ _ _ _ _ _ _ _ c.put_name.ensures;
 }

@@ -14,14 +14,14 @@ returns-in_err-a-clause-wrote c =
 pub returns-then-is_refused : goal.returns-then-is_refused
 returns-then-is_refused c = record {
   wrote = number-held _ _ _ _ _ _ _ c.number.ensures c.requires _ c.in-Some.is _ c.at_atom.ensures _ c.in_ok-a.ensures _ c.is_refused.ensures c.if-is_refused.true;
-  kept = part-kept c.args.x c.args.c _ _ c.in_ok-a.ensures;
+  kept = part-kept _ _ c.args.c _ _ c.in_ok-a.ensures;
 }
 
 pub returns : goal.returns
 returns c = record {
   wrote = number_read _ _ _ _ _ _ _ c.number.ensures c.requires _ c.in-Some.is _ c.at_atom.ensures _ c.in_ok-a.ensures _ c.is_refused.ensures c.if-is_refused.false _
       (search rules) _ _ _ c.put.ensures;
-  kept = put-kept _ c.args.c c.in_ok-a.a (part-kept c.args.x c.args.c _ _ c.in_ok-a.ensures) _ _ _ _ _ _ c.put.ensures;
+  kept = put-kept _ c.args.c c.in_ok-a.a (part-kept _ _ c.args.c _ _ c.in_ok-a.ensures) _ _ _ _ _ _ c.put.ensures;
 }
 
 pub returns-in_default-clause-wrote : goal.returns-in_default-clause-wrote
