@@ -266,12 +266,12 @@ module _ (text : List ℕ) where
           let d = comma-is (Err f) p in
           stopped (failed R P S f _ d (PathsCalls.comma-refused end marks depth s (call_of k) _ (ahead c x e K.Comma q) refl (refused-number text f (passing text (C.at_comma k.takes) c) d)))
 
-      module _ (h : Cursor) (p : Ok h ≡ passed_or_refused x.start x.end v c) (f : Ready (in_more (call_of k) marks depth) text c R P S) where
+      module _ (h : Cursor) (p : Ok h ≡ passed_or_refused x.start x.end v c) (z : IsClear c) where
         comma-clear : IsClear h
-        comma-clear = (passed-kept x.start x.end c v (Ok h) p).0 ∙ f.clear
+        comma-clear = (passed-kept x.start x.end c v (Ok h) p).0 ∙ z
 
-        pub comma-fit : Ready (in_expression false (marks + 1) depth) text h R P S
-        comma-fit =
+        pub comma-fit : Ready (in_more (call_of k) marks depth) text c R P S → Ready (in_expression false (marks + 1) depth) text h R P S
+        comma-fit f =
             record {
               clear = comma-clear;
               fit = less-marks (λ m. Fit m (state_of text h R P S))
@@ -295,8 +295,8 @@ module _ (text : List ℕ) where
           next-reads : Reads end (in_expression false (suc marks) depth) (state_of text h R P S) (state_of text a R' P' S')
           next-reads = more-marks (λ m. Reads end m (state_of text h R P S) (state_of text a R' P' S')) (reads-of y)
 
-          pub next-fit : Ready (in_more (call_of g) marks depth) text a R' P' S'
-          next-fit =
+          pub next-fit : Ready (in_more (call_of k) marks depth) text c R P S → Ready (in_more (call_of g) marks depth) text a R' P' S'
+          next-fit f =
               record {
                 clear = y.clear;
                 fit = subst (λ (j : D.Call). Fit (in_more j marks depth) (state_of text a R' P' S')) (sym u)
@@ -306,7 +306,7 @@ module _ (text : List ℕ) where
           pub more-next : {r : Result Cursor Refused} {R'' P'' S'' : List ℕ} → Continues (in_more (call_of g) marks depth) marks depth text a R' P' S' r R'' P'' S''
               → Continues (in_more (call_of k) marks depth) marks depth text c R P S r R'' P'' S''
           more-next =
-              behind (omega (arith, comma-less k.takes v c h x e q o p f.clear, read-less _ _ _ _ _ _ _ _ _ y))
+              behind (omega (arith, comma-less k.takes v c h x e q o p z, read-less _ _ _ _ _ _ _ _ _ y))
               (λ t w. PathsCalls.next-read end marks depth s (call_of k) (cursor_of text h) (ahead c x e K.Comma q) (comma-is (Ok h) p) (clear-test comma-clear) next-reads (clear-test y.clear)
               (subst (λ (j : D.Call). Reads end (in_more j marks depth) (state_of text a R' P' S') t) u w))
 

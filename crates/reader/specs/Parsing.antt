@@ -34,7 +34,7 @@ pub record ReadyAtom (x : Lexed) (m : Mode) (text : List ℕ) (c : Cursor) (reco
   pub no-lambda : x.kind ≡ K.Lambda → ⊥
   pub ready : Ready m text c records places scope
 
--- descent's reader m comes to a state, which is what the code leaves; a cursor that is left is clear again
+-- descent's reader m comes to a state, which is what the code leaves; a cursor that is left is clear too
 pub record Parses (m : Mode) (text : List ℕ) (c : Cursor) (records places scope : List ℕ) (r : Result Cursor Refused) (records' places' scope' : List ℕ) : Type 0 where
   pub state : State
   pub reads : Reads (length text) m (state_of text c records places scope) state

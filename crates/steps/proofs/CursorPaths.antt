@@ -22,13 +22,14 @@ use Rattle.language.specs.declared.refusals.Refusal.{Refusal}
 use Rattle.language.specs.declared.refusals.Refusal.TheVariants.{Ungrammatical, NameTooLong, DataBound, WrongCall}
 use Rattle.language.specs.declared.refusals.Refused.{Refused}
 use Rattle.language.specs.Refusals.{refusal_number}
+use Rattle.language.specs.RefusalsLaws.{refusal-some}
 use Rattle.lexer.specs.declared.tokens.Lexed.{Lexed}
 use Rattle.lexer.specs.declared.tokens.TokenKind.{TokenKind}
 use Rattle.lexer.specs.declared.tokens.TokenKind.TheVariants as K
 use Rattle.lexer.specs.Lexing.{kind_number, lex_at, tokens_from, bytes_at, name_at}
 use Rattle.lexer.specs.LexingLaws.{name-whole}
-use Rattle.steps.specs.Cursors.{cursor_of, passed_to, named_to, refused_at, fault_of, passed_or_refused, part_or_refused, Comes, KeepsRefusal, passing_part, binder_named, member_named, call_opened}
-use Rattle.steps.specs.CursorsLaws.{behind-head, head-word, at-token, not-token, refused-number, refused-here, goes-here, passed_here, judged-here, judged-part-here}
+use Rattle.steps.specs.Cursors.{cursor_of, passed_to, named_to, refused_at, fault_of, passed_or_refused, part_or_refused, came_to, Comes, KeepsRefusal, passing_part, binder_named, member_named, call_opened}
+use Rattle.steps.specs.CursorsLaws.{behind-head, head-word, at-token, not-token, refused-number, refused-here, goes-here, passed_here, judged-here, judged-part-here, judged-whole, judged-part-whole, part-kept, whole-comes}
 
 -- ---- the scope
 module _ (scope : List ℕ) (x : ℕ) where
@@ -106,6 +107,16 @@ next-stop : (text : List ℕ) (x : D.Cursor) (e : Refused) (k : D.Cursor → D.C
 unfolding D.next when
 next-stop text x e k h = rw (refused-number text e x h) h
 
+-- with all that descent's cursor holds, where the token at the cursor is refused
+next-whole : (text : List ℕ) (c : Cursor) (f : Refused) {x : D.Cursor} (k : D.Cursor → D.Cursor) → came_to text c (Err f) ≡ x → came_to text c (Err f) ≡ D.next (length text) x k
+unfolding D.next when
+next-whole text c f k e = rw (← e, ne_eqb (refusal_number f.refusal) 0 (refusal-some f.refusal)) refl
+
+-- a cursor with a refusal comes no further than the first token
+pub no-further : (start end : ℕ) (c a : Cursor) (v : Result (Unit {0}) Refusal) → Ok a ≡ part_or_refused start end v c → (t : Bool) → t ≡ not (eqb a.number 0) → t ≡ false
+    → (c.number ≡ 0 → ⊥) → ⊥
+no-further start end c a v q t o u n = n (sym (part-kept start end c v (Ok a) q).0 ∙ none-before a.number t o u)
+
 -- ---- the token at the cursor
 module _ (text : List ℕ) (c : Cursor) (x : Lexed) (e : x ≡ lex_at text c.at) where
   abbrev left : List Located
@@ -128,10 +139,15 @@ module _ (text : List ℕ) (c : Cursor) (x : Lexed) (e : x ≡ lex_at text c.at)
   unfolding D.need D.at_mark
   need-passed k z r q = goes-here text c x e _ (ap (λ (t : Bool). cond t 0 5) (sym (at-token text c.at x e k z))) r _ (ap (cursor_of text) q ∙ passed_here text c x e)
 
+  pub need-refused-whole : (k : TokenKind) → (x.kind ≡ k → ⊥) → (f : Refused) → f ≡ refused_at x.start Ungrammatical
+      → came_to text c (Err f) ≡ D.need (length text) (kind_number k) (cursor_of text c)
+  unfolding D.need D.at_mark
+  need-refused-whole k z f q =
+      judged-whole text c x e _ (Err Ungrammatical) (ap (λ (t : Bool). cond t 0 5) (sym (not-token text c.at x e k z))) (Err f) (ap (λ (g : Refused). Err g) q)
+
   pub need-refused : (k : TokenKind) → (x.kind ≡ k → ⊥) → (f : Refused) → f ≡ refused_at x.start Ungrammatical
       → Comes text (Err f) (D.need (length text) (kind_number k) (cursor_of text c))
-  unfolding D.need D.at_mark
-  need-refused k z f q = stops Ungrammatical _ (ap (λ (t : Bool). cond t 0 5) (sym (not-token text c.at x e k z))) f q _
+  need-refused k z f q = whole-comes text c (Err f) (need-refused-whole k z f q)
 
   -- the name that a let or a lambda binds
   pub name-none : (x.kind ≡ K.Word → ⊥) → (f : Refused) → f ≡ refused_at x.start Ungrammatical → Comes text (Err f) (binder_named text c)
@@ -199,9 +215,12 @@ module _ (text : List ℕ) (c : Cursor) (x : Lexed) (e : x ≡ lex_at text c.at)
 -- ---- the heads
 module _ (text : List ℕ) (x : Lexed) (c : Cursor) (e : x ≡ lex_at text c.at) (v : Result (Unit {0}) Refusal) where
   module _ (w : Bool) (marks : ℕ) (p : fault_of v ≡ D.at_let w marks c.parts) where
-    pub let-stops : (f : Refused) → Err f ≡ part_or_refused x.start x.end v c → Comes text (Err f) (D.let_head (length text) w marks (cursor_of text c))
+    pub let-stops-whole : (f : Refused) → Err f ≡ part_or_refused x.start x.end v c → came_to text c (Err f) ≡ D.let_head (length text) w marks (cursor_of text c)
     unfolding D.let_head
-    let-stops f q = next-stop text _ f _ (judged-part-here text c x e _ v p (Err f) q)
+    let-stops-whole f q = next-whole text c f _ (judged-part-whole text c x e _ v p (Err f) q)
+
+    pub let-stops : (f : Refused) → Err f ≡ part_or_refused x.start x.end v c → Comes text (Err f) (D.let_head (length text) w marks (cursor_of text c))
+    let-stops f q = whole-comes text c (Err f) (let-stops-whole f q)
 
     module _ (a : Cursor) (q : Ok a ≡ part_or_refused x.start x.end v c) (t : Bool) (o : t ≡ not (eqb a.number 0)) where
       pub let-held : t ≡ true → Comes text (Ok a) (D.let_head (length text) w marks (cursor_of text c))
@@ -224,12 +243,18 @@ module _ (text : List ℕ) (x : Lexed) (c : Cursor) (e : x ≡ lex_at text c.at)
     abbrev whole : D.Cursor
     whole = D.lambda_head (length text) w marks depth scope (cursor_of text c)
 
+    lambda-verdict : fault_of v ≡ D.at_lambda w (D.lambdas_in scope depth) marks c.parts
+    lambda-verdict = p ∙ ap (λ (k : ℕ). D.at_lambda w k marks c.parts) l
+
     lambda-first : (r : Result Cursor Refused) → r ≡ part_or_refused x.start x.end v c → Comes text r (passing_part text (D.at_lambda w (D.lambdas_in scope depth) marks c.parts) c)
-    lambda-first r q = judged-part-here text c x e _ v (p ∙ ap (λ (k : ℕ). D.at_lambda w k marks c.parts) l) r q
+    lambda-first r q = judged-part-here text c x e _ v lambda-verdict r q
+
+    pub lambda-stops-whole : (f : Refused) → Err f ≡ part_or_refused x.start x.end v c → came_to text c (Err f) ≡ whole
+    unfolding D.lambda_head
+    lambda-stops-whole f q = next-whole text c f _ (judged-part-whole text c x e _ v lambda-verdict (Err f) q)
 
     pub lambda-stops : (f : Refused) → Err f ≡ part_or_refused x.start x.end v c → Comes text (Err f) whole
-    unfolding D.lambda_head
-    lambda-stops f q = next-stop text _ f _ (lambda-first (Err f) q)
+    lambda-stops f q = whole-comes text c (Err f) (lambda-stops-whole f q)
 
     module _ (a : Cursor) (q : Ok a ≡ part_or_refused x.start x.end v c) (t : Bool) (o : t ≡ not (eqb a.number 0)) where
       pub lambda-held : t ≡ true → Comes text (Ok a) whole
@@ -249,9 +274,12 @@ module _ (text : List ℕ) (x : Lexed) (c : Cursor) (e : x ≡ lex_at text c.at)
             next-go text a _ (lambda-first (Ok a) q) z r (next-go text b _ h (g.0 ∙ z) r k)
 
   module _ (marks : ℕ) (p : fault_of v ≡ D.at_part c.parts) where
-    pub call-stops : (f : Refused) → Err f ≡ part_or_refused x.start x.end v c → Comes text (Err f) (D.call_head (length text) marks (cursor_of text c))
+    pub call-stops-whole : (f : Refused) → Err f ≡ part_or_refused x.start x.end v c → came_to text c (Err f) ≡ D.call_head (length text) marks (cursor_of text c)
     unfolding D.call_head
-    call-stops f q = next-stop text _ f _ (judged-part-here text c x e _ v p (Err f) q)
+    call-stops-whole f q = next-whole text c f _ (judged-part-whole text c x e _ v p (Err f) q)
+
+    pub call-stops : (f : Refused) → Err f ≡ part_or_refused x.start x.end v c → Comes text (Err f) (D.call_head (length text) marks (cursor_of text c))
+    call-stops f q = whole-comes text c (Err f) (call-stops-whole f q)
 
     module _ (a : Cursor) (q : Ok a ≡ part_or_refused x.start x.end v c) (t : Bool) (o : t ≡ not (eqb a.number 0)) where
       pub call-held : t ≡ true → Comes text (Ok a) (D.call_head (length text) marks (cursor_of text c))

@@ -32,10 +32,10 @@ use Rattle.language.specs.declared.refusals.Refused.{Refused}
 use Rattle.lexer.specs.declared.tokens.Lexed.{Lexed}
 use Rattle.lexer.specs.Lexing.{lex_at, tokens_from, bytes_at, value_of, judged, name_at}
 use Rattle.lexer.specs.LexingLaws.{judged-in, judged-beyond, name-whole}
-use Rattle.steps.specs.Cursors.{state_of, refused_at, fault_of, part_to, passed_or_refused, part_or_refused, Comes, KeepsRefusal, Leaves, passing}
-use Rattle.steps.specs.CursorsLaws.{head-word, head-value, refused-number, refused-here, judged-here, judged-part-here}
+use Rattle.steps.specs.Cursors.{state_of, refused_at, fault_of, part_to, passed_or_refused, part_or_refused, came_to, Comes, KeepsRefusal, Leaves, passing}
+use Rattle.steps.specs.CursorsLaws.{head-word, head-value, refused-number, refused-here, judged-here, judged-part-here, judged-whole, judged-part-whole, whole-comes}
 use Rattle.steps.proofs.CursorPaths.{refused-before, none-before}
-use Rattle.steps.specs.Scratch.{Wrote, WroteIn, WroteFor, WroteCall, Linked, Recorded, ScopedRoom, NameRoom, NameAhead, NumberAhead}
+use Rattle.steps.specs.Scratch.{call_of, Wrote, WroteIn, WroteFor, WroteCall, Linked, Recorded, ScopedRoom, NameRoom, NameAhead, NumberAhead}
 
 -- ---- put
 -- the word of a record, weight by weight
@@ -121,6 +121,12 @@ module _ (text : List ℕ) (R P S : List ℕ) where
       → Leaves text (Err f) R P S (then (moved (state_of text c R P S) d) k)
   refused-leaves c f d k h =
       rw (then-stop k (refl {a = moved (state_of text c R P S) d}) (refused-number text f d h)) (record { cursor = h; records = refl; places = refl; scope = refl })
+
+  -- with all that descent's cursor holds
+  refused-came : (c : Cursor) (f : Refused) (d : C.Cursor) (k : State → State) → came_to text c (Err f) ≡ d
+      → came_to text c (Err f) ≡ (then (moved (state_of text c R P S) d) k).cursor
+  refused-came c f d k h =
+      rw (then-stop k (refl {a = moved (state_of text c R P S) d}) (refused-number text f d (whole-comes text c (Err f) h))) h
 
   pub passed-on : (c a : Cursor) (d : C.Cursor) (k : State → State) → Comes text (Ok a) d → a.number ≡ 0 → (s : State) → s ≡ k (state_of text a R P S)
       → s ≡ then (moved (state_of text c R P S) d) k
@@ -209,6 +215,15 @@ module _ (text : List ℕ) (w : Bool) (c : Cursor) (x : Lexed) (records places :
     unfolding D.read_name
     name-long t f q = rw q (refused-leaves text records places scope c _ _ _ (refused-here text c x h.next NameTooLong _ (sym (name-number ∙ rw t)) _))
 
+    -- with all that descent's cursor holds
+    name-came : (v : Result (Unit {0}) Refusal) → fault_of v ≡ C.at_name w (C.head_word (tokens_from text c.at)) c.parts → (f : Refused) → Err f ≡ part_or_refused x.start x.end v c
+        → came_to text c (Err f) ≡ read_name.cursor
+    unfolding D.read_name
+    name-came v p f q = refused-came text records places scope c f _ _ (judged-part-whole text c x h.next _ v p (Err f) q)
+
+    pub name-long-whole : long ≡ true → (f : Refused) → f ≡ refused_at x.start NameTooLong → came_to text c (Err f) ≡ read_name.cursor
+    name-long-whole t f q = name-came (Err NameTooLong) (sym (name-number ∙ rw t)) f (ap (λ (g : Refused). Err g) q)
+
     module _ (t : long ≡ false) (v : Result (Unit {0}) Refusal) (p : fault_of v ≡ cond w 9 (C.at_part c.parts)) where
       verdict : fault_of v ≡ C.at_name w (C.head_word (tokens_from text c.at)) c.parts
       verdict = p ∙ sym (name-number ∙ rw t)
@@ -216,6 +231,9 @@ module _ (text : List ℕ) (w : Bool) (c : Cursor) (x : Lexed) (records places :
       pub name-stopped : (f : Refused) → Err f ≡ part_or_refused x.start x.end v c → Leaves text (Err f) records places scope read_name
       unfolding D.read_name
       name-stopped f q = refused-leaves text records places scope c f _ _ (judged-part-here text c x h.next _ v verdict (Err f) q)
+
+      pub name-stopped-whole : (f : Refused) → Err f ≡ part_or_refused x.start x.end v c → came_to text c (Err f) ≡ read_name.cursor
+      name-stopped-whole f q = name-came v verdict f q
 
       module _ (a : Cursor) (q : Ok a ≡ part_or_refused x.start x.end v c) (b : Bool) (o : b ≡ not (eqb a.number 0)) where
         pub name-held : b ≡ true → Leaves text (Ok a) records places scope read_name
@@ -239,6 +257,17 @@ module _ (text : List ℕ) (w : Bool) (c : Cursor) (x : Lexed) (records places :
     unfolding C.at_number
     number-number t e = rw (the_value, e)
 
+    -- with all that descent's cursor holds
+    number-came : (u : Result (Unit {0}) Refusal) → fault_of u ≡ C.at_number w (C.head_value (tokens_from text c.at)) c.parts → (f : Refused) → Err f ≡ part_or_refused x.start x.end u c
+        → (scope : List ℕ) → came_to text c (Err f) ≡ (D.read_number (length text) w (state_of text c records places scope)).cursor
+    unfolding D.read_number
+    number-came u p f q scope = refused-came text records places scope c f _ _ (judged-part-whole text c x h.next _ u p (Err f) q)
+
+    pub number-outside-whole : value ≡ None → (f : Refused) → f ≡ refused_at x.start NumberOutside
+        → (scope : List ℕ) → came_to text c (Err f) ≡ (D.read_number (length text) w (state_of text c records places scope)).cursor
+    number-outside-whole n f q =
+        number-came (Err NumberOutside) (sym (number-number true (judged-beyond (value_of bytes-there) (sym v ∙ n)))) f (ap (λ (g : Refused). Err g) q)
+
     pub number-outside : value ≡ None → (f : Refused) → f ≡ refused_at x.start NumberOutside → WroteFor text (D.read_number (length text) w) c records places (Err f) records places
     unfolding D.read_number
     number-outside n f q =
@@ -259,6 +288,10 @@ module _ (text : List ℕ) (w : Bool) (c : Cursor) (x : Lexed) (records places :
       unfolding D.read_number
       number-stopped f q =
           record { leaves = λ scope. refused-leaves text records places scope c f _ _ (judged-part-here text c x h.next _ u number-verdict (Err f) q) }
+
+      pub number-stopped-whole : (f : Refused) → Err f ≡ part_or_refused x.start x.end u c
+          → (scope : List ℕ) → came_to text c (Err f) ≡ (D.read_number (length text) w (state_of text c records places scope)).cursor
+      number-stopped-whole f q = number-came u number-verdict f q
 
       module _ (a : Cursor) (q : Ok a ≡ part_or_refused x.start x.end u c) (b : Bool) (o : b ≡ not (eqb a.number 0)) where
         pub number-held : b ≡ true → WroteFor text (D.read_number (length text) w) c records places (Ok a) records places
@@ -290,22 +323,31 @@ module _ (start end : ℕ) (k : Call) (c : Cursor) (v : Result (Unit {0}) Refusa
 
   pub shut-stopped : (f : Refused) → Err f ≡ passed_or_refused start end v c → WroteCall start end k c records places (Err f) records places
   unfolding D.read_shut
-  shut-stopped f q = record { leaves = λ text scope x e s t. refused-leaves text records places scope c f _ _ (shut-judged (Err f) q text x e s t) }
+  shut-stopped f q =
+      record {
+        leaves = λ text scope x e s t. refused-leaves text records places scope c f _ _ (shut-judged (Err f) q text x e s t);
+        whole = λ text scope x e s t. refused-came text records places scope c f _ _ (judged-whole text c x e _ v p (Err f) (rw (s, t) q));
+      }
+
+  shut-went : (r : Cursor) (records' places' : List ℕ)
+      → ((text scope : List ℕ) (x : Lexed) → x ≡ lex_at text c.at → x.start ≡ start → x.end ≡ end
+      → Leaves text (Ok r) records' places' scope (D.read_shut (length text) (call_of k) (state_of text c records places scope)))
+      → WroteCall start end k c records places (Ok r) records' places'
+  shut-went r records' places' h = record { leaves = h; whole = λ text scope x e s t. (h text scope x e s t).cursor }
 
   module _ (a : Cursor) (q : Ok a ≡ passed_or_refused start end v c) (b : Bool) (o : b ≡ not (eqb a.number 0)) where
     pub shut-held : b ≡ true → WroteCall start end k c records places (Ok a) records places
     unfolding D.read_shut
     shut-held h =
-        record { leaves = λ text scope x e s t. held-leaves text records places scope c a _ _ (shut-judged (Ok a) q text x e s t) (refused-before a.number b o h) }
+        shut-went a records places
+        (λ text scope x e s t. held-leaves text records places scope c a _ _ (shut-judged (Ok a) q text x e s t) (refused-before a.number b o h))
 
     pub shut-read : b ≡ false → (r : Cursor) (records' places' : List ℕ)
         → Wrote (D.put k.place (node k.kind 0 (k.receiver + 1) k.argument)) a records places r records' places'
         → WroteCall start end k c records places (Ok r) records' places'
     unfolding D.read_shut
     shut-read g r records' places' h =
-        record {
-          leaves = λ text scope x e s t.
-              leaves_ok text records' places' scope r _
-              (passed-on text records places scope c a _ _ (shut-judged (Ok a) q text x e s t) (none-before a.number b o g) _
-              (h.same text scope ∙ ap (λ (n : ℕ). D.put k.place (node k.kind 0 n k.argument) (state_of text a records places scope)) (add-one k.receiver)));
-        }
+        shut-went r records' places'
+        (λ text scope x e s t. leaves_ok text records' places' scope r _
+        (passed-on text records places scope c a _ _ (shut-judged (Ok a) q text x e s t) (none-before a.number b o g) _
+        (h.same text scope ∙ ap (λ (n : ℕ). D.put k.place (node k.kind 0 n k.argument) (state_of text a records places scope)) (add-one k.receiver))))

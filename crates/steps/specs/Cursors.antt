@@ -60,16 +60,16 @@ abbrev pub Comes : List ℕ → Result Cursor Refused → D.Cursor → Type 0
 Comes text (Ok c) d = cursor_of text c ≡ d
 Comes text (Err e) d = (refusal_number e.refusal ≡ d.number) × (e.place ≡ d.place)
 
--- what a cursor that is given back takes along: of what was refused before, the number and the place
-abbrev pub KeepsRefusal : Cursor → Result Cursor Refused → Type 0
-KeepsRefusal c r = IfOk r (λ a. (a.number ≡ c.number) × (a.place ≡ c.place))
-
 -- and where it comes to the state s, with the arrays
 pub record Leaves (text : List ℕ) (r : Result Cursor Refused) (R P S : List ℕ) (s : State) : Type 0 where
   pub cursor : Comes text r s.cursor
   pub records : R ≡ s.records
   pub places : P ≡ s.places
   pub scope : S ≡ s.scope
+
+-- what a cursor that is given back takes along: of what was refused before, the number and the place
+abbrev pub KeepsRefusal : Cursor → Result Cursor Refused → Type 0
+KeepsRefusal c r = IfOk r (λ a. (a.number ≡ c.number) × (a.place ≡ c.place))
 
 -- the token x is next, and a part can be counted
 pub record PartAhead (text : List ℕ) (x : Lexed) (c : Cursor) : Type 0 where

@@ -101,6 +101,11 @@ raised (Err x) h = ap (λ (y : _). Err y) h
 pub refused-number : (text : List ℕ) (e : Refused) (d : D.Cursor) → Comes text (Err e) d → eqb d.number 0 ≡ false
 refused-number text e d h = ne_eqb d.number 0 (λ z. refusal-some e.refusal (h.0 ∙ z))
 
+-- what `came_to` says of descent's whole cursor, `Comes` says of the number and the place of a refusal
+pub whole-comes : (text : List ℕ) (c : Cursor) (r : Result Cursor Refused) {d : D.Cursor} → came_to text c r ≡ d → Comes text r d
+whole-comes text c (Ok a) h = h
+whole-comes text c (Err e) h = (ap (λ (d : D.Cursor). d.number) h, ap (λ (d : D.Cursor). d.place) h)
+
 -- a state that is left, where nothing is refused and where something is
 pub left-is : (text : List ℕ) (a : Cursor) (r : Result Cursor Refused) (R P S : List ℕ) (s : State) → Leaves text r R P S s → r ≡ Ok a → state_of text a R P S ≡ s
 left-is text a r R P S s h q =

@@ -12,7 +12,7 @@ use Rattle.lexer.specs.declared.tokens.Lexed.{Lexed}
 use Rattle.lexer.specs.declared.tokens.TokenKind.TheVariants as K
 use Rattle.language.specs.declared.refusals.Refused.{Refused}
 use Rattle.lexer.specs.Lexing.{lex_at}
-use Rattle.steps.specs.Cursors.{state_of, Leaves}
+use Rattle.steps.specs.Cursors.{state_of, came_to, Leaves}
 
 -- what a function that writes records and places does: whatever the text and the scope, in a scope, and for a text, where it may refuse
 pub record Wrote (does : State → State) (c : Cursor) (records places : List ℕ) (r : Cursor) (records' places' : List ℕ) : Type 0 where
@@ -84,7 +84,10 @@ pub record ShutAhead (k : Call) (c : Cursor) : Type 0 where
 abbrev pub call_of : Call → D.Call
 call_of k = record { kind = k.kind; takes = k.takes; receiver = k.receiver; place = k.place; argument = k.argument }
 
--- what reading the bracket that ends a call does, in each text that has at the cursor a token that begins at start and ends before end
+-- what reading the bracket that ends a call does, in each text that has at the cursor a token that begins at start and ends before end; and with
+-- all that descent's cursor holds, also where the bracket is refused
 pub record WroteCall (start end : ℕ) (k : Call) (c : Cursor) (records places : List ℕ) (r : Result Cursor Refused) (records' places' : List ℕ) : Type 0 where
   pub leaves : (text scope : List ℕ) (x : Lexed) → x ≡ lex_at text c.at → x.start ≡ start → x.end ≡ end
       → Leaves text r records' places' scope (D.read_shut (length text) (call_of k) (state_of text c records places scope))
+  pub whole : (text scope : List ℕ) (x : Lexed) → x ≡ lex_at text c.at → x.start ≡ start → x.end ≡ end
+      → came_to text c r ≡ (D.read_shut (length text) (call_of k) (state_of text c records places scope)).cursor

@@ -1,12 +1,13 @@
 // The cursor over a text, and what is refused at a token. Each function that descent's Cursor has by name is that function; the tokens that are
 // left are those from the cursor's place on. A token that is given, as x or by its start and its end, is the one at the cursor, which the caller
-// has lexed. A refusal has the lowest number that applies.
+// has lexed. A refusal has the lowest number that applies. The clauses `whole` speak of all that descent's cursor holds, of the
+// tokens that are left too: no refusal of before is given again in the place of a token that is passed.
 ghost use Rattle.std.specs.Prelude.{◌≡◌, cond, not, List, ℕ, suc, ◌≤◌, ◌<◌, eqb, leb, length};
 ghost use Rattle.language.specs.Limits.{text_parts, open_marks, open_lambdas};
 ghost use Rattle.lexer.specs.Lexing.{kind_number};
 ghost use Rattle.descent.specs.Cursor.{binder_link, binder_of, lambdas_in};
 ghost use Rattle.descent.specs.Cursor.{at_part, at_let, at_lambda, at_bracket, at_shut, at_comma, need, let_head, lambda_head, call_head};
-ghost use Rattle.steps.specs.Cursors.{cursor_of, passed_to, part_to, named_to, refused_at, passed_or_refused, part_or_refused, fault_of, Comes, KeepsRefusal, PartAhead, binder_named, member_named, call_opened};
+ghost use Rattle.steps.specs.Cursors.{cursor_of, passed_to, part_to, named_to, refused_at, passed_or_refused, part_or_refused, fault_of, came_to, Comes, KeepsRefusal, PartAhead, binder_named, member_named, call_opened};
 
 use language::limits::Text;
 use language::names;
@@ -36,7 +37,7 @@ pub struct Cursor {
 }
 
 impl Cursor {
-    // Whether something was refused before: then nothing more is read.
+    // Whether something was refused before: then no token behind the first is read.
     pub fn is_refused(&self) -> bool
         ensures { result ≡ not (eqb self.now.number 0) }
     {
@@ -117,6 +118,7 @@ pub fn judged_part(
 pub fn need(text: &[u8], kind: TokenKind, c: Cursor) -> Result<Cursor, Refused>
     ensures comes { Comes text.now result (need (length text.now) (kind_number kind) (cursor_of text.now c)) }
     ensures kept { KeepsRefusal c result }
+    ensures whole { came_to text.now c result ≡ need (length text.now) (kind_number kind) (cursor_of text.now c) }
 {
     let x = tokens::token(text, c.at);
     if x.kind == kind {
@@ -317,11 +319,15 @@ fn call_open(text: &[u8], marks: usize, c: Cursor) -> Result<Cursor, Refused>
     }
 }
 
+// In the three heads `whole` is of a cursor with a refusal: of one that is clear a later token may be refused, and `came_to` takes the cursor
+// before the first.
+
 // let name =
 pub fn let_head(text: &[u8], x: Lexed, w: bool, marks: usize, c: Cursor) -> Result<Cursor, Refused>
     requires { PartAhead text.now x c }
     ensures comes { Comes text.now result (let_head (length text.now) w marks (cursor_of text.now c)) }
     ensures kept { KeepsRefusal c result }
+    ensures whole { (c.number ≡ 0 → ⊥) → came_to text.now c result ≡ let_head (length text.now) w marks (cursor_of text.now c) }
 {
     let a = judged_part(x.start, x.end, at_let(w, marks, c.parts), c)?;
     if a.is_refused() {
@@ -344,6 +350,8 @@ pub fn lambda_head(
     ensures comes { (scope : List ℕ) (depth : ℕ) → level ≡ lambdas_in scope depth
         → Comes text.now result (lambda_head (length text.now) w marks depth scope (cursor_of text.now c)) }
     ensures kept { KeepsRefusal c result }
+    ensures whole { (c.number ≡ 0 → ⊥) → (scope : List ℕ) (depth : ℕ) → level ≡ lambdas_in scope depth
+        → came_to text.now c result ≡ lambda_head (length text.now) w marks depth scope (cursor_of text.now c) }
 {
     let a = judged_part(x.start, x.end, at_lambda(w, level, marks, c.parts), c)?;
     if a.is_refused() {
@@ -358,6 +366,7 @@ pub fn call_head(text: &[u8], x: Lexed, marks: usize, c: Cursor) -> Result<Curso
     requires { PartAhead text.now x c }
     ensures comes { Comes text.now result (call_head (length text.now) marks (cursor_of text.now c)) }
     ensures kept { KeepsRefusal c result }
+    ensures whole { (c.number ≡ 0 → ⊥) → came_to text.now c result ≡ call_head (length text.now) marks (cursor_of text.now c) }
 {
     let a = judged_part(x.start, x.end, at_part(c.parts), c)?;
     if a.is_refused() {

@@ -1,11 +1,12 @@
 // The records that a text is read to, written into lent arrays: two words a record, the record of each part by place, and two cells a binder.
 // Each function is the function of its name in descent's Descent. The lent arrays and the scope are parameters of their own, as in the parser.
-ghost use Rattle.std.specs.Prelude.{◌≡◌, ◌+◌, ◌*◌, ◌≤◌, ◌<◌, length, set};
+// The clauses `whole` are as in cursor.rt.
+ghost use Rattle.std.specs.Prelude.{◌≡◌, List, ℕ, ◌+◌, ◌*◌, ◌≤◌, ◌<◌, length, set};
 ghost use Rattle.language.specs.Limits.{text_parts, open_marks};
 ghost use Rattle.layout.specs.Held.{shaped};
 ghost use Rattle.descent.specs.Descent.{put, put_bound, put_scoped, put_name, read_name, read_number};
 ghost use Rattle.records.specs.Records.{number_key};
-ghost use Rattle.steps.specs.Cursors.{state_of, Leaves, KeepsRefusal};
+ghost use Rattle.steps.specs.Cursors.{state_of, came_to, Leaves, KeepsRefusal};
 ghost use Rattle.steps.specs.Scratch.{Wrote, WroteIn, WroteFor, WroteCall, Linked, Recorded, BoundRoom, ScopedRoom, NameRoom, NameAhead, NumberAhead, ShutAhead};
 
 use crate::cursor;
@@ -193,6 +194,9 @@ pub fn read_name(
         (read_name (length text.now) w depth
         (state_of text.now c records.old places.old scope.now)) }
     ensures kept { KeepsRefusal c result }
+    ensures whole { came_to text.now c result
+        ≡ (read_name (length text.now) w depth
+        (state_of text.now c records.old places.old scope.now)).cursor }
 {
     if x.is_long(text) {
         return Err(cursor::refused(x.start, Refusal::NameTooLong));
@@ -217,6 +221,8 @@ pub fn read_number(
     requires { NumberAhead text.now x c }
     ensures wrote { WroteFor text.now (read_number (length text.now) w) c records.old places.old result records.new places.new }
     ensures kept { KeepsRefusal c result }
+    ensures whole { (scope : List ℕ) → came_to text.now c result
+        ≡ (read_number (length text.now) w (state_of text.now c records.old places.old scope)).cursor }
 {
     let Some(value) = x.number(text) else {
         return Err(cursor::refused(x.start, Refusal::NumberOutside));

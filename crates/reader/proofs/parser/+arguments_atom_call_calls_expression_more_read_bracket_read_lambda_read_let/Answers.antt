@@ -67,13 +67,13 @@ more-returns-in_err-h-in-Comma t c =
 pub more-expression-requires : goal.more-expression-requires
 more-expression-requires t c = (
   omega (arith, c.decreases, L.comma-less _ _ _ _ _ _ c.token-x.ensures c.in-Comma.is c.at_comma.ensures c.in_ok-h-in-Comma.ensures c.requires.clear),
-  L.comma-fit _ _ _ _ _ _ _ _ _ _ c.token-x.ensures c.in-Comma.is c.at_comma.ensures _ c.in_ok-h-in-Comma.ensures c.requires,
+  L.comma-fit _ _ _ _ _ _ _ _ _ _ c.token-x.ensures c.in-Comma.is c.at_comma.ensures _ c.in_ok-h-in-Comma.ensures c.requires.clear c.requires,
 )
 
 pub more-returns-in_err-a-in-Comma : goal.more-returns-in_err-a-in-Comma
 more-returns-in_err-a-in-Comma t c =
     rw (raised _ c.from_residual-in_err-a-in-Comma.ensures.1)
-    (L.more-next-refused _ _ _ _ _ _ _ _ _ _ c.token-x.ensures c.in-Comma.is c.at_comma.ensures _ c.in_ok-h-in-Comma.ensures c.requires _ _ _ _
+    (L.more-next-refused _ _ _ _ _ _ _ _ _ _ c.token-x.ensures c.in-Comma.is c.at_comma.ensures _ c.in_ok-h-in-Comma.ensures c.requires.clear _ _ _ _
     c.in_err-a-in-Comma.ensures)
 
 pub more-more-requires : goal.more-more-requires
@@ -84,8 +84,8 @@ more-more-requires t c = (
     L.comma-less _ _ _ _ _ _ c.token-x.ensures c.in-Comma.is c.at_comma.ensures c.in_ok-h-in-Comma.ensures c.requires.clear,
     L.read-less _ _ _ _ _ _ _ _ _ _ c.in_ok-a-in-Comma.ensures,
   ),
-  L.next-fit _ _ _ _ _ _ _ _ _ _ c.token-x.ensures c.in-Comma.is c.at_comma.ensures _ c.in_ok-h-in-Comma.ensures c.requires _ _ _ _
-      c.in_ok-a-in-Comma.ensures _ c.next_given.ensures,
+  L.next-fit _ _ _ _ _ _ _ _ _ _ c.token-x.ensures c.in-Comma.is c.at_comma.ensures _ c.in_ok-h-in-Comma.ensures c.requires.clear _ _ _ _
+      c.in_ok-a-in-Comma.ensures _ c.next_given.ensures c.requires,
 )
 
 pub more-returns-in-Shut : goal.more-returns-in-Shut
@@ -93,7 +93,7 @@ more-returns-in-Shut t c = L.more-last _ _ _ _ _ _ _ _ _ _ _ _ c.token-x.ensures
 
 pub more-returns-in_ok-a-in-Comma : goal.more-returns-in_ok-a-in-Comma
 more-returns-in_ok-a-in-Comma t c =
-    L.more-next _ _ _ _ _ _ _ _ _ _ c.token-x.ensures c.in-Comma.is c.at_comma.ensures _ c.in_ok-h-in-Comma.ensures c.requires _ _ _ _
+    L.more-next _ _ _ _ _ _ _ _ _ _ c.token-x.ensures c.in-Comma.is c.at_comma.ensures _ c.in_ok-h-in-Comma.ensures c.requires.clear _ _ _ _
     c.in_ok-a-in-Comma.ensures _ c.next_given.ensures c.more.ensures
 
 pub more-returns-in_default : goal.more-returns-in_default
