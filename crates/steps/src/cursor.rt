@@ -1,7 +1,8 @@
-// The cursor over a text, and what is refused at a token. Each function that descent's Cursor has by name is that function; the tokens that are
-// left are those from the cursor's place on. A token that is given, as x or by its start and its end, is the one at the cursor, which the caller
-// has lexed. A refusal has the lowest number that applies. The clauses `whole` speak of all that descent's cursor holds, of the
-// tokens that are left too: no refusal of before is given again in the place of a token that is passed.
+// The cursor over a text, and what is refused at a token. Each function that descent's Cursor has by name is that function, but `binder_name`,
+// which is `binder_named`; the tokens that are left are those from the cursor's place on. A token that is given, as x or by its start and its end,
+// is the one at the cursor, which the caller has lexed. A refusal has the lowest number that applies. The clauses `whole` speak of all that
+// descent's cursor holds, of the tokens that are left too: where there is a token and it is passed, a refusal that stood already is not given as
+// that token's. The three private functions that have no such clause are given no cursor with a refusal.
 ghost use Rattle.std.specs.Prelude.{◌≡◌, cond, not, List, ℕ, suc, ◌≤◌, ◌<◌, eqb, leb, length};
 ghost use Rattle.language.specs.Limits.{text_parts, open_marks, open_lambdas};
 ghost use Rattle.lexer.specs.Lexing.{kind_number};
