@@ -289,6 +289,15 @@ module _ (n : ℕ) (x : Name) (f : Option Member) (at : f ≡ member_at n) where
   pub named_none : f ≡ None → false ≡ if_member false (member_at n) (λ k. same_packed x (packed_name (spelled k)))
   named_none e = rw (← at, e)
 
+module _ (n : ℕ) (w : List ℕ) (h : n < length members) where
+  row-yes : names_it w (member_at n) ≡ true → member_at n ≡ named_in (drop n members) w
+  unfolding member_at
+  row-yes t = rw (rest-row members n w h, t)
+
+  row-no : names_it w (member_at n) ≡ false → named_in (drop (n + 1) members) w ≡ named_in (drop n members) w
+  unfolding member_at
+  row-no t = rw (add-one, rest-row members n w h, t)
+
 module _ (n : ℕ) (w : List ℕ) (x : Name) (is : (x ≡ packed_name w) × Each Byte w) (r : Bool)
     (e : r ≡ if_member false (member_at n) (λ m. same_packed x (packed_name (spelled m)))) where
   named-row : r ≡ names_it w (member_at n)
@@ -300,18 +309,15 @@ module _ (n : ℕ) (w : List ℕ) (x : Name) (is : (x ≡ packed_name w) × Each
 
   module _ (h : n < length members) where
     pub row_is : r ≡ true → member_at n ≡ named_in (drop n members) w
-    unfolding member_at
-    row_is t = rw (rest-row members n w h, sym named-row ∙ t)
+    row_is t = row-yes n w h (sym named-row ∙ t)
 
     pub row-not : r ≡ false → named_in (drop (n + 1) members) w ≡ named_in (drop n members) w
-    unfolding member_at
-    row-not t = rw (add-one, rest-row members n w h, sym named-row ∙ t)
+    row-not t = row-no n w h (sym named-row ∙ t)
 
 -- a row that was looked up: there is none, or it is a member's
 module _ (n : ℕ) (w : List ℕ) (h : n < length members) (f : Option Member) (at : f ≡ member_at n) where
   pub row-missing : f ≡ None → named_in (drop (n + 1) members) w ≡ named_in (drop n members) w
-  unfolding member_at
-  row-missing e = rw (add-one, rest-row members n w h, ap (names_it w) (sym at ∙ e))
+  row-missing e = row-no n w h (ap (names_it w) (sym at ∙ e))
 
   module _ (x : Name) (is : (x ≡ packed_name w) × Each Byte w) (m : Member) (e : f ≡ Some m) (r : Bool) (p : r ≡ same_packed x (packed_name (spelled m))) where
     known : r ≡ if_member false (member_at n) (λ k. same_packed x (packed_name (spelled k)))

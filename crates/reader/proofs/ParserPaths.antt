@@ -44,7 +44,7 @@ use Rattle.lexer.specs.declared.tokens.TokenKind.TheVariants as K
 use Rattle.reader.specs.declared.answer.Read.{Read}
 use Rattle.lexer.specs.Lexing.{kind_number, lex_at, tokens_from}
 use Rattle.steps.specs.Cursors.{cursor_of, state_of, refused_at, fault_of, passed_or_refused, passing, Comes, KeepsRefusal, Leaves}
-use Rattle.steps.specs.CursorsLaws.{at-token, not-token, refused-number, ungrammatical-here, judged-here, passed-kept, left-is, left-refused}
+use Rattle.steps.specs.CursorsLaws.{at-token, not-token, refused-number, ungrammatical-here, judged-here, passed-kept, kept-on, left-is, left-refused}
 use Rattle.steps.specs.Scratch.{Wrote, WroteFor, WroteCall, NameAhead, NumberAhead, ShutAhead, Recorded, call_of}
 use Rattle.reader.specs.Parsing.{IsClear, Ready, ReadyAt, Parses, Continues}
 use Rattle.reader.specs.Results.{answer_of, no_binders, ReadsInto}
@@ -70,9 +70,12 @@ still-clear : (c : Cursor) (r : Result Cursor Refused) → KeepsRefusal c r → 
 still-clear c (Ok a) k z = k.0 ∙ z
 still-clear c (Err e) k z = tt
 
-put-clear : (p : ℕ) (n : Node) {a r : Cursor} {R P R' P' : List ℕ} → Wrote (D.put p n) a R P r R' P' → IsClear a → IsClear r
+put-kept : (p : ℕ) (n : Node) {a r : Cursor} {R P R' P' : List ℕ} → Wrote (D.put p n) a R P r R' P' → KeepsRefusal a (Ok r)
 unfolding D.put D.counted
-put-clear p n h z = ap (λ (s : State). s.cursor.number) (h.same [] []) ∙ z
+put-kept p n h = (ap (λ (s : State). s.cursor.number) (h.same [] []), ap (λ (s : State). s.cursor.place) (h.same [] []))
+
+put-clear : (p : ℕ) (n : Node) {a r : Cursor} {R P R' P' : List ℕ} → Wrote (D.put p n) a R P r R' P' → IsClear a → IsClear r
+put-clear p n h z = (put-kept p n h).0 ∙ z
 
 module _ (text : List ℕ) where
   abbrev end : ℕ
@@ -93,9 +96,9 @@ module _ (text : List ℕ) where
 
   -- ---- an answer that is a cursor, one that is a refusal, and one that is handed on
   module _ {m : Mode} {c : Cursor} {R P S : List ℕ} where
-    parsed : {a : Cursor} {R' P' S' : List ℕ} → IsClear a → Reads end m (state_of text c R P S) (state_of text a R' P' S') → Parses m text c R P S (Ok a) R' P' S'
-    parsed {a} {R'} {P'} {S'} z h =
-        record { state = state_of text a R' P' S'; reads = h; leaves = record { cursor = refl; records = refl; places = refl; scope = refl }; clear = z }
+    parsed : {a : Cursor} {R' P' S' : List ℕ} → IsClear a → KeepsRefusal c (Ok a) → Reads end m (state_of text c R P S) (state_of text a R' P' S') → Parses m text c R P S (Ok a) R' P' S'
+    parsed {a} {R'} {P'} {S'} z k h =
+        record { state = state_of text a R' P' S'; reads = h; leaves = record { cursor = refl; records = refl; places = refl; scope = refl }; clear = z; kept = k }
 
     failed : (R' P' S' : List ℕ) (e : Refused) (d : C.Cursor) → Comes text (Err e) d
         → Reads end m (state_of text c R P S) (record { cursor = d; records = R'; places = P'; scope = S' }) → Parses m text c R P S (Err e) R' P' S'
@@ -104,12 +107,13 @@ module _ (text : List ℕ) where
       reads = h;
       leaves = record { cursor = q; records = refl; places = refl; scope = refl };
       clear = tt;
+      kept = tt;
     }
 
-    handed : {n : Mode} {a : Cursor} {R₁ P₁ S₁ : List ℕ} {q : Result Cursor Refused} {R' P' S' : List ℕ}
+    handed : {n : Mode} {a : Cursor} {R₁ P₁ S₁ : List ℕ} {q : Result Cursor Refused} {R' P' S' : List ℕ} → KeepsRefusal c (Ok a)
         → ((s : State) → Reads end n (state_of text a R₁ P₁ S₁) s → Reads end m (state_of text c R P S) s)
         → Parses n text a R₁ P₁ S₁ q R' P' S' → Parses m text c R P S q R' P' S'
-    handed f y = record { state = y.state; reads = f y.state y.reads; leaves = y.leaves; clear = y.clear }
+    handed {n} {a} {R₁} {P₁} {S₁} {q} k f y = record { state = y.state; reads = f y.state y.reads; leaves = y.leaves; clear = y.clear; kept = kept-on c a q k y.kept }
 
     reads-of : {a : Cursor} {R' P' S' : List ℕ} → Parses m text c R P S (Ok a) R' P' S' → Reads end m (state_of text c R P S) (state_of text a R' P' S')
     reads-of {a} {R'} {P'} {S'} y = subst (Reads end m (state_of text c R P S)) (sym (left-is text a (Ok a) R' P' S' y.state y.leaves refl)) y.reads
@@ -122,26 +126,26 @@ module _ (text : List ℕ) where
       stopped : {e : Refused} {R' P' S' : List ℕ} → Parses m text c R P S (Err e) R' P' S' → Continues m marks depth text c R P S (Err e) R' P' S'
       stopped h = record { stops = λ _ _. h; goes = λ a q. absurd (cc); fit = λ a q. absurd (cc); less = λ a q. absurd (cc) }
 
-      behind : {n : Mode} {a : Cursor} {q : Result Cursor Refused} {R₁ P₁ S₁ R' P' S' : List ℕ} → tokens-left a ≤ tokens-left c
+      behind : {n : Mode} {a : Cursor} {q : Result Cursor Refused} {R₁ P₁ S₁ R' P' S' : List ℕ} → KeepsRefusal c (Ok a) → tokens-left a ≤ tokens-left c
           → ((s : State) → Reads end n (state_of text a R₁ P₁ S₁) s → Reads end m (state_of text c R P S) s)
           → Continues n marks depth text a R₁ P₁ S₁ q R' P' S' → Continues m marks depth text c R P S q R' P' S'
-      behind l g k =
+      behind o l g k =
           record {
-            stops = λ e z. handed g (k.stops e z);
-            goes = λ b z q R'' P'' S'' y. handed g (k.goes b z q R'' P'' S'' y);
+            stops = λ e z. handed o g (k.stops e z);
+            goes = λ b z q R'' P'' S'' y. handed o g (k.goes b z q R'' P'' S'' y);
             fit = k.fit;
             less = λ b z. let h = k.less b z in omega arith;
           }
 
       -- what is left is the state s, from which the reader m goes on with the calls
-      module _ {s : State} {r : Result Cursor Refused} {R' P' S' : List ℕ} (h : Leaves text r R' P' S' s) (k : IfOk r IsClear) where
+      module _ {s : State} {r : Result Cursor Refused} {R' P' S' : List ℕ} (h : Leaves text r R' P' S' s) (k : IfOk r IsClear) (o : KeepsRefusal c r) where
         onward : (eqb s.cursor.number 0 ≡ false → Reads end m (state_of text c R P S) s)
             → ((u : State) → eqb s.cursor.number 0 ≡ true → Reads end (in_calls marks depth) s u → Reads end m (state_of text c R P S) u)
             → (s.cursor.number ≡ 0 → Fit (in_calls marks depth) s) → (eqb s.cursor.number 0 ≡ true → length s.cursor.rest + 1 ≤ tokens-left c)
             → Continues m marks depth text c R P S r R' P' S'
         onward stop go fit less = record {
-          stops = λ e z. record { state = s; reads = stop (left-refused text e r R' P' S' s h z); leaves = h; clear = k };
-          goes = λ a z q R'' P'' S'' y. handed (λ u k. go u (zero a z) (subst (λ (v : State). Reads end (in_calls marks depth) v u) (is a z) k)) y;
+          stops = λ e z. record { state = s; reads = stop (left-refused text e r R' P' S' s h z); leaves = h; clear = k; kept = o };
+          goes = λ a z q R'' P'' S'' y. handed (let w = rw z at o in w) (λ u k. go u (zero a z) (subst (λ (v : State). Reads end (in_calls marks depth) v u) (is a z) k)) y;
           fit = λ a z. record { clear = clear a z; fit = subst (Fit (in_calls marks depth)) (sym (is a z)) (fit (number-is a z)) };
           less = λ a z. subst (λ (v : State). length v.cursor.rest + 1 ≤ tokens-left c) (sym (is a z)) (less (zero a z));
         }
@@ -211,13 +215,13 @@ module _ (text : List ℕ) where
       pub arguments-none : Ready (in_arguments (call_of k) marks depth) text c R P S → Continues (in_arguments (call_of k) marks depth) marks depth text c R P S r R' P' S
       arguments-none f =
           let b = ahead c x e K.Shut q in
-          onward (h.leaves text S x e refl refl) (still-clear c r o f.clear) (PathsCalls.none-refused end marks depth s (call_of k) b refl) (λ u z y. PathsCalls.none_read end marks depth s (call_of k) b refl z y)
+          onward (h.leaves text S x e refl refl) (still-clear c r o f.clear) o (PathsCalls.none-refused end marks depth s (call_of k) b refl) (λ u z y. PathsCalls.none_read end marks depth s (call_of k) b refl z y)
           (G.fit-shut-arguments end marks depth s (call_of k) f.fit b) (PathsCalls.less-shut end marks depth s (call_of k) b refl)
 
       pub more-last : Ready (in_more (call_of k) marks depth) text c R P S → Continues (in_more (call_of k) marks depth) marks depth text c R P S r R' P' S
       more-last f =
           let b = ahead c x e K.Shut q in
-          onward (h.leaves text S x e refl refl) (still-clear c r o f.clear) (PathsCalls.last-refused end marks depth s (call_of k) b refl) (λ u z y. PathsCalls.last-read end marks depth s (call_of k) b refl z y)
+          onward (h.leaves text S x e refl refl) (still-clear c r o f.clear) o (PathsCalls.last-refused end marks depth s (call_of k) b refl) (λ u z y. PathsCalls.last-read end marks depth s (call_of k) b refl z y)
           (G.fit-shut-more end marks depth s (call_of k) f.fit b) (PathsCalls.less-shut end marks depth s (call_of k) b refl)
 
     pub argument-fit : Ready (in_arguments (call_of k) marks depth) text c R P S → Ready (in_expression (eqb k.takes 0) (marks + 1) depth) text c R P S
@@ -228,7 +232,7 @@ module _ (text : List ℕ) where
     arguments-first-refused f R' P' S' h x e q =
         let y : Parses (in_expression (eqb k.takes 0) (suc marks) depth) text c R P S (Err f) R' P' S' = more-marks (λ m. Parses m text c R P S (Err f) R' P' S') h in
         stopped
-        (record { state = y.state; reads = PathsCalls.first-refused end marks depth s (call_of k) (not-ahead c x e K.Shut q) y.reads (refused-of y); leaves = y.leaves; clear = tt })
+        (record { state = y.state; reads = PathsCalls.first-refused end marks depth s (call_of k) (not-ahead c x e K.Shut q) y.reads (refused-of y); leaves = y.leaves; clear = tt; kept = tt })
 
     module _ (a : Cursor) (R' P' S' : List ℕ) (h : Parses (in_expression (eqb k.takes 0) (marks + 1) depth) text c R P S (Ok a) R' P' S') where
       first_reads : Reads end (in_expression (eqb k.takes 0) (suc marks) depth) s (state_of text a R' P' S')
@@ -245,7 +249,7 @@ module _ (text : List ℕ) where
         pub arguments-first : (x : Lexed) → x ≡ lex_at text c.at → (x.kind ≡ K.Shut → ⊥) → {r : Result Cursor Refused} {R'' P'' S'' : List ℕ}
             → Continues (in_more (call_of g) marks depth) marks depth text a R' P' S' r R'' P'' S'' → Continues (in_arguments (call_of k) marks depth) marks depth text c R P S r R'' P'' S''
         arguments-first x e q =
-            behind (omega (arith, read-less _ _ _ _ _ _ _ _ _ h))
+            behind h.kept (omega (arith, read-less _ _ _ _ _ _ _ _ _ h))
             (λ v y. PathsCalls.first_read end marks depth s (call_of k) (not-ahead c x e K.Shut q) first_reads (clear-test h.clear)
             (subst (λ (j : D.Call). Reads end (in_more j marks depth) (state_of text a R' P' S') v) u y))
 
@@ -289,6 +293,7 @@ module _ (text : List ℕ) where
               reads = PathsCalls.next-refused end marks depth s (call_of k) (cursor_of text h) (ahead c x e K.Comma q) (comma-is (Ok h) p) (clear-test comma-clear) y.reads (refused-of y);
               leaves = y.leaves;
               clear = tt;
+              kept = tt;
             })
 
         module _ (a : Cursor) (R' P' S' : List ℕ) (y : Parses (in_expression false (marks + 1) depth) text h R P S (Ok a) R' P' S') (g : Call) (u : call_of g ≡ next_given (call_of k)) where
@@ -306,7 +311,7 @@ module _ (text : List ℕ) where
           pub more-next : {r : Result Cursor Refused} {R'' P'' S'' : List ℕ} → Continues (in_more (call_of g) marks depth) marks depth text a R' P' S' r R'' P'' S''
               → Continues (in_more (call_of k) marks depth) marks depth text c R P S r R'' P'' S''
           more-next =
-              behind (omega (arith, comma-less k.takes v c h x e q o p z, read-less _ _ _ _ _ _ _ _ _ y))
+              behind (kept-on c h (Ok a) (passed-kept x.start x.end c v (Ok h) p) y.kept) (omega (arith, comma-less k.takes v c h x e q o p z, read-less _ _ _ _ _ _ _ _ _ y))
               (λ t w. PathsCalls.next-read end marks depth s (call_of k) (cursor_of text h) (ahead c x e K.Comma q) (comma-is (Ok h) p) (clear-test comma-clear) next-reads (clear-test y.clear)
               (subst (λ (j : D.Call). Reads end (in_more j marks depth) (state_of text a R' P' S') t) u w))
 
@@ -336,7 +341,7 @@ module _ (text : List ℕ) where
 
         pub call-read : {r : Result Cursor Refused} {R' P' S' : List ℕ} → Continues (in_arguments (D.new_call (cursor_of text c) (cursor_of text h)) marks depth) marks depth text h R P S r R' P' S'
             → Continues (in_calls marks depth) marks depth text c R P S r R' P' S'
-        call-read = behind (omega (arith, call-less)) (λ v y. PathsCalls.call-read end marks depth here (cursor_of text h) (ahead_of f) p (clear-test call-clear) y)
+        call-read = behind k (omega (arith, call-less)) (λ v y. PathsCalls.call-read end marks depth here (cursor_of text h) (ahead_of f) p (clear-test call-clear) y)
 
     -- ---- a chain of calls, from c up to a: what the calls from a on give, those from c on give
     pub record Chain (a : Cursor) (R' P' S' : List ℕ) : Type 0 where
@@ -349,7 +354,7 @@ module _ (text : List ℕ) where
 
     pub chain-over : {x : Lexed} (a : Cursor) (R' P' S' : List ℕ) → Chain a R' P' S' → x ≡ lex_at text a.at → (x.kind ≡ K.Dot → ⊥)
         → Parses (in_calls marks depth) text c R P S (Ok a) R' P' S'
-    chain-over a R' P' S' h e q = h.goes (Ok a) R' P' S' (parsed h.fit.clear (PathsCalls.calls-over end marks depth (state_of text a R' P' S') (not-ahead a _ e K.Dot q)))
+    chain-over a R' P' S' h e q = h.goes (Ok a) R' P' S' (parsed h.fit.clear (refl, refl) (PathsCalls.calls-over end marks depth (state_of text a R' P' S') (not-ahead a _ e K.Dot q)))
 
     module _ (a : Cursor) (R' P' S' : List ℕ) (h : Chain a R' P' S') (R'' P'' S'' : List ℕ) where
       pub chain-refused : (e : Refused) → Continues (in_calls marks depth) marks depth text a R' P' S' (Err e) R'' P'' S'' → Parses (in_calls marks depth) text c R P S (Err e) R'' P'' S''
@@ -385,14 +390,14 @@ module _ (text : List ℕ) where
           → Continues E marks depth text c R P S r R' P' S
       atom-name r R' P' q h k f =
           let b = ahead c x e K.Word q in
-          onward h (still-clear c r k f.clear) (Paths.name-refused end w marks depth at-it b refl) (λ u z y. Paths.name-read end w marks depth at-it b refl z y) (G.fit-name end marks depth at-it w f.fit b)
+          onward h (still-clear c r k f.clear) k (Paths.name-refused end w marks depth at-it b refl) (λ u z y. Paths.name-read end w marks depth at-it b refl z y) (G.fit-name end marks depth at-it w f.fit b)
           (Paths.less-name end w marks depth at-it b refl)
 
       pub atom-number : (r : Result Cursor Refused) (R' P' : List ℕ) → x.kind ≡ K.Number → WroteFor text (D.read_number end w) c R P r R' P' → KeepsRefusal c r → Ready E text c R P S
           → Continues E marks depth text c R P S r R' P' S
       atom-number r R' P' q h k f =
           let b = ahead c x e K.Number q in
-          onward (h.leaves S) (still-clear c r k f.clear) (Paths.number-refused end w marks depth at-it b refl) (λ u z y. Paths.number_read end w marks depth at-it b refl z y)
+          onward (h.leaves S) (still-clear c r k f.clear) k (Paths.number-refused end w marks depth at-it b refl) (λ u z y. Paths.number_read end w marks depth at-it b refl z y)
           (G.fit-number end marks depth at-it w f.fit b) (Paths.less-number end w marks depth at-it b refl)
 
       pub atom-refused : (f : Refused) → (x.kind ≡ K.Let → ⊥) → (x.kind ≡ K.Lambda → ⊥) → (x.kind ≡ K.Open → ⊥) → (x.kind ≡ K.Word → ⊥) → (x.kind ≡ K.Number → ⊥)
@@ -438,6 +443,7 @@ module _ (text : List ℕ) where
               reads = Paths.bracketed-refused end w marks depth at-it (cursor_of text h) (ahead_of f) (open_is (Ok h) p) (clear-test bracket-clear) y.reads (refused-of y);
               leaves = y.leaves;
               clear = tt;
+              kept = tt;
             })
 
         module _ (v : Cursor) (R' P' S' : List ℕ) (y : Parses (in_expression false (marks + 1) depth) text h R P S (Ok v) R' P' S') where
@@ -451,6 +457,7 @@ module _ (text : List ℕ) where
               let z : eqb h.number 0 ≡ true = clear-test bracket-clear in
               let i : eqb v.number 0 ≡ true = clear-test y.clear in
               onward {s = moved (state_of text v R' P' S') n} (record { cursor = g; records = refl; places = refl; scope = refl }) (still-clear v r k y.clear)
+              (kept-on c v r (kept-on c h (Ok v) (passed-kept x.start x.end c verdict (Ok h) p) y.kept) k)
               (λ t. Paths.bracket-shut-refused end w marks depth at-it (cursor_of text h) (ahead_of f) (open_is (Ok h) p) z n inner-reads i refl t)
               (λ u t j. Paths.bracket-read end w marks depth at-it (cursor_of text h) (ahead_of f) (open_is (Ok h) p) z n inner-reads i refl t j)
               (λ _. F.fit-bracket-calls end marks depth (state_of text v R' P' S') f.fit.depth (Paths.reads_fit end inner-reads inner-fit y.clear))
@@ -504,6 +511,7 @@ module _ (text : List ℕ) where
                 reads = Paths.lambda-body-refused end w marks depth at-it (cursor_of text h) (ahead_of f) p (clear-test lambda-clear) (bodied y.reads) (refused-of y);
                 leaves = y.leaves;
                 clear = tt;
+                kept = tt;
               }
 
           module _ (r : Cursor) (R' P' S' : List ℕ) (y : Parses (in_expression false (marks + 1) (depth + 1)) text h R P S₁ (Ok r) R' P' S') where
@@ -521,8 +529,8 @@ module _ (text : List ℕ) where
 
             pub lambda-read : {q : Cursor} {R'' P'' : List ℕ} (level : ℕ) → level ≡ C.lambdas_in S depth
                 → Wrote (D.put c.parts (node_with function_kind h.name (r.root + 1) 0 level)) r R' P' q R'' P'' → Parses E text c R P S (Ok q) R'' P'' S'
-            lambda-read level l d =
-                parsed (put-clear _ _ d y.clear)
+            lambda-read {q} level l d =
+                parsed (put-clear _ _ d y.clear) (kept-on c r (Ok q) (kept-on c h (Ok r) k y.kept) (put-kept _ _ d))
                 (subst (Reads end E at-it)
                 (ap₂ (λ (j k : ℕ). D.put c.parts (node_with function_kind h.name j 0 k) (state_of text r R' P' S')) (sym (add-one r.root)) (sym l)
                 ∙ sym (d.same text S'))
@@ -570,6 +578,7 @@ module _ (text : List ℕ) where
               reads = Paths.let-value-refused end w marks depth at-it (cursor_of text h) (ahead_of f) p (clear-test let-clear) y.reads (refused-of y);
               leaves = y.leaves;
               clear = tt;
+              kept = tt;
             }
 
         module _ (v : Cursor) (R₁ P₁ S₁ : List ℕ) (y : Parses (in_expression false (marks + 1) depth) text h R P S (Ok v) R₁ P₁ S₁) where
@@ -612,6 +621,7 @@ module _ (text : List ℕ) where
                       (clear-test in-clear) (lets k.reads) (refused-of k);
                   leaves = k.leaves;
                   clear = tt;
+                  kept = tt;
                 }
 
             module _ (r : Cursor) (R₂ P₂ S₃ : List ℕ) (k : Parses (in_expression false (marks + 1) (depth + 1)) text b R₁ P₁ S₂ (Ok r) R₂ P₂ S₃) where
@@ -621,7 +631,7 @@ module _ (text : List ℕ) where
               pub let-read : (P₃ : List ℕ) → P₃ ≡ set P₂ c.parts r.root → Parses E text c R P S (Ok r) R₂ P₃ S₃
               unfolding D.mark
               let-read P₃ d =
-                  parsed k.clear
+                  parsed k.clear (kept-on c b (Ok r) (kept-on c v (Ok b) (kept-on c h (Ok v) o y.kept) i) k.kept)
                   (subst (λ (l : List ℕ). Reads end E at-it (state_of text r R₂ l S₃)) (sym d)
                   (Paths.let-read end w marks depth at-it (cursor_of text h) (ahead_of f) p (clear-test let-clear) (cursor_of text b) value-reads (clear-test y.clear) g
                   (clear-test in-clear) (lets (reads-of k)) (clear-test k.clear)))

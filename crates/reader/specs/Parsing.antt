@@ -10,7 +10,7 @@ use Rattle.lexer.specs.declared.tokens.Lexed.{Lexed}
 use Rattle.lexer.specs.declared.tokens.TokenKind.{TokenKind}
 use Rattle.lexer.specs.declared.tokens.TokenKind.TheVariants as K
 use Rattle.lexer.specs.Lexing.{lex_at, tokens_from}
-use Rattle.steps.specs.Cursors.{state_of, Leaves}
+use Rattle.steps.specs.Cursors.{state_of, Leaves, KeepsRefusal}
 
 -- nothing was refused before
 abbrev pub IsClear : Cursor → Type 0
@@ -34,12 +34,13 @@ pub record ReadyAtom (x : Lexed) (m : Mode) (text : List ℕ) (c : Cursor) (reco
   pub no-lambda : x.kind ≡ K.Lambda → ⊥
   pub ready : Ready m text c records places scope
 
--- descent's reader m comes to a state, which is what the code leaves; a cursor that is left is clear too
+-- descent's reader m comes to a state, which is what the code leaves; a cursor that is left is clear too, and has the refusal's place that c has
 pub record Parses (m : Mode) (text : List ℕ) (c : Cursor) (records places scope : List ℕ) (r : Result Cursor Refused) (records' places' scope' : List ℕ) : Type 0 where
   pub state : State
   pub reads : Reads (length text) m (state_of text c records places scope) state
   pub leaves : Leaves text r records' places' scope' state
   pub clear : IfOk r IsClear
+  pub kept : KeepsRefusal c r
 
 -- up to where calls may follow, behind an atom or the bracket that ends a call: a refusal on the way is the answer of the reader m, and else m
 -- goes on with the calls from there

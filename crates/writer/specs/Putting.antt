@@ -29,6 +29,11 @@ pub record Puts (w : List ℕ) (p : Page) (r : Option (Unit {0})) (q : Page) : T
   pub full : r ≡ None → (p.at ≡ stopped_at) ⊎ (p.at < p.low + length w)
   pub stopped : p.at ≡ stopped_at → (r ≡ None) × (q ≡ p)
 
+-- a page whose place and whose bound lie in its bytes: each that `new` gives, and each that the functions here leave of such a one
+pub record InFrame (p : Page) : Type 0 where
+  pub at : p.at ≤ text_bytes
+  pub low : p.low ≤ text_bytes
+
 -- the bytes of a whole word have room before a place
 abbrev pub has_room : ℕ → ℕ → Bool
 has_room low at = leb (low + name_bytes) at && leb at text_bytes

@@ -21,7 +21,7 @@ use Rattle.printing.proofs.Unpacking.{none-packed}
 use Rattle.writer.specs.Whole.{whole_onto}
 use Rattle.writer.specs.WholeLaws.{drop-set, append-unpacked, past-zeros}
 use Rattle.writer.specs.declared.page.Page.{Page}
-use Rattle.writer.specs.Putting.{stopped_at, Puts, has_room, leaf_bytes, member_bytes, head_bytes, Unpacks, Counts}
+use Rattle.writer.specs.Putting.{stopped_at, Puts, InFrame, has_room, leaf_bytes, member_bytes, head_bytes, Unpacks, Counts}
 
 -- nothing is written
 pub puts_none : (p : Page) → p.at ≤ text_bytes → Puts [] p (Some tt) p
@@ -33,6 +33,13 @@ puts_none p t =
       full = λ e. absurd (cc);
       stopped = λ z. absurd (omega arith);
     }
+
+-- a new page lies in its frame, and what is put leaves it there
+pub new-in-frame : (most : ℕ) (p : Page) → p.low ≡ text_bytes - most → p.at ≡ text_bytes → InFrame p
+new-in-frame most p l a = record { at = omega arith; low = omega arith }
+
+pub puts-in-frame : {w : List ℕ} {p q : Page} {r : Option (Unit {0})} → Puts w p r q → InFrame p → InFrame q
+puts-in-frame h f = record { at = omega (arith, h.down, f.at); low = omega (arith, h.same, f.low) }
 
 -- nothing where the room is used up, no room for a piece, and a byte that was put
 pub puts-stopped : (w : List ℕ) (p : Page) → p.at ≡ stopped_at → Puts w p None p

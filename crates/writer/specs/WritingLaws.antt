@@ -19,7 +19,7 @@ use Rattle.table.specs.NodeKinds.{Fine, right-fine}
 use Rattle.table.specs.RightLaws.{first-low, second-low}
 use Rattle.printing.specs.Printed.{unpack_onto, unpacked, is_function, as_receiver, text_of}
 use Rattle.writer.specs.declared.page.Page.{Page}
-use Rattle.writer.specs.Putting.{Puts, leaf_bytes, member_bytes, head_bytes}
+use Rattle.writer.specs.Putting.{Puts, InFrame, leaf_bytes, member_bytes, head_bytes}
 use Rattle.writer.specs.NodeTexts.{function-node, leaf-node, ask-node, call-node}
 use Rattle.writer.specs.Writing.{form_in, Tabled, before, stack, around, next_text, Opens, Waits, turn_number, Ready, rank, left, Spelled, Onward, Moves, Goes, Written, Writes}
 use denote.Enum.Declared.{tag_of}
@@ -515,6 +515,14 @@ goes_start {links} {cells} {count} {entry} {pending} {p} t e a h l =
 -- a page of which no byte may be written has no room for any text
 pub goes_nowhere : {t : List ℕ} {p : Page} → p.at ≡ text_bytes → p.at < p.low → Writes p.low t None p
 goes_nowhere a h = record { same = refl; top = omega arith; written = λ e. cc; full = λ e. omega arith }
+
+-- a page that lies in its frame does so after a step, and when a text was written on it or had no room
+pub moves-in-frame : {links cells : List ℕ} {count : ℕ} {s : Spot} {pending : List ℕ} {p : Page} {r : Option Spot} {pending' : List ℕ} {p' : Page}
+    → Moves links cells count s pending p r pending' p' → InFrame p → InFrame p'
+moves-in-frame m f = record { at = m.top; low = omega (arith, m.same, f.low) }
+
+pub writes-in-frame : {low : ℕ} {t : List ℕ} {r : Option (Unit {0})} {p : Page} → low ≤ text_bytes → Writes low t r p → InFrame p
+writes-in-frame l w = record { at = w.top; low = omega (arith, w.same, l) }
 
 -- ---- what was written, as callers test it
 
